@@ -1,0 +1,59 @@
+-- `follows` means a later start, and in a list that rises every event starts after all before it: by induction.
+-- Assumes nothing.
+use Prim.Native.Nat.{ℕ, zero, suc, _<_}
+use native.Mathlib.Omega.{arith}
+use mathlib.Core.List.{List, [], _∷_}
+use lib.Dec.{T, ltb→lt, lt→ltb}
+use lib.ListN.{length, getD}
+use Rattle.eit.specs.Events.{Event, follows, rising}
+use Rattle.eit.proofs.Test.{and-left, and-right, and-both}
+
+pub follows-later : (e f : Event) → T (follows e f) → e .start < f .start
+unfolding follows
+follows-later e f t = ltb→lt (e .start) (f .start) t
+
+pub later-follows : (e f : Event) → e .start < f .start → T (follows e f)
+unfolding follows
+later-follows e f h = lt→ltb (e .start) (f .start) h
+
+-- every event of a list starts after s
+abbrev pub AllAfter : ℕ → List Event → Type 0
+AllAfter s [] = Unit {0}
+AllAfter s (e ∷ es) = (s < e .start) × AllAfter s es
+
+all-later : (s r : ℕ) (es : List Event) → s < r → AllAfter r es → AllAfter s es
+all-later s r [] h a = tt
+all-later s r (e ∷ es) h a = (omega arith, all-later s r es h (a .1))
+
+pub rising-rest : (e : Event) (es : List Event) → T (rising (e ∷ es)) → T (rising es)
+rising-rest e [] t = tt
+rising-rest e (f ∷ es) t = and-right (follows e f) (rising (f ∷ es)) t
+
+pub rising-after : (e : Event) (es : List Event) → T (rising (e ∷ es)) → AllAfter (e .start) es
+rising-after e [] t = tt
+rising-after e (f ∷ es) t =
+    let later : e .start < f .start = follows-later e f (and-left (follows e f) (rising (f ∷ es)) t) in
+    (later, all-later (e .start) (f .start) es later (rising-after f es (and-right (follows e f) (rising (f ∷ es)) t)))
+
+pub after-rising : (e : Event) (es : List Event) → AllAfter (e .start) es → T (rising es) → T (rising (e ∷ es))
+after-rising e [] a t = tt
+after-rising e (f ∷ es) a t = and-both (follows e f) (rising (f ∷ es)) (later-follows e f (a .0)) t
+
+-- `rising` means that of any two events the later one in the list starts later
+after-at : (s : ℕ) (es : List Event) → AllAfter s es → (j : ℕ) (d : Event) → j < length es → s < getD es j d .start
+after-at s [] a j d h = absurd (omega arith)
+after-at s (e ∷ es) a zero d h = a .0
+after-at s (e ∷ es) a (suc j) d h = after-at s es (a .1) j d (omega arith)
+
+pub rising-at : (es : List Event) → T (rising es) → (i j : ℕ) (d : Event) → i < j → j < length es → getD es i d .start < getD es j d .start
+rising-at [] t i j d l h = absurd (omega arith)
+rising-at (e ∷ es) t i zero d l h = absurd (omega arith)
+rising-at (e ∷ es) t zero (suc j) d l h = after-at (e .start) es (rising-after e es t) j d (omega arith)
+rising-at (e ∷ es) t (suc i) (suc j) d l h = rising-at es (rising-rest e es t) i j d (omega arith) (omega arith)
+
+pub rising-all : (es : List Event) (d : Event) → ((i : ℕ) → suc i < length es → getD es i d .start < getD es (suc i) d .start) → T (rising es)
+rising-all [] d h = tt
+rising-all (e ∷ []) d h = tt
+rising-all (e ∷ f ∷ es) d h =
+    and-both (follows e f) (rising (f ∷ es)) (later-follows e f (h 0 (omega arith)))
+    (rising-all (f ∷ es) d (λ i l. h (suc i) (omega arith)))

@@ -1,0 +1,24 @@
+-- Boolean tests as facts
+pub mod Test
+-- big-endian fields and the numbers that they hold
+pub mod Fields
+-- writes into a buffer, and how they compose
+pub mod Overwrite
+-- seconds and their digits, starts under a base day, both ways
+pub mod TimeLaws
+-- bitwise xor: associativity, and shifts
+pub mod Xor
+-- CRC_32: its own four bytes at the end of a section bring it to 0, and no others do
+pub mod Crc
+-- chains are the bytes of descriptors
+pub mod Chain
+-- the chosen part of a pool, inside it and outside
+pub mod Pools
+-- records and the numbers of the buffer
+pub mod Records
+-- `follows`, and lists of events that rise
+pub mod Events
+-- numbers that are among others, and numbers that all differ
+pub mod Among
+-- what soundness says, part by part
+pub mod Sound

@@ -1,0 +1,85 @@
+-- What soundness says, part by part, and from its parts back: by the laws of conjunction. Assumes nothing.
+use Prim.Native.Nat.{ℕ, zero, suc, _*_, _≤_, _<_}
+use native.Mathlib.Omega.{arith}
+use mathlib.Core.List.{List, [], _∷_}
+use lib.Dec.{T, leb→le, le→leb, ltb→lt}
+use lib.ListN.{length, getD}
+use Rattle.eit.specs.Sizes.{Sizes}
+use Rattle.eit.specs.Limits.{idMost, startLimit, durationLeast, durationMost, marksMost}
+use Rattle.eit.specs.Pools.{Pools}
+use Rattle.eit.specs.Records.{EventList, recordSize, recordsOf}
+use Rattle.eit.specs.Events.{eventsIn, rising}
+use Rattle.eit.specs.Sound.{inRange, hasChain, allValid, allDiffer, idsOf, soundRecords, sound}
+use Rattle.eit.specs.declared.Record.{Record}
+use Rattle.eit.proofs.Test.{tests}
+
+-- values in range, one by one
+pub record RangeFacts (r : Record) : Type 0 where
+  pub id : r .id ≤ idMost
+  pub start : r .start < startLimit
+  pub durationLow : durationLeast ≤ r .duration
+  pub durationHigh : r .duration ≤ durationMost
+  pub marks : r .marks ≤ marksMost
+
+pub range-facts : (r : Record) → T (inRange r) → RangeFacts r
+range-facts r t =
+    record {
+      id = leb→le (r .id) idMost (search tests);
+      start = ltb→lt (r .start) startLimit (search tests);
+      durationLow = leb→le durationLeast (r .duration) (search tests);
+      durationHigh = leb→le (r .duration) durationMost (search tests);
+      marks = leb→le (r .marks) marksMost (search tests);
+    }
+
+pub facts-range : (r : Record) → RangeFacts r → T (inRange r)
+facts-range r f = search (tests, le→leb)
+
+-- what soundness asks of the records
+pub record RecordFacts (pools : Pools) (rs : List Record) : Type 0 where
+  pub valid : T (allValid pools rs)
+  pub rises : T (rising (eventsIn pools rs))
+  pub differ : T (allDiffer (idsOf rs))
+
+pub records-sound : (pools : Pools) (rs : List Record) → RecordFacts pools rs → T (soundRecords pools rs)
+unfolding soundRecords
+records-sound pools rs f = search tests
+
+pub sound-records : (pools : Pools) (rs : List Record) → T (soundRecords pools rs) → RecordFacts pools rs
+unfolding soundRecords
+sound-records pools rs t =
+    record { valid = search tests; rises = search tests; differ = search tests }
+
+-- what soundness asks of a list
+pub record ListFacts (sizes : Sizes) (pools : Pools) (list : EventList) : Type 0 where
+  pub few : list .count ≤ sizes .eventLimit
+  pub held : list .count * recordSize ≤ length (list .buffer)
+  pub records : RecordFacts pools (recordsOf list)
+
+module _ (sizes : Sizes) (pools : Pools) (list : EventList) where
+  pub list-sound : ListFacts sizes pools list → T (sound sizes pools list)
+  unfolding sound
+  list-sound f = search (tests, le→leb, records-sound)
+
+  pub sound-list : T (sound sizes pools list) → ListFacts sizes pools list
+  unfolding sound
+  sound-list t =
+      record {
+        few = leb→le (list .count) (sizes .eventLimit) (search tests);
+        held = leb→le (list .count * recordSize) (length (list .buffer)) (search tests);
+        records = sound-records pools (recordsOf list) (search tests);
+      }
+
+-- `allValid` means every record: in range, and with a chain
+pub valid-at : (pools : Pools) (rs : List Record) → T (allValid pools rs) → (i : ℕ) (d : Record) → i < length rs
+    → T (inRange (getD rs i d)) × T (hasChain pools (getD rs i d))
+valid-at pools [] t i d h = absurd (omega arith)
+valid-at pools (r ∷ rs) t zero d h = (search tests, search tests)
+valid-at pools (r ∷ rs) t (suc i) d h = valid-at pools rs (search tests) i d (omega arith)
+
+pub valid-all : (pools : Pools) (rs : List Record) (d : Record)
+    → ((i : ℕ) → i < length rs → T (inRange (getD rs i d)) × T (hasChain pools (getD rs i d))) → T (allValid pools rs)
+valid-all pools [] d h = tt
+valid-all pools (r ∷ rs) d h =
+    let first = h 0 (omega arith) in
+    let rest : T (allValid pools rs) = valid-all pools rs d (λ i l. h (suc i) (omega arith)) in
+    search (tests, first .0, first .1)

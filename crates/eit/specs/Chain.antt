@@ -1,0 +1,29 @@
+-- Descriptor and chain (01, "Event record and sound list"). Laws: proofs/Chain.antt. Assumes nothing.
+use Prim.Native.Nat.{ℕ, zero, suc}
+use mathlib.Core.Bool.{Bool, true, false}
+use mathlib.Core.List.{List, [], _∷_, _++_}
+use lib.ListN.{length}
+
+-- a descriptor is a tag byte, a length byte and that many bytes
+pub record Descriptor : Type 0 where
+  pub tag : ℕ
+  pub body : List ℕ
+
+abbrev pub descriptorBytes : Descriptor → List ℕ
+descriptorBytes d = d .tag ∷ length (d .body) ∷ d .body
+
+abbrev pub chainBytes : List Descriptor → List ℕ
+chainBytes [] = []
+chainBytes (d ∷ ds) = descriptorBytes d ++ chainBytes ds
+
+-- the rest of a chain, of which the first `skip` bytes still belong to a descriptor that has begun
+abbrev pub isChainFrom : ℕ → List ℕ → Bool
+isChainFrom zero [] = true
+isChainFrom (suc skip) [] = false
+isChainFrom (suc skip) (b ∷ bs) = isChainFrom skip bs
+isChainFrom zero (tag ∷ []) = false
+isChainFrom zero (tag ∷ n ∷ bs) = isChainFrom n bs
+
+-- 01's term: chain. Zero or more descriptors that end exactly at its end: `chain-is` says just that
+unfoldable pub isChain : List ℕ → Bool
+isChain bs = isChainFrom 0 bs

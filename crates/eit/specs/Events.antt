@@ -1,0 +1,43 @@
+-- Events: what a record stands for, apart from where its chain lies (01, "Event record and sound list"). Laws:
+-- proofs/Events.antt. Assumes nothing.
+use Prim.Native.Nat.{ℕ}
+use mathlib.Core.Bool.{Bool, true, _&&_}
+use mathlib.Core.List.{List, [], _∷_, map}
+use lib.Dec.{ltb}
+use Rattle.eit.specs.Pools.{Pools, choose, marksFreeCa, marksOffAir}
+use Rattle.eit.specs.declared.Record.{Record}
+
+-- 01's term: same event. Two records are the same event if id, start, duration, marks other than 2 and chain bytes are equal,
+-- that is, if their events are equal
+pub record Event : Type 0 where
+  pub id : ℕ
+  pub start : ℕ
+  pub duration : ℕ
+  pub offAir : Bool
+  pub freeCa : Bool
+  pub chain : List ℕ
+
+abbrev pub eventOf : Pools → Record → Event
+eventOf pools r =
+    record {
+      id = r .id;
+      start = r .start;
+      duration = r .duration;
+      offAir = marksOffAir (r .marks);
+      freeCa = marksFreeCa (r .marks);
+      chain = choose pools (r .marks) (r .offset) (r .«chain_length»);
+    }
+
+-- the events of some records
+abbrev pub eventsIn : Pools → List Record → List Event
+eventsIn pools rs = map (eventOf pools) rs
+
+-- starts rise strictly: the second event may follow the first
+unfoldable pub follows : Event → Event → Bool
+follows first second = ltb (first .start) (second .start)
+
+-- each event but the first follows the one before it
+abbrev pub rising : List Event → Bool
+rising [] = true
+rising (e ∷ []) = true
+rising (e ∷ f ∷ es) = follows e f && rising (f ∷ es)

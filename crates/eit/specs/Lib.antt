@@ -1,0 +1,13 @@
+-- Definitions, in the order of document 01.
+pub mod Sizes  -- bytes in a section, events in a list
+pub mod Limits  -- ranges of a record's values, base day and version
+pub mod Fields  -- big-endian fields
+pub mod Overwrite  -- writing into a lent buffer
+pub mod Time  -- BCD digits and MJD, both ways
+pub mod Crc  -- CRC_32 bit by bit
+pub mod Chain  -- descriptor and chain
+pub mod Pools  -- the two pools, and the part that a record chooses
+pub mod Records  -- records in the lent buffer
+pub mod Find  -- the place of an id and of a start
+pub mod Events  -- what a record stands for, and `follows`
+pub mod Sound  -- soundness, and the events of a list

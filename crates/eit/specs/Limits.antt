@@ -1,0 +1,30 @@
+-- The ranges of a record's values, of the base day and of the version (01, "Event record and sound list", "When a call says no").
+-- Assumes nothing.
+use Prim.Native.Nat.{ℕ}
+
+-- id (at most 65,535)
+abbrev pub idMost : ℕ
+idMost = 65_535
+
+-- start (seconds after t0, below 5,529,600)
+abbrev pub startLimit : ℕ
+startLimit = 5_529_600
+
+-- duration (seconds, 1 to 359,999)
+abbrev pub durationLeast : ℕ
+durationLeast = 1
+
+abbrev pub durationMost : ℕ
+durationMost = 359_999
+
+-- marks (0 to 7)
+abbrev pub marksMost : ℕ
+marksMost = 7
+
+-- the base day, a Modified Julian Date of 0 to 65,472
+abbrev pub baseMost : ℕ
+baseMost = 65_472
+
+-- version (5 bits, 0 to 31)
+abbrev pub versionMost : ℕ
+versionMost = 31

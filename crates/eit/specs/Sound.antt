@@ -1,0 +1,62 @@
+-- Soundness of a list, total in every buffer, count and pools, and the events that a list stands for (01, "Event record and
+-- sound list"). Laws: proofs/Sound.antt. Assumes nothing.
+use Prim.Native.Nat.{ℕ, _*_}
+use mathlib.Core.Bool.{Bool, true, false, not, _&&_, _||_}
+use mathlib.Core.List.{List, [], _∷_, map}
+use lib.Dec.{leb, ltb, eqb}
+use lib.ListN.{length}
+use Rattle.eit.specs.Sizes.{Sizes}
+use Rattle.eit.specs.Limits.{idMost, startLimit, durationLeast, durationMost, marksMost}
+use Rattle.eit.specs.Chain.{isChain}
+use Rattle.eit.specs.Pools.{Pools, poolOf, inPool, choose}
+use Rattle.eit.specs.Records.{EventList, recordSize, recordsOf}
+use Rattle.eit.specs.Events.{Event, eventsIn, rising}
+use Rattle.eit.specs.declared.Record.{Record}
+
+-- values are in range
+abbrev pub inRange : Record → Bool
+inRange r =
+    leb (r .id) idMost
+    && (ltb (r .start) startLimit
+    && (leb durationLeast (r .duration) && (leb (r .duration) durationMost && leb (r .marks) marksMost)))
+
+-- each part lies in its pool and is a chain
+abbrev pub hasChain : Pools → Record → Bool
+hasChain pools r =
+    inPool (poolOf pools (r .marks)) (r .offset) (r .«chain_length»)
+    && isChain (choose pools (r .marks) (r .offset) (r .«chain_length»))
+
+abbrev pub allValid : Pools → List Record → Bool
+allValid pools [] = true
+allValid pools (r ∷ rs) = inRange r && hasChain pools r && allValid pools rs
+
+-- whether a number is one of some numbers
+abbrev pub isAmong : ℕ → List ℕ → Bool
+isAmong n [] = false
+isAmong n (m ∷ ms) = eqb n m || isAmong n ms
+
+-- no two of the numbers are equal
+abbrev pub allDiffer : List ℕ → Bool
+allDiffer [] = true
+allDiffer (n ∷ ns) = not (isAmong n ns) && allDiffer ns
+
+abbrev pub idsOf : List Record → List ℕ
+idsOf rs = map (λ (r : Record). r .id) rs
+
+abbrev pub startsOf : List Record → List ℕ
+startsOf rs = map (λ (r : Record). r .start) rs
+
+-- what soundness asks of the records: values in range, parts and chains, starts rise strictly, ids differ
+unfoldable pub soundRecords : Pools → List Record → Bool
+soundRecords pools rs = allValid pools rs && (rising (eventsIn pools rs) && allDiffer (idsOf rs))
+
+-- 01's term: sound
+unfoldable pub sound : Sizes → Pools → EventList → Bool
+unfolding soundRecords
+sound sizes pools list =
+    leb (list .count) (sizes .eventLimit)
+    && (leb (list .count * recordSize) (length (list .buffer)) && soundRecords pools (recordsOf list))
+
+-- the events that a sound list stands for, in its order
+unfoldable pub eventsOf : Pools → EventList → List Event
+eventsOf pools list = eventsIn pools (recordsOf list)

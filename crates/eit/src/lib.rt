@@ -1,0 +1,59 @@
+// The types that the calls share, and the time type. Everything else of this crate is definitions (specs/) and laws (proofs/).
+ghost use mathlib.Core.Path.{_≡_};
+ghost use Rattle.eit.specs.Time.{timeOf};
+
+// An event record: six numbers of the lent list (01, "Event record and sound list").
+pub struct Record {
+    pub id: u32,
+    // Seconds after t0.
+    pub start: u32,
+    // Seconds.
+    pub duration: u32,
+    // A sum of 1 (free_CA_mode), 2 (series pool) and 4 (off air).
+    pub marks: u32,
+    // The part of its pool that holds the descriptors.
+    pub offset: u32,
+    pub chain_length: u32,
+}
+
+// What every section of a file repeats beside last_table_id (01, "The file of sections").
+pub struct Identity {
+    pub service_id: u16,
+    pub transport_stream_id: u16,
+    pub original_network_id: u16,
+    pub version: u8,
+}
+
+// A time of day or a duration, as its six BCD digits show it.
+pub struct Time {
+    pub hours: u8,
+    pub minutes: u8,
+    pub seconds: u8,
+}
+
+impl Time {
+    // A start is fewer seconds after t0 than this: 64 days.
+    pub const START_LIMIT: u32 = 5_529_600;
+    // A duration is at least a second, and at most 99:59:59.
+    pub const DURATION_LEAST: u32 = 1;
+
+    pub const DURATION_MOST: u32 = 359_999;
+
+    // So many seconds; above DURATION_MOST it is 99:59:59.
+    pub fn from_seconds(seconds: u32) -> Self
+        ensures { λ r. ⌜ r ≡ timeOf seconds ⌝ }
+    {
+        if Self::DURATION_MOST < seconds {
+            return Time {
+                hours: 99,
+                minutes: 59,
+                seconds: 59,
+            };
+        }
+        Time {
+            hours: (seconds / 3600) as u8,
+            minutes: (seconds / 60 % 60) as u8,
+            seconds: (seconds % 60) as u8,
+        }
+    }
+}

@@ -1,0 +1,2 @@
+-- greedy packing is the best packing in order: after any number of parts none is ahead of it, and none has fewer parts
+pub mod Greedy

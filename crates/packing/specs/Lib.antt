@@ -1,0 +1,2 @@
+-- greedy packing, and the packings that it is measured against
+pub mod Greedy

@@ -1,0 +1,1 @@
+// Greedy packing as definitions and laws; no code.

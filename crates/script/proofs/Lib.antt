@@ -1,0 +1,18 @@
+-- a script has the form of some commands exactly if it is their bytes
+pub mod Form
+-- UNDO strikes the nearest edit, over joined scripts and from the right
+pub mod Struck
+-- inserting a record and taking one away keep what soundness asks
+pub mod Placing
+-- and what they move
+pub mod Places
+-- one edit: what it has passed, and that it keeps a list sound
+pub mod Machine
+-- MOVE onto its own start
+pub mod OwnStart
+-- Edit: its run, its refusals, and that it keeps a list sound
+pub mod Edit
+-- the numbers that an edit does not touch
+pub mod Frame
+-- the examples, computed
+pub mod Examples

@@ -1,0 +1,162 @@
+-- One edit of the plain machine keeps a list sound, and changes no number that document 01 does not name: what it writes are
+-- records, which are read back as they are (`records-front`). Assumes nothing.
+use mathlib.Core.Path.{_≡_, _∙_}
+use mathlib.Core.Bool.{Bool, true, false, not}
+use Prim.Native.Nat.{ℕ, suc, _+_, _-_, _*_, _≤_, _<_}
+use native.Mathlib.Omega.{arith}
+use mathlib.Core.List.{List, [], _∷_, _++_}
+use lib.Dec.{T, ltb, ltb→lt}
+use lib.ListN.{length, take, drop, length-append}
+use lib.Seq.{take-all, take-at}
+use Rattle.eit.specs.Sizes.{Sizes}
+use Rattle.eit.specs.Limits.{startLimit}
+use Rattle.eit.specs.Pools.{Pools}
+use Rattle.eit.specs.Records.{EventList, recordSize, recordsOf, numbersOfAll}
+use Rattle.eit.specs.Sound.{inRange, hasChain, isAmong, idsOf, startsOf, sound}
+use Rattle.eit.specs.declared.Record.{Record}
+use Rattle.eit.proofs.Test.{tests}
+use Rattle.eit.proofs.Overwrite.{over-length}
+use Rattle.eit.proofs.Records.{records-length, numbers-length, records-front}
+use Rattle.eit.proofs.Sound.{RecordFacts, ListFacts, list-sound, sound-list}
+use Rattle.script.specs.Machine.{limitOf, insert, find, without, withStart, zeroRecord, written, afterPut, afterWithdraw, afterMove, Step, done, check, step}
+use Rattle.script.specs.Form.{Act, put, withdraw, move}
+use Rattle.script.proofs.Placing.{insert-length, without-length, insert-valid, without-valid, find-valid, insert-rises, without-rises, insert-differ, without-differ, without-gone, find-id}
+
+-- a list has as many records as it counts
+pub count-records : (list : EventList) → length (recordsOf list) ≡ list .count
+unfolding recordsOf
+count-records list = records-length (list .count) (list .buffer)
+
+-- records written over the front of the buffer are the records of the list, as many as it counts
+pub written-records : (list : EventList) (rs : List Record) (n : ℕ) → n ≤ length rs → recordsOf (written list rs n) ≡ take n rs
+unfolding recordsOf
+written-records list rs n h = records-front n rs (drop (0 + length (numbersOfAll rs)) (list .buffer)) h
+
+module _ (sizes : Sizes) (pools : Pools) (list : EventList) where
+  -- a list with other records over the front of its buffer is sound if they are
+  written-sound : (rs : List Record) (n : ℕ) → n ≤ length rs → n ≤ sizes .eventLimit
+      → length rs * recordSize ≤ length (list .buffer) → RecordFacts pools (take n rs) → ListFacts sizes pools (written list rs n)
+  written-sound rs n h few held f =
+      record {
+        few = few;
+        held = rw (over-length (list .buffer) 0 (numbersOfAll rs) (omega (arith, numbers-length rs))) (omega arith);
+        records = rw (written-records list rs n h) f;
+      }
+
+  -- PUT, where its checks pass
+  put-sound : (r : Record) → ListFacts sizes pools list → T (inRange r) → T (hasChain pools r)
+      → T (not (isAmong (r .id) (idsOf (recordsOf list)))) → T (not (isAmong (r .start) (startsOf (recordsOf list))))
+      → list .count < limitOf sizes list → ListFacts sizes pools (afterPut list r)
+  put-sound r f range chain id start limit =
+      let rs : List Record = recordsOf list in
+      let whole : length (insert r rs) ≡ list .count + 1 = omega (arith, insert-length r rs, count-records list) in
+      written-sound (insert r rs) (list .count + 1) (omega arith) (omega arith) (omega arith)
+      (rw (take-all (list .count + 1) (insert r rs) (omega arith))
+      record {
+        valid = insert-valid pools r rs range chain (f .records .valid);
+        rises = insert-rises pools r rs start (f .records .rises);
+        differ = insert-differ r rs id (f .records .differ);
+      })
+
+  withdraw-sound : (id : ℕ) → ListFacts sizes pools list → T (isAmong id (idsOf (recordsOf list)))
+      → ListFacts sizes pools (afterWithdraw list id)
+  withdraw-sound id f a =
+      let rs : List Record = recordsOf list in
+      let whole : suc (length (without id rs)) ≡ list .count = without-length id rs a ∙ count-records list in
+      let more : length (without id rs ++ (zeroRecord ∷ [])) ≡ list .count = rw length-append (omega arith) in
+      written-sound (without id rs ++ (zeroRecord ∷ [])) (list .count - 1) (omega arith) (omega (arith, f .few)) (omega (arith, f .held))
+      (rw (take-at (without id rs) (zeroRecord ∷ []) (list .count - 1) (omega arith))
+      record {
+        valid = without-valid pools id rs (f .records .valid);
+        rises = without-rises pools id rs (f .records .rises);
+        differ = without-differ id rs (f .records .differ);
+      })
+
+  move-sound : (id start : ℕ) → ListFacts sizes pools list → T (ltb start startLimit) → T (isAmong id (idsOf (recordsOf list)))
+      → T (not (isAmong start (startsOf (without id (recordsOf list))))) → ListFacts sizes pools (afterMove list id start)
+  move-sound id start f limit a other =
+      let rs : List Record = recordsOf list in
+      let r : Record = withStart start (find id rs) in
+      let others : List Record = without id rs in
+      let was = find-valid pools id rs a (f .records .valid) in
+      let range : T (inRange r) = search (tests, was .0) in
+      let gone : T (not (isAmong (find id rs .id) (idsOf others))) = rw (find-id id rs a) (without-gone id rs (f .records .differ)) in
+      let whole : length (insert r others) ≡ list .count =
+      insert-length r others ∙ without-length id rs a ∙ count-records list in
+      written-sound (insert r others) (list .count) (omega arith) (f .few) (omega (arith, f .held))
+      (rw (take-all (list .count) (insert r others) (omega arith))
+      record {
+        valid = insert-valid pools r others range (was .1) (without-valid pools id rs (f .records .valid));
+        rises = insert-rises pools r others other (without-rises pools id rs (f .records .rises));
+        differ = insert-differ r others gone (without-differ id rs (f .records .differ));
+      })
+
+-- ---- an edit that is not refused
+
+-- a check that does not refuse has passed
+check-done : (b : Bool) (n : ℕ) (s : Step) {next : EventList} → check b n s ≡ done next → T b × (s ≡ done next)
+check-done true n s e = (tt, e)
+check-done false n s e = let z : _≡_ {A = ℕ} 0 1 = cc in absurd (omega arith)
+
+module _ (sizes : Sizes) (pools : Pools) (list : EventList) where
+  -- what PUT, WITHDRAW and MOVE have passed, and what they leave
+  pub record PutDone (r : Record) (next : EventList) : Type 0 where
+    pub range : T (inRange r)
+    pub chain : T (hasChain pools r)
+    pub newId : T (not (isAmong (r .id) (idsOf (recordsOf list))))
+    pub newStart : T (not (isAmong (r .start) (startsOf (recordsOf list))))
+    pub limit : T (ltb (list .count) (limitOf sizes list))
+    pub after : next ≡ afterPut list r
+
+  pub record WithdrawDone (id : ℕ) (next : EventList) : Type 0 where
+    pub oldId : T (isAmong id (idsOf (recordsOf list)))
+    pub after : next ≡ afterWithdraw list id
+
+  pub record MoveDone (id start : ℕ) (next : EventList) : Type 0 where
+    pub range : T (ltb start startLimit)
+    pub oldId : T (isAmong id (idsOf (recordsOf list)))
+    pub newStart : T (not (isAmong start (startsOf (without id (recordsOf list)))))
+    pub after : next ≡ afterMove list id start
+
+  pub put-done : (r : Record) (next : EventList) → step sizes pools list (put r) ≡ done next → PutDone r next
+  unfolding step
+  put-done r next e =
+      let a = check-done (inRange r) 5 _ e in
+      let b = check-done (hasChain pools r) 9 _ (a .1) in
+      let c = check-done (not (isAmong (r .id) (idsOf (recordsOf list)))) 6 _ (b .1) in
+      let d = check-done (not (isAmong (r .start) (startsOf (recordsOf list)))) 7 _ (c .1) in
+      let f = check-done (ltb (list .count) (limitOf sizes list)) 8 _ (d .1) in
+      record { range = a .0; chain = b .0; newId = c .0; newStart = d .0; limit = f .0; after = cc (f .1) }
+
+  pub withdraw-done : (id : ℕ) (next : EventList) → step sizes pools list (withdraw id) ≡ done next → WithdrawDone id next
+  unfolding step
+  withdraw-done id next e =
+      let a = check-done (isAmong id (idsOf (recordsOf list))) 6 _ e in record { oldId = a .0; after = cc (a .1) }
+
+  pub move-done : (id start : ℕ) (next : EventList) → step sizes pools list (move id start) ≡ done next → MoveDone id start next
+  unfolding step
+  move-done id start next e =
+      let a = check-done (ltb start startLimit) 5 _ e in
+      let b = check-done (isAmong id (idsOf (recordsOf list))) 6 _ (a .1) in
+      let c = check-done (not (isAmong start (startsOf (without id (recordsOf list))))) 7 _ (b .1) in
+      record { range = a .0; oldId = b .0; newStart = c .0; after = cc (c .1) }
+
+  -- it leaves a sound list sound
+  pub step-sound : (a : Act) (next : EventList) → step sizes pools list a ≡ done next → T (sound sizes pools list)
+      → T (sound sizes pools next)
+  step-sound (put r) next e t =
+      let p = put-done r next e in
+      rw (p .after)
+      (list-sound sizes pools (afterPut list r)
+      (put-sound sizes pools list r (sound-list sizes pools list t) (p .range) (p .chain) (p .newId) (p .newStart)
+      (ltb→lt (list .count) (limitOf sizes list) (p .limit))))
+  step-sound (withdraw id) next e t =
+      let p = withdraw-done id next e in
+      rw (p .after)
+      (list-sound sizes pools (afterWithdraw list id)
+      (withdraw-sound sizes pools list id (sound-list sizes pools list t) (p .oldId)))
+  step-sound (move id start) next e t =
+      let p = move-done id start next e in
+      rw (p .after)
+      (list-sound sizes pools (afterMove list id start)
+      (move-sound sizes pools list id start (sound-list sizes pools list t) (p .range) (p .oldId) (p .newStart)))

@@ -1,0 +1,107 @@
+-- MOVE of an event onto its own start succeeds and changes nothing: the record that is taken away is inserted where it was.
+-- By induction over the records, whose starts rise. Assumes nothing.
+use mathlib.Core.Path.{_≡_, refl, ap, ap₂, _∙_}
+use mathlib.Core.Logic.{⊎-elim}
+use mathlib.Core.Bool.{Bool, true, false, not}
+use Prim.Native.Nat.{ℕ, _*_, _<_}
+use native.Mathlib.Omega.{arith}
+use mathlib.Core.List.{List, [], _∷_}
+use lib.Dec.{T, eqb, ltb, lt→ltb}
+use lib.Arith.{le→nltb}
+use lib.ListN.{take}
+use Rattle.eit.specs.Sizes.{Sizes}
+use Rattle.eit.specs.Limits.{startLimit}
+use Rattle.eit.specs.Overwrite.{overwrite}
+use Rattle.eit.specs.Pools.{Pools}
+use Rattle.eit.specs.Records.{EventList, recordSize, recordsOf, numbersOfAll}
+use Rattle.eit.specs.Events.{eventOf, eventsIn, rising}
+use Rattle.eit.specs.Sound.{isAmong, idsOf, startsOf, sound}
+use Rattle.eit.specs.declared.Record.{Record}
+use Rattle.eit.proofs.Test.{tests, nor-both, ne-test, test-or}
+use Rattle.eit.proofs.Overwrite.{over-self}
+use Rattle.eit.proofs.Records.{numbers-back}
+use Rattle.eit.proofs.Events.{AllAfter, rising-rest, rising-after}
+use Rattle.eit.proofs.Sound.{sound-list}
+use Rattle.script.specs.Form.{move}
+use Rattle.script.specs.Machine.{insert, find, without, afterMove, Step, done, check, step}
+use Rattle.script.proofs.Placing.{insert-here, insert-later, without-here, without-later, find-here, find-later, among-later, find-valid}
+
+module _ (pools : Pools) where
+  -- a record among later ones starts later
+  find-after : (s id : ℕ) (rs : List Record) → T (isAmong id (idsOf rs)) → AllAfter s (eventsIn pools rs) → s < find id rs .start
+  find-after s id [] a after = absurd a
+  find-after s id (r ∷ rs) a after =
+      ⊎-elim (λ t. rw (find-here id r rs t) (after .0))
+      (λ t. rw (find-later id r rs t) (find-after s id rs (among-later id r rs t a) (after .1)))
+      (test-or (eqb id (r .id)))
+
+  -- a record before all others is inserted in front
+  insert-first : (r : Record) (rs : List Record) → AllAfter (r .start) (eventsIn pools rs) → insert r rs ≡ r ∷ rs
+  insert-first r [] after = refl
+  insert-first r (s ∷ rs) after = insert-here r s rs (lt→ltb (r .start) (s .start) (after .0))
+
+  insert-back : (id : ℕ) (rs : List Record) → T (isAmong id (idsOf rs)) → T (rising (eventsIn pools rs))
+      → insert (find id rs) (without id rs) ≡ rs
+  insert-back id [] a t = absurd a
+  insert-back id (r ∷ rs) a t =
+      let after = rising-after (eventOf pools r) (eventsIn pools rs) t in
+      ⊎-elim
+      (λ here. ap₂ insert (find-here id r rs here) (without-here id r rs here) ∙ insert-first r rs after)
+      (λ there.
+      let later = find-after (r .start) id rs (among-later id r rs there a) after in
+      ap₂ insert (find-later id r rs there) (without-later id r rs there)
+      ∙ insert-later (find id rs) r (without id rs) (le→nltb (find id rs .start) (r .start) (omega arith))
+      ∙ ap (λ (ss : List Record). r ∷ ss)
+      (insert-back id rs (among-later id r rs there a) (rising-rest (eventOf pools r) (eventsIn pools rs) t)))
+      (test-or (eqb id (r .id)))
+
+  -- a start before all others is none of theirs
+  start-before : (s : ℕ) (rs : List Record) → AllAfter s (eventsIn pools rs) → T (not (isAmong s (startsOf rs)))
+  start-before s [] after = tt
+  start-before s (r ∷ rs) after =
+      nor-both (eqb s (r .start)) (isAmong s (startsOf rs)) (ne-test s (r .start) (λ e. omega arith)) (start-before s rs (after .1))
+
+  start-other : (id : ℕ) (rs : List Record) → T (isAmong id (idsOf rs)) → T (rising (eventsIn pools rs))
+      → T (not (isAmong (find id rs .start) (startsOf (without id rs))))
+  start-other id [] a t = absurd a
+  start-other id (r ∷ rs) a t =
+      let after = rising-after (eventOf pools r) (eventsIn pools rs) t in
+      ⊎-elim
+      (λ here. rw (find-here id r rs here, without-here id r rs here) (start-before (r .start) rs after))
+      (λ there.
+      let later = find-after (r .start) id rs (among-later id r rs there a) after in
+      rw (find-later id r rs there, without-later id r rs there)
+      (nor-both (eqb (find id rs .start) (r .start)) (isAmong (find id rs .start) (startsOf (without id rs)))
+      (ne-test (find id rs .start) (r .start) (λ e. omega arith))
+      (start-other id rs (among-later id r rs there a) (rising-rest (eventOf pools r) (eventsIn pools rs) t))))
+      (test-or (eqb id (r .id)))
+
+check-passed : (b : Bool) (n : ℕ) (s : Step) → T b → check b n s ≡ s
+check-passed true n s t = refl
+check-passed false n s t = absurd t
+
+module _ (sizes : Sizes) (pools : Pools) (list : EventList) (id : ℕ) (t : T (sound sizes pools list)) (a : T (isAmong id (idsOf (recordsOf list)))) where
+  -- the records are written over themselves
+  move-same : afterMove list id (find id (recordsOf list) .start) ≡ list
+  unfolding recordsOf
+  move-same =
+      let f = sound-list sizes pools list t in
+      let rs : List Record = recordsOf list in
+      let same : numbersOfAll (insert (find id rs) (without id rs)) ≡ take (list .count * recordSize) (list .buffer) =
+      ap numbersOfAll (insert-back pools id rs a (f .records .rises)) ∙ numbers-back (list .count) (list .buffer) (f .held) in
+      let buffer : overwrite (list .buffer) 0 (numbersOfAll (insert (find id rs) (without id rs))) ≡ list .buffer =
+      ap (overwrite (list .buffer) 0) same ∙ over-self (list .buffer) 0 (list .count * recordSize) in
+      λ i. record { buffer = buffer i; count = list .count }
+
+  pub move-own : step sizes pools list (move id (find id (recordsOf list) .start)) ≡ done list
+  unfolding step
+  move-own =
+      let f = sound-list sizes pools list t in
+      let rs : List Record = recordsOf list in
+      let start : ℕ = find id rs .start in
+      let was = find-valid pools id rs a (f .records .valid) in
+      let range : T (ltb start startLimit) = search (tests, was .0) in
+      check-passed (ltb start startLimit) 5 _ range
+      ∙ check-passed (isAmong id (idsOf rs)) 6 _ a
+      ∙ check-passed (not (isAmong start (startsOf (without id rs)))) 7 _ (start-other pools id rs a (f .records .rises))
+      ∙ ap done move-same

@@ -1,0 +1,101 @@
+-- An insertion and a record that is taken away, by their places: what stands before the place stays, what stands behind it moves
+-- by one. By induction over the records, and then by the laws of `take` and `drop`. Assumes nothing.
+use mathlib.Core.Path.{_≡_, refl, ap, _∙_}
+use mathlib.Core.Logic.{⊎-elim}
+use mathlib.Core.Bool.{not}
+use Prim.Native.Nat.{ℕ, suc, _+_, _-_, _≤_, _<_}
+use native.Mathlib.Omega.{arith}
+use mathlib.Core.List.{List, [], _∷_, _++_}
+use lib.Dec.{T, eqb, ltb}
+use lib.ListN.{length, take, drop}
+use lib.Seq.{length-take-le, take-append-le, take-take, drop-append-add, drop-drop}
+use Rattle.eit.specs.Find.{indexOf, placeOf}
+use Rattle.eit.specs.Sound.{isAmong, idsOf}
+use Rattle.eit.specs.declared.Record.{Record}
+use Rattle.eit.proofs.Test.{test-or, true-is, false-is}
+use Rattle.script.specs.Machine.{insert, without}
+use Rattle.script.proofs.Placing.{insert-here, insert-later, without-here, without-later, among-later}
+
+-- ---- the two cases of each place
+
+module _ (start : ℕ) (r : Record) (rs : List Record) where
+  place-here : T (ltb start (r .start)) → placeOf start (r ∷ rs) ≡ 0
+  place-here t = rw (placeOf, true-is (ltb start (r .start)) t)
+
+  place-later : T (not (ltb start (r .start))) → placeOf start (r ∷ rs) ≡ suc (placeOf start rs)
+  place-later t = rw (placeOf, false-is (ltb start (r .start)) t)
+
+module _ (id : ℕ) (r : Record) (rs : List Record) where
+  index-here : T (eqb id (r .id)) → indexOf id (r ∷ rs) ≡ 0
+  index-here t = rw (indexOf, true-is (eqb id (r .id)) t)
+
+  index-later : T (not (eqb id (r .id))) → indexOf id (r ∷ rs) ≡ suc (indexOf id rs)
+  index-later t = rw (indexOf, false-is (eqb id (r .id)) t)
+
+pub place-length : (start : ℕ) (rs : List Record) → placeOf start rs ≤ length rs
+place-length start [] = omega arith
+place-length start (r ∷ rs) =
+    ⊎-elim (λ t. rw (place-here start r rs t) (omega arith)) (λ t. rw (place-later start r rs t) (omega (arith, place-length start rs)))
+    (test-or (ltb start (r .start)))
+
+pub index-length : (id : ℕ) (rs : List Record) → T (isAmong id (idsOf rs)) → indexOf id rs < length rs
+index-length id [] a = absurd a
+index-length id (r ∷ rs) a =
+    ⊎-elim (λ t. rw (index-here id r rs t) (omega arith))
+    (λ t. rw (index-later id r rs t) (omega (arith, index-length id rs (among-later id r rs t a))))
+    (test-or (eqb id (r .id)))
+
+-- ---- the records around the place
+
+pub insert-place : (r : Record) (rs : List Record) → insert r rs ≡ take (placeOf (r .start) rs) rs ++ r ∷ drop (placeOf (r .start) rs) rs
+insert-place r [] = refl
+insert-place r (s ∷ rs) =
+    ⊎-elim (λ t. rw (place-here (r .start) s rs t, insert-here r s rs t))
+    (λ t. rw (place-later (r .start) s rs t, insert-later r s rs t) (ap (λ (ss : List Record). s ∷ ss) (insert-place r rs)))
+    (test-or (ltb (r .start) (s .start)))
+
+pub without-index : (id : ℕ) (rs : List Record) → T (isAmong id (idsOf rs)) → without id rs ≡ take (indexOf id rs) rs ++ drop (suc (indexOf id rs)) rs
+without-index id [] a = absurd a
+without-index id (r ∷ rs) a =
+    ⊎-elim (λ t. rw (index-here id r rs t, without-here id r rs t))
+    (λ t.
+    rw (index-later id r rs t, without-later id r rs t)
+    (ap (λ (ss : List Record). r ∷ ss) (without-index id rs (among-later id r rs t a))))
+    (test-or (eqb id (r .id)))
+
+-- lists around a place p: what stands before it, and what stands behind it
+module _ {A : Type 0} (p k : ℕ) (xs ys : List A) (inside : p ≤ length xs) where
+  front-stays : k ≤ p → take k (take p xs ++ ys) ≡ take k xs
+  front-stays h = take-append-le k (take p xs) ys (omega (arith, length-take-le p xs inside)) ∙ take-take k p xs h
+
+  back-moves : p ≤ k → drop k (take p xs ++ ys) ≡ drop (k - p) ys
+  back-moves h =
+      let e : length (take p xs) + (k - p) ≡ k = omega (arith, length-take-le p xs inside) in
+      rw e at (drop-append-add (take p xs) ys (k - p))
+
+module _ (k : ℕ) (r : Record) (rs : List Record) where
+  pub insert-before : k ≤ placeOf (r .start) rs → take k (insert r rs) ≡ take k rs
+  insert-before h =
+      let p : ℕ = placeOf (r .start) rs in
+      rw (insert-place r rs) (front-stays p k rs (r ∷ drop p rs) (place-length (r .start) rs) h)
+
+  pub insert-behind : placeOf (r .start) rs ≤ k → drop (suc k) (insert r rs) ≡ drop k rs
+  insert-behind h =
+      let p : ℕ = placeOf (r .start) rs in
+      let e : suc k - p ≡ suc (k - p) = omega arith in
+      let f : p + (k - p) ≡ k = omega arith in
+      rw (insert-place r rs, back-moves p (suc k) rs (r ∷ drop p rs) (place-length (r .start) rs) (omega arith), e)
+      (drop-drop (k - p) p rs ∙ ap (λ (j : ℕ). drop j rs) f)
+
+module _ (k id : ℕ) (rs : List Record) (a : T (isAmong id (idsOf rs))) where
+  pub without-before : k ≤ indexOf id rs → take k (without id rs) ≡ take k rs
+  without-before h =
+      let i : ℕ = indexOf id rs in
+      rw (without-index id rs a) (front-stays i k rs (drop (suc i) rs) (omega (arith, index-length id rs a)) h)
+
+  pub without-behind : indexOf id rs ≤ k → drop k (without id rs) ≡ drop (suc k) rs
+  without-behind h =
+      let i : ℕ = indexOf id rs in
+      let f : suc i + (k - i) ≡ suc k = omega arith in
+      rw (without-index id rs a, back-moves i k rs (drop (suc i) rs) (omega (arith, index-length id rs a)) h)
+      (drop-drop (k - i) (suc i) rs ∙ ap (λ (j : ℕ). drop j rs) f)

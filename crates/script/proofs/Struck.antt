@@ -1,0 +1,147 @@
+-- UNDO strikes the nearest edit, is refused exactly where none is left, and says the same when the script is read from the
+-- right: by induction over the commands, where each law speaks of any kept edits or of any number of pending UNDOs.
+-- Assumes nothing.
+use mathlib.Core.Path.{_≡_, refl, ap, ap₂, _∙_}
+use mathlib.Core.List.{List, [], _∷_, _++_, map, reverse, append-nil, reverse-cons, reverse-reverse}
+use mathlib.Core.List.{Sublistᴰ, Sublistᴰ·slnil, Sublistᴰ·cons, Sublistᴰ·cons-cons}
+use Prim.Native.Nat.{ℕ, zero, suc, pred, _≤_}
+use native.Mathlib.Omega.{arith}
+use lib.ListN.{length, drop}
+use lib.Seq.{drop-nil, append-snoc}
+use Rattle.script.specs.Form.{Edit, Command, doEdit, undo}
+use Rattle.script.specs.Struck.{unstruck, nothingAt, strike, struckIn, passed, unlessStruck, live}
+
+-- ---- an UNDO strikes the nearest edit
+
+-- an edit and the UNDO right behind it can be left out
+pub undo-cancels : (kept : List Edit) (xs ys : List Command) (e : Edit) (at : ℕ)
+    → strike kept (xs ++ (doEdit e ∷ undo at ∷ ys)) ≡ strike kept (xs ++ ys)
+undo-cancels kept [] ys e at = refl
+undo-cancels kept (doEdit f ∷ xs) ys e at = undo-cancels (f ∷ kept) xs ys e at
+undo-cancels [] (undo there ∷ xs) ys e at = refl
+undo-cancels (f ∷ kept) (undo there ∷ xs) ys e at = undo-cancels kept xs ys e at
+
+pub undo-nearest : (xs : List Command) (es : List Edit) (e : Edit) (at : ℕ)
+    → struckIn xs ≡ unstruck es → struckIn (xs ++ (doEdit e ∷ undo at ∷ [])) ≡ unstruck es
+unfolding struckIn
+undo-nearest xs es e at h = undo-cancels [] xs [] e at ∙ rw append-nil h
+
+-- ---- joined scripts
+
+-- the second script goes on with what the first left
+pub strike-append : (kept : List Edit) (xs ys : List Command) (es : List Edit)
+    → strike kept xs ≡ unstruck es → strike kept (xs ++ ys) ≡ strike (reverse es) ys
+strike-append kept [] ys es h =
+    let e : reverse kept ≡ es = cc in
+    rw (← e, reverse-reverse)
+strike-append kept (doEdit e ∷ xs) ys es h = strike-append (e ∷ kept) xs ys es h
+strike-append [] (undo at ∷ xs) ys es h = cc
+strike-append (e ∷ kept) (undo at ∷ xs) ys es h = strike-append kept xs ys es h
+
+-- an UNDO with nothing to strike stays the first
+pub strike-append-refused : (kept : List Edit) (xs ys : List Command) (at : ℕ)
+    → strike kept xs ≡ nothingAt at → strike kept (xs ++ ys) ≡ nothingAt at
+strike-append-refused kept [] ys at h = cc
+strike-append-refused kept (doEdit e ∷ xs) ys at h = strike-append-refused (e ∷ kept) xs ys at h
+strike-append-refused [] (undo there ∷ xs) ys at h = h
+strike-append-refused (e ∷ kept) (undo there ∷ xs) ys at h = strike-append-refused kept xs ys at h
+
+-- ---- an UNDO with nothing to strike
+
+-- it is refused there exactly if all edits before it are struck
+pub refused-at : (xs ys : List Command) (at : ℕ) → struckIn xs ≡ unstruck [] → struckIn (xs ++ (undo at ∷ ys)) ≡ nothingAt at
+unfolding struckIn
+refused-at xs ys at h = strike-append [] xs (undo at ∷ ys) [] h
+
+strike-refused-only : (kept : List Edit) (cs : List Command) (at : ℕ) → strike kept cs ≡ nothingAt at
+    → (xs : List Command) × (ys : List Command) × (cs ≡ xs ++ (undo at ∷ ys)) × (strike kept xs ≡ unstruck [])
+strike-refused-only kept [] at h = let never : _≡_ {A = ℕ} 0 1 = cc in absurd (omega arith)
+strike-refused-only kept (doEdit e ∷ cs) at h =
+    let (xs, ys, split, struck) = strike-refused-only (e ∷ kept) cs at h in
+    (doEdit e ∷ xs, ys, cc, struck)
+strike-refused-only [] (undo there ∷ cs) at h = ([], cs, cc, refl)
+strike-refused-only (e ∷ kept) (undo there ∷ cs) at h =
+    let (xs, ys, split, struck) = strike-refused-only kept cs at h in
+    (undo there ∷ xs, ys, cc, struck)
+
+pub refused-only : (cs : List Command) (at : ℕ) → struckIn cs ≡ nothingAt at
+    → (xs : List Command) × (ys : List Command) × (cs ≡ xs ++ (undo at ∷ ys)) × (struckIn xs ≡ unstruck [])
+unfolding struckIn
+refused-only cs at h = strike-refused-only [] cs at h
+
+-- ---- the same from the right
+
+pub passed-append : (p : ℕ) (xs ys : List Command) → passed p (xs ++ ys) ≡ passed (passed p ys) xs
+passed-append p [] ys = refl
+passed-append p (doEdit e ∷ xs) ys = ap pred (passed-append p xs ys)
+passed-append p (undo at ∷ xs) ys = ap suc (passed-append p xs ys)
+
+unless-append : (p : ℕ) (e : Edit) (es fs : List Edit) → unlessStruck p e (es ++ fs) ≡ unlessStruck p e es ++ fs
+unless-append zero e es fs = refl
+unless-append (suc p) e es fs = refl
+
+pub live-append : (p : ℕ) (xs ys : List Command) → live p (xs ++ ys) ≡ live (passed p ys) xs ++ live p ys
+live-append p [] ys = refl
+live-append p (doEdit e ∷ xs) ys =
+    ap₂ (λ (q : ℕ) (es : List Edit). unlessStruck q e es) (passed-append p xs ys) (live-append p xs ys)
+    ∙ unless-append (passed (passed p ys) xs) e (live (passed p ys) xs) (live p ys)
+live-append p (undo at ∷ xs) ys = live-append p xs ys
+
+-- an edit stays, or the first UNDO pending behind it strikes it
+live-step : (p : ℕ) (e : Edit) (kept es : List Edit)
+    → reverse (drop p (e ∷ kept)) ++ es ≡ reverse (drop (pred p) kept) ++ unlessStruck p e es
+live-step zero e kept es = rw reverse-cons (append-snoc (reverse kept) e es)
+live-step (suc p) e kept es = refl
+
+-- the UNDOs that pass all commands strike the nearest of the kept edits, if there are enough
+pub strike-enough : (kept : List Edit) (cs : List Command)
+    → passed 0 cs ≤ length kept
+    → strike kept cs ≡ unstruck (reverse (drop (passed 0 cs) kept) ++ live 0 cs)
+strike-enough kept [] h = rw append-nil
+strike-enough kept (doEdit e ∷ cs) h =
+    let room : pred (passed 0 cs) ≤ length kept = h in
+    strike-enough (e ∷ kept) cs (omega arith) ∙ ap unstruck (live-step (passed 0 cs) e kept (live 0 cs))
+strike-enough [] (undo at ∷ cs) h = absurd (omega arith)
+strike-enough (e ∷ kept) (undo at ∷ cs) h = strike-enough kept cs (omega arith)
+
+-- and there are enough unless an UNDO has nothing to strike
+pub strike-passed : (kept : List Edit) (cs : List Command) (es : List Edit) → strike kept cs ≡ unstruck es → passed 0 cs ≤ length kept
+strike-passed kept [] es h = omega arith
+strike-passed kept (doEdit e ∷ cs) es h =
+    let room : pred (passed 0 cs) ≤ length kept = omega (arith, strike-passed (e ∷ kept) cs es h) in
+    room
+strike-passed [] (undo at ∷ cs) es h = let never : _≡_ {A = ℕ} 0 1 = cc in omega arith
+strike-passed (e ∷ kept) (undo at ∷ cs) es h = omega (arith, strike-passed kept cs es h)
+
+pub strike-live : (kept : List Edit) (cs : List Command) (es : List Edit)
+    → strike kept cs ≡ unstruck es
+    → es ≡ reverse (drop (passed 0 cs) kept) ++ live 0 cs
+strike-live kept cs es h = cc (strike-enough kept cs (strike-passed kept cs es h))
+
+-- of a whole script: the unstruck edits are the live ones, and each UNDO has something to strike exactly if none passes all
+pub struck-live : (cs : List Command) (es : List Edit) → struckIn cs ≡ unstruck es → es ≡ live 0 cs
+unfolding struckIn
+struck-live cs es h = strike-live [] cs es h ∙ rw drop-nil
+
+pub struck-enough : (cs : List Command) → passed 0 cs ≡ 0 → struckIn cs ≡ unstruck (live 0 cs)
+unfolding struckIn
+struck-enough cs h = strike-enough [] cs (omega arith) ∙ rw drop-nil
+
+pub struck-passed : (cs : List Command) (es : List Edit) → struckIn cs ≡ unstruck es → passed 0 cs ≡ 0
+unfolding struckIn
+struck-passed cs es h = omega (arith, strike-passed [] cs es h)
+
+-- ---- the unstruck edits are, in order, edits of the script
+
+unless-sublist : (p : ℕ) (e : Edit) (es : List Edit) (cs : List Command)
+    → Sublistᴰ (map doEdit es) cs → Sublistᴰ (map doEdit (unlessStruck p e es)) (doEdit e ∷ cs)
+unless-sublist zero e es cs h = Sublistᴰ·cons-cons refl h
+unless-sublist (suc p) e es cs h = Sublistᴰ·cons h
+
+live-sublist : (p : ℕ) (cs : List Command) → Sublistᴰ (map doEdit (live p cs)) cs
+live-sublist p [] = Sublistᴰ·slnil
+live-sublist p (doEdit e ∷ cs) = unless-sublist (passed p cs) e (live p cs) cs (live-sublist p cs)
+live-sublist p (undo at ∷ cs) = Sublistᴰ·cons (live-sublist p cs)
+
+pub unstruck-are-edits : (cs : List Command) (es : List Edit) → struckIn cs ≡ unstruck es → Sublistᴰ (map doEdit es) cs
+unstruck-are-edits cs es h = rw (struck-live cs es h) (live-sublist 0 cs)

@@ -1,0 +1,48 @@
+-- Edit as one total function of list, pools and script (01, "Edit", "When a call says no"). Laws: proofs/Edit.antt.
+-- Assumes nothing.
+use Prim.Native.Nat.{ℕ}
+use mathlib.Core.Bool.{true, false}
+use mathlib.Core.List.{List, [], _∷_}
+use Rattle.eit.specs.Sizes.{Sizes}
+use Rattle.eit.specs.Pools.{Pools}
+use Rattle.eit.specs.Records.{EventList}
+use Rattle.eit.specs.Sound.{sound}
+use Rattle.script.specs.Form.{Edit, commands, broken, formOf}
+use Rattle.script.specs.Struck.{unstruck, nothingAt, struckIn}
+use Rattle.script.specs.Machine.{done, refused, step}
+
+-- what Edit returns and leaves: number and value of the answer, and the list with its count
+pub record Edited : Type 0 where
+  pub number : ℕ
+  pub value : ℕ
+  pub list : EventList
+
+-- the unstruck edits are carried out in order; success returns the new count, a refusal the edit's offset, and it leaves the
+-- list as the earlier edits made it
+unfoldable pub run : Sizes → Pools → EventList → List Edit → Edited
+unfolding step
+run sizes pools list [] = record { number = 0; value = list .count; list = list }
+run sizes pools list (e ∷ es) =
+    elim (step sizes pools list (e .act)) [
+      | done next ↦ run sizes pools next es
+      | refused number ↦ record { number = number; value = e .at; list = list }
+    ]
+
+-- a refusal that leaves all as it was
+abbrev pub refusal : ℕ → ℕ → EventList → Edited
+refusal number value list = record { number = number; value = value; list = list }
+
+-- Edit: 12, 3 over the script, 4 over the script; then per edit
+unfoldable pub edit : Sizes → Pools → EventList → List ℕ → Edited
+unfolding run
+edit sizes pools list script =
+    elim (sound sizes pools list) [
+      | false ↦ refusal 12 0 list
+      | true ↦ elim (formOf script) [
+        | broken at ↦ refusal 3 at list
+        | commands cs ↦ elim (struckIn cs) [
+          | nothingAt at ↦ refusal 4 at list
+          | unstruck es ↦ run sizes pools list es
+        ]
+      ]
+    ]

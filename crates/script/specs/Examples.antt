@@ -1,0 +1,71 @@
+-- Edit on a list of two events, computed: what each command does, each refusal, and which refusal comes first (01, "Edit", "When a
+-- call says no"). The value is in proofs/Examples.antt. Assumes nothing.
+use Prim.Native.Nat.{ℕ}
+use mathlib.Core.Path.{_≡_}
+use mathlib.Core.List.{List, [], _∷_, _++_}
+use lib.ListN.{replicate}
+use Rattle.eit.specs.Sizes.{broadcast}
+use Rattle.eit.specs.Limits.{startLimit}
+use Rattle.eit.specs.Pools.{Pools}
+use Rattle.eit.specs.Records.{EventList, numbersOfAll}
+use Rattle.eit.specs.declared.Record.{Record}
+use Rattle.script.specs.Form.{Act, put, withdraw, move}
+use Rattle.script.specs.Encode.{actBytes}
+use Rattle.script.specs.Edit.{Edited, edit}
+
+-- an event of a minute with the part of its pool that begins at 0
+abbrev pub event : ℕ → ℕ → ℕ → ℕ → Record
+event id start marks size =
+    record { id = id; start = start; duration = 60; marks = marks; offset = 0; «chain_length» = size }
+
+abbrev pub plain : ℕ → ℕ → Record
+plain id start = event id start 0 0
+
+-- one descriptor, and an empty series pool
+abbrev pub pools : Pools
+pools = record { day = 0x4D ∷ 1 ∷ 9 ∷ []; series = [] }
+
+-- events 1 and 2 in a buffer with room for three; the two numbers left over belong to no record
+abbrev pub list : ℕ → EventList
+list count = record { buffer = numbersOfAll (plain 1 100 ∷ plain 2 200 ∷ []) ++ replicate 8 7; count = count }
+
+abbrev pub undoByte : List ℕ
+undoByte = 0x04 ∷ []
+
+-- number, value and count of the answer
+abbrev pub said : List ℕ → ℕ × ℕ × ℕ
+said script = let o = edit broadcast pools (list 2) script in (o .number, o .value, o .list .count)
+
+abbrev pub left : List ℕ → List ℕ
+left script = edit broadcast pools (list 2) script .list .buffer
+
+pub record Examples : Type 0 where
+  pub put-between : left (actBytes (put (plain 3 150))) ≡ numbersOfAll (plain 1 100 ∷ plain 3 150 ∷ plain 2 200 ∷ []) ++ (7 ∷ 7 ∷ [])
+  pub withdraw-frees : left (actBytes (withdraw 1)) ≡ numbersOfAll (plain 2 200 ∷ []) ++ replicate 6 0 ++ replicate 8 7
+  pub move-re-places : left (actBytes (move 1 300)) ≡ numbersOfAll (plain 2 200 ∷ plain 1 300 ∷ []) ++ replicate 8 7
+  pub one-more : said (actBytes (put (plain 3 150))) ≡ (0, 3, 3)
+  pub one-less : said (actBytes (withdraw 1)) ≡ (0, 1, 1)
+  pub as-many : said (actBytes (move 1 300)) ≡ (0, 2, 2)
+  pub own-start : said (actBytes (move 1 100)) ≡ (0, 2, 2)
+  -- struck edits are not carried out, and leave no zeros behind
+  pub undone : left (actBytes (put (plain 3 150)) ++ actBytes (withdraw 1) ++ undoByte ++ undoByte) ≡ list 2 .buffer
+  pub struck-for-form-only : said (actBytes (put (event 3 150 8 0)) ++ undoByte) ≡ (0, 2, 2)
+  pub descriptors : said (actBytes (put (event 3 150 0 3))) ≡ (0, 3, 3)
+  -- 12, 3 and 4 over the whole script, before any edit
+  pub unsound : edit broadcast pools (list 4) (0x05 ∷ []) ≡ record { number = 12; value = 0; list = list 4 }
+  pub unknown : said (actBytes (withdraw 1) ++ (0x05 ∷ [])) ≡ (3, 3, 2)
+  pub cut : said (0x03 ∷ 0 ∷ 1 ∷ []) ≡ (3, 0, 2)
+  pub form-first : said (undoByte ++ (0x05 ∷ [])) ≡ (3, 1, 2)
+  pub idle : said (actBytes (withdraw 1) ++ undoByte ++ undoByte) ≡ (4, 4, 2)
+  -- per edit 5, 9, 6, 7, 8
+  pub late-start : said (actBytes (put (event 1 startLimit 0 4))) ≡ (5, 0, 2)
+  pub outside : said (actBytes (put (event 1 200 0 4))) ≡ (9, 0, 2)
+  pub no-chain : said (actBytes (put (event 3 150 0 2))) ≡ (9, 0, 2)
+  pub other-pool : said (actBytes (put (event 3 150 2 3))) ≡ (9, 0, 2)
+  pub present : said (actBytes (put (plain 1 200))) ≡ (6, 0, 2)
+  pub taken : said (actBytes (put (plain 3 300)) ++ actBytes (put (plain 4 200))) ≡ (7, 18, 3)
+  pub full : said (actBytes (put (plain 3 300)) ++ actBytes (put (plain 4 400))) ≡ (8, 18, 3)
+  pub absent : said (actBytes (withdraw 9)) ≡ (6, 0, 2)
+  pub moved-late : said (actBytes (move 9 startLimit)) ≡ (5, 0, 2)
+  pub moved-absent : said (actBytes (move 9 200)) ≡ (6, 0, 2)
+  pub moved-onto : said (actBytes (move 1 200)) ≡ (7, 0, 2)

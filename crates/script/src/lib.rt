@@ -1,0 +1,1 @@
+// Edit as definitions (specs/) and laws (proofs/); no code.
