@@ -1,5 +1,7 @@
 -- Boolean tests as facts
 pub mod Test
+-- the sizes of broadcast
+pub mod Sizes
 -- big-endian fields and the numbers that they hold
 pub mod Fields
 -- writes into a buffer, and how they compose
@@ -18,6 +20,8 @@ pub mod Pools
 pub mod Records
 -- `follows`, and lists of events that rise
 pub mod Events
+-- two records of one event
+pub mod SameEvent
 -- numbers that are among others, and numbers that all differ
 pub mod Among
 -- what soundness says, part by part

@@ -1,7 +1,7 @@
 -- Seconds in range come back from their bytes, and bytes that pass the test are those of the seconds that they show: two digits by
 -- arithmetic, a time as three pairs of digits, a start as a day and a time of that day. Assumes nothing.
 use Prim.Native.Nat.{ℕ, _+_, _-_, _*_, _/_, _%_, _≤_, _<_}
-use mathlib.Core.Bool.{Bool, _&&_}
+use mathlib.Core.Bool.{Bool, true, false, _&&_}
 use mathlib.Core.List.{List, [], _∷_, _++_}
 use mathlib.Core.Logic.{⊎-elim}
 use mathlib.Core.Path.{_≡_, refl, ap, _∙_}
@@ -206,3 +206,17 @@ pub time-examples :
     × (durationBytes 6_330 ≡ 0x01 ∷ 0x45 ∷ 0x30 ∷ [])
     × (timeOf 360_000 ≡ record { hours = 99; minutes = 59; seconds = 59 })
 time-examples = (refl, refl, refl)
+
+-- computed: what is no time. 24 hours, 60 minutes, 60 seconds, a digit above 9; no second; a day before the base day, 64 days after it
+pub time-refused :
+    (isTime 23 (0x24 ∷ 0x00 ∷ 0x00 ∷ []) ≡ false)
+    × (isTime 99 (0x24 ∷ 0x60 ∷ 0x00 ∷ []) ≡ false)
+    × (isTime 99 (0x24 ∷ 0x00 ∷ 0x60 ∷ []) ≡ false)
+    × (isTime 99 (0x0A ∷ 0x00 ∷ 0x00 ∷ []) ≡ false)
+    × (isTime 99 (0x00 ∷ 0xA0 ∷ 0x00 ∷ []) ≡ false)
+    × (isTime 99 (0x99 ∷ 0x59 ∷ 0x59 ∷ []) ≡ true)
+    × (isDuration (0x00 ∷ 0x00 ∷ 0x00 ∷ []) ≡ false)
+    × (isStart 49_274 (0xC0 ∷ 0x79 ∷ 0x12 ∷ 0x45 ∷ 0x00 ∷ []) ≡ false)
+    × (isStart 49_209 (0xC0 ∷ 0x79 ∷ 0x12 ∷ 0x45 ∷ 0x00 ∷ []) ≡ false)
+    × (isStart 49_210 (0xC0 ∷ 0x79 ∷ 0x23 ∷ 0x59 ∷ 0x59 ∷ []) ≡ true)
+time-refused = (refl, refl, refl, refl, refl, refl, refl, refl, refl, refl)

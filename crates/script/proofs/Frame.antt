@@ -23,7 +23,7 @@ use Rattle.script.specs.Edit.{edit}
 use Rattle.script.specs.Machine.{limitOf, insert, find, without, withStart, zeroRecord, written, afterPut, afterWithdraw, afterMove, done, step}
 use Rattle.script.proofs.Placing.{insert-length, without-length}
 use Rattle.script.proofs.Places.{place-length, index-length, insert-before, insert-behind, without-before, without-behind}
-use Rattle.script.proofs.Machine.{count-records, put-done, withdraw-done, move-done, step-sound}
+use Rattle.script.proofs.Machine.{count-records, put-length, withdraw-length, move-length, put-done, withdraw-done, move-done, step-sound}
 use Rattle.script.proofs.Edit.{run-ind, edit-or}
 
 -- the buffer of a list that it fits in: its records, and what lies behind them
@@ -68,7 +68,7 @@ module _ (list : EventList) (r : Record) (k : ℕ) where
   pub put-beyond : list .count < k → drop (k * recordSize) (afterPut list r .buffer) ≡ drop (k * recordSize) (list .buffer)
   put-beyond h =
       let rs : List Record = recordsOf list in
-      written-beyond list (insert r rs) (list .count + 1) k (omega (arith, insert-length r rs, count-records list))
+      written-beyond list (insert r rs) (list .count + 1) k (omega (arith, put-length list r))
 
   -- records before its place stay
   pub put-before : list .count * recordSize ≤ length (list .buffer) → k ≤ placeOf (r .start) (recordsOf list)
@@ -76,31 +76,28 @@ module _ (list : EventList) (r : Record) (k : ℕ) where
   put-before held h =
       let rs : List Record = recordsOf list in
       let few : k ≤ list .count = omega (arith, place-length (r .start) rs, count-records list) in
-      written-before list held (insert r rs) (list .count + 1) k (omega (arith, insert-length r rs, count-records list)) few
+      written-before list held (insert r rs) (list .count + 1) k (omega (arith, put-length list r)) few
       (insert-before k r rs h)
 
 -- ---- WITHDRAW
 
 module _ (list : EventList) (id : ℕ) (a : T (isAmong id (idsOf (recordsOf list)))) where
-  withdraw-length : suc (length (without id (recordsOf list))) ≡ list .count
-  withdraw-length = without-length id (recordsOf list) a ∙ count-records list
-
   -- numbers behind the list stay
   pub withdraw-beyond : (k : ℕ) → list .count ≤ k
       → drop (k * recordSize) (afterWithdraw list id .buffer) ≡ drop (k * recordSize) (list .buffer)
   withdraw-beyond k h =
       let rs : List Record = without id (recordsOf list) in
       written-beyond list (rs ++ (zeroRecord ∷ [])) (list .count - 1) k
-      (omega (arith, withdraw-length, length-append rs (zeroRecord ∷ [])))
+      (omega (arith, withdraw-length list id a, length-append rs (zeroRecord ∷ [])))
 
   -- records before it stay
   pub withdraw-before : (k : ℕ) → list .count * recordSize ≤ length (list .buffer) → k ≤ indexOf id (recordsOf list)
       → take (k * recordSize) (afterWithdraw list id .buffer) ≡ take (k * recordSize) (list .buffer)
   withdraw-before k held h =
       let rs : List Record = without id (recordsOf list) in
-      let few : k ≤ length rs = omega (arith, withdraw-length, index-length id (recordsOf list) a, count-records list) in
+      let few : k ≤ length rs = omega (arith, withdraw-length list id a, index-length id (recordsOf list) a, count-records list) in
       written-before list held (rs ++ (zeroRecord ∷ [])) (list .count - 1) k
-      (omega (arith, length-append rs (zeroRecord ∷ []))) (omega (arith, withdraw-length))
+      (omega (arith, length-append rs (zeroRecord ∷ []))) (omega (arith, withdraw-length list id a))
       (take-append-le k rs (zeroRecord ∷ []) few ∙ without-before k id (recordsOf list) a h)
 
   -- the freed record is six zeros
@@ -158,7 +155,7 @@ module _ (sizes : Sizes) (pools : Pools) (list : EventList) where
       let limit = ltb→lt (list .count) (limitOf sizes list) (p .limit) in
       let rs : List Record = recordsOf list in
       rw (p .after)
-      (written-length (insert r rs) (list .count + 1) (omega (arith, limit, insert-length r rs, count-records list)))
+      (written-length (insert r rs) (list .count + 1) (omega (arith, limit, put-length list r)))
   step-length (withdraw id) next e t =
       let p = withdraw-done sizes pools list id next e in
       let rs : List Record = without id (recordsOf list) in
@@ -171,7 +168,7 @@ module _ (sizes : Sizes) (pools : Pools) (list : EventList) where
       let r : Record = withStart start (find id rs) in
       rw (p .after)
       (written-length (insert r (without id rs)) (list .count)
-      (omega (arith, withdraw-length list id (p .oldId), insert-length r (without id rs), sound-list sizes pools list t .held)))
+      (omega (arith, move-length list id (p .oldId) r, sound-list sizes pools list t .held)))
 
 -- whatever Edit answers
 pub edit-length : (sizes : Sizes) (pools : Pools) (list : EventList) (script : List ℕ)

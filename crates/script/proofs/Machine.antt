@@ -32,26 +32,61 @@ pub written-records : (list : EventList) (rs : List Record) (n : ℕ) → n ≤ 
 unfolding recordsOf
 written-records list rs n h = records-front n rs (drop (0 + length (numbersOfAll rs)) (list .buffer)) h
 
+-- the records after PUT, WITHDRAW and MOVE
+module _ (list : EventList) where
+  pub put-length : (r : Record) → length (insert r (recordsOf list)) ≡ list .count + 1
+  put-length r = omega (arith, insert-length r (recordsOf list), count-records list)
+
+  pub put-records : (r : Record) → recordsOf (afterPut list r) ≡ insert r (recordsOf list)
+  put-records r =
+      let rs : List Record = insert r (recordsOf list) in
+      let whole : length rs ≡ list .count + 1 = put-length r in
+      written-records list rs (list .count + 1) (omega arith) ∙ take-all (list .count + 1) rs (omega arith)
+
+  module _ (id : ℕ) (a : T (isAmong id (idsOf (recordsOf list)))) where
+    pub withdraw-length : suc (length (without id (recordsOf list))) ≡ list .count
+    withdraw-length = without-length id (recordsOf list) a ∙ count-records list
+
+    pub withdraw-records : recordsOf (afterWithdraw list id) ≡ without id (recordsOf list)
+    withdraw-records =
+        let rs : List Record = without id (recordsOf list) in
+        let last : length rs ≡ list .count - 1 = omega (arith, withdraw-length) in
+        written-records list (rs ++ (zeroRecord ∷ [])) (list .count - 1) (omega (arith, length-append rs (zeroRecord ∷ [])))
+        ∙ take-at rs (zeroRecord ∷ []) (list .count - 1) last
+
+    pub move-length : (r : Record) → length (insert r (without id (recordsOf list))) ≡ list .count
+    move-length r = insert-length r (without id (recordsOf list)) ∙ withdraw-length
+
+    pub move-records : (start : ℕ)
+        → recordsOf (afterMove list id start) ≡ insert (withStart start (find id (recordsOf list))) (without id (recordsOf list))
+    move-records start =
+        let r : Record = withStart start (find id (recordsOf list)) in
+        let rs : List Record = insert r (without id (recordsOf list)) in
+        let whole : length rs ≡ list .count = move-length r in
+        written-records list rs (list .count) (omega arith) ∙ take-all (list .count) rs (omega arith)
+
+-- ---- a sound list stays sound
+
 module _ (sizes : Sizes) (pools : Pools) (list : EventList) where
-  -- a list with other records over the front of its buffer is sound if they are
+  -- if what is written fits, and the records that are then counted are sound
   written-sound : (rs : List Record) (n : ℕ) → n ≤ length rs → n ≤ sizes .eventLimit
-      → length rs * recordSize ≤ length (list .buffer) → RecordFacts pools (take n rs) → ListFacts sizes pools (written list rs n)
+      → length rs * recordSize ≤ length (list .buffer) → RecordFacts pools (recordsOf (written list rs n))
+      → ListFacts sizes pools (written list rs n)
   written-sound rs n h few held f =
       record {
         few = few;
         held = rw (over-length (list .buffer) 0 (numbersOfAll rs) (omega (arith, numbers-length rs))) (omega arith);
-        records = rw (written-records list rs n h) f;
+        records = f;
       }
 
-  -- PUT, where its checks pass
   put-sound : (r : Record) → ListFacts sizes pools list → T (inRange r) → T (hasChain pools r)
       → T (not (isAmong (r .id) (idsOf (recordsOf list)))) → T (not (isAmong (r .start) (startsOf (recordsOf list))))
       → list .count < limitOf sizes list → ListFacts sizes pools (afterPut list r)
   put-sound r f range chain id start limit =
       let rs : List Record = recordsOf list in
-      let whole : length (insert r rs) ≡ list .count + 1 = omega (arith, insert-length r rs, count-records list) in
+      let whole : length (insert r rs) ≡ list .count + 1 = put-length list r in
       written-sound (insert r rs) (list .count + 1) (omega arith) (omega arith) (omega arith)
-      (rw (take-all (list .count + 1) (insert r rs) (omega arith))
+      (rw (put-records list r)
       record {
         valid = insert-valid pools r rs range chain (f .records .valid);
         rises = insert-rises pools r rs start (f .records .rises);
@@ -62,10 +97,10 @@ module _ (sizes : Sizes) (pools : Pools) (list : EventList) where
       → ListFacts sizes pools (afterWithdraw list id)
   withdraw-sound id f a =
       let rs : List Record = recordsOf list in
-      let whole : suc (length (without id rs)) ≡ list .count = without-length id rs a ∙ count-records list in
-      let more : length (without id rs ++ (zeroRecord ∷ [])) ≡ list .count = rw length-append (omega arith) in
+      let more : length (without id rs ++ (zeroRecord ∷ [])) ≡ list .count =
+      rw length-append (omega (arith, withdraw-length list id a)) in
       written-sound (without id rs ++ (zeroRecord ∷ [])) (list .count - 1) (omega arith) (omega (arith, f .few)) (omega (arith, f .held))
-      (rw (take-at (without id rs) (zeroRecord ∷ []) (list .count - 1) (omega arith))
+      (rw (withdraw-records list id a)
       record {
         valid = without-valid pools id rs (f .records .valid);
         rises = without-rises pools id rs (f .records .rises);
@@ -81,10 +116,9 @@ module _ (sizes : Sizes) (pools : Pools) (list : EventList) where
       let was = find-valid pools id rs a (f .records .valid) in
       let range : T (inRange r) = search (tests, was .0) in
       let gone : T (not (isAmong (find id rs .id) (idsOf others))) = rw (find-id id rs a) (without-gone id rs (f .records .differ)) in
-      let whole : length (insert r others) ≡ list .count =
-      insert-length r others ∙ without-length id rs a ∙ count-records list in
+      let whole : length (insert r others) ≡ list .count = move-length list id a r in
       written-sound (insert r others) (list .count) (omega arith) (f .few) (omega (arith, f .held))
-      (rw (take-all (list .count) (insert r others) (omega arith))
+      (rw (move-records list id a start)
       record {
         valid = insert-valid pools r others range (was .1) (without-valid pools id rs (f .records .valid));
         rises = insert-rises pools r others other (without-rises pools id rs (f .records .rises));

@@ -9,9 +9,9 @@ use Rattle.eit.specs.Limits.{startLimit}
 use Rattle.eit.specs.Pools.{Pools}
 use Rattle.eit.specs.Records.{EventList, numbersOfAll}
 use Rattle.eit.specs.declared.Record.{Record}
-use Rattle.script.specs.Form.{Act, put, withdraw, move}
+use Rattle.script.specs.Form.{put, withdraw, move}
 use Rattle.script.specs.Encode.{actBytes}
-use Rattle.script.specs.Edit.{Edited, edit}
+use Rattle.script.specs.Edit.{edit}
 
 -- an event of a minute with the part of its pool that begins at 0
 abbrev pub event : ℕ → ℕ → ℕ → ℕ → Record
