@@ -1,7 +1,7 @@
 -- Boolean tests as facts
 pub mod Test
--- the sizes of broadcast
-pub mod Sizes
+-- sizes and limits, as numbers
+pub mod Numbers
 -- big-endian fields and the numbers that they hold
 pub mod Fields
 -- writes into a buffer, and how they compose

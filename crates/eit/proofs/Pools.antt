@@ -1,6 +1,7 @@
 -- What the chosen part of a pool is, inside the pool and outside it: by the one test of `part`. Assumes nothing.
 use mathlib.Core.Path.{_≡_, refl, ap, _∙_}
 use mathlib.Core.Logic.{⊎-elim}
+use mathlib.Core.Bool.{true, false}
 use Prim.Native.Nat.{ℕ, _+_, _≤_, _<_}
 use native.Mathlib.Omega.{arith}
 use mathlib.Core.List.{List, []}
@@ -8,7 +9,7 @@ use lib.Arith.{lt→nleb}
 use lib.Dec.{T, leb→le, le→leb}
 use lib.ListN.{length, take, drop, length-take, length-drop}
 use Rattle.eit.specs.Fields.{Bytes}
-use Rattle.eit.specs.Pools.{Pools, poolOf, inPool, part, choose}
+use Rattle.eit.specs.Pools.{Pools, marksFreeCa, marksSeries, marksOffAir, poolOf, inPool, part, choose}
 use Rattle.eit.proofs.Test.{true-is, false-is, le-or-lt}
 use Rattle.eit.proofs.Fields.{bytes-take, bytes-drop}
 
@@ -26,6 +27,11 @@ module _ (pool : List ℕ) (offset size : ℕ) where
   part-length t =
       let h : offset + size ≤ length pool = leb→le (offset + size) (length pool) t in
       ap length (part-inside h) ∙ simp (length-take, length-drop) (omega arith)
+
+-- each of the three marks is its own bit
+pub marks-bits : (marksFreeCa 1 ≡ true) × (marksFreeCa 2 ≡ false) × (marksFreeCa 4 ≡ false) × (marksSeries 1 ≡ false)
+    × (marksSeries 2 ≡ true) × (marksSeries 4 ≡ false) × (marksOffAir 1 ≡ false) × (marksOffAir 2 ≡ false) × (marksOffAir 4 ≡ true)
+marks-bits = (refl, refl, refl, refl, refl, refl, refl, refl, refl)
 
 -- marks with 2 choose the series pool, all others the day pool
 pub pool-marks : (pools : Pools)

@@ -1,5 +1,8 @@
 // The types that the calls share, and the time type. Everything else of this crate is definitions (specs/) and laws (proofs/).
 ghost use mathlib.Core.Path.{_≡_};
+ghost use mathlib.Core.Bool.{_&&_};
+ghost use lib.Dec.{ltb, leb};
+ghost use Rattle.eit.specs.Limits.{startLimit, durationLeast, durationMost};
 ghost use Rattle.eit.specs.Time.{timeOf};
 
 // An event record: six numbers of the lent list (01, "Event record and sound list").
@@ -38,6 +41,20 @@ impl Time {
     pub const DURATION_LEAST: u32 = 1;
 
     pub const DURATION_MOST: u32 = 359_999;
+
+    // A start in a record's range: seconds after t0.
+    pub fn is_start(seconds: u32) -> bool
+        ensures { λ r. ⌜ r ≡ ltb seconds startLimit ⌝ }
+    {
+        seconds < Self::START_LIMIT
+    }
+
+    // A duration in a record's range.
+    pub fn is_duration(seconds: u32) -> bool
+        ensures { λ r. ⌜ r ≡ (leb durationLeast seconds && leb seconds durationMost) ⌝ }
+    {
+        Self::DURATION_LEAST <= seconds && seconds <= Self::DURATION_MOST
+    }
 
     // So many seconds; above DURATION_MOST it is 99:59:59.
     pub fn from_seconds(seconds: u32) -> Self

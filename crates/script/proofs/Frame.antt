@@ -21,7 +21,6 @@ use Rattle.eit.proofs.Sound.{sound-list}
 use Rattle.script.specs.Form.{Act, put, withdraw, move}
 use Rattle.script.specs.Edit.{edit}
 use Rattle.script.specs.Machine.{limitOf, insert, find, without, withStart, zeroRecord, written, afterPut, afterWithdraw, afterMove, done, step}
-use Rattle.script.proofs.Placing.{insert-length, without-length}
 use Rattle.script.proofs.Places.{place-length, index-length, insert-before, insert-behind, without-before, without-behind}
 use Rattle.script.proofs.Machine.{count-records, put-length, withdraw-length, move-length, put-done, withdraw-done, move-done, step-sound}
 use Rattle.script.proofs.Edit.{run-ind, edit-or}
@@ -119,8 +118,7 @@ module _ (list : EventList) (id start k : ℕ) (a : T (isAmong id (idsOf (record
   move-before i p =
       let others : List Record = without id (recordsOf list) in
       let r : Record = withStart start (find id (recordsOf list)) in
-      let whole : length (insert r others) ≡ list .count =
-      insert-length r others ∙ without-length id (recordsOf list) a ∙ count-records list in
+      let whole : length (insert r others) ≡ list .count = move-length list id a r in
       let few : k ≤ list .count = omega (arith, index-length id (recordsOf list) a, count-records list) in
       written-before list held (insert r others) (list .count) k (omega arith) few
       (insert-before k r others p ∙ without-before k id (recordsOf list) a i)
@@ -131,8 +129,7 @@ module _ (list : EventList) (id start k : ℕ) (a : T (isAmong id (idsOf (record
   move-behind i p =
       let others : List Record = without id (recordsOf list) in
       let r : Record = withStart start (find id (recordsOf list)) in
-      let whole : length (insert r others) ≡ list .count =
-      insert-length r others ∙ without-length id (recordsOf list) a ∙ count-records list in
+      let whole : length (insert r others) ≡ list .count = move-length list id a r in
       let e : k ≡ suc (k - 1) = omega arith in
       ⊎-elim
       (λ few.

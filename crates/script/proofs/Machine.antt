@@ -1,6 +1,7 @@
 -- One edit of the plain machine keeps a list sound, and changes no number that document 01 does not name: what it writes are
 -- records, which are read back as they are (`records-front`). Assumes nothing.
 use mathlib.Core.Path.{_≡_, _∙_}
+use mathlib.Core.Logic.{_↔_}
 use mathlib.Core.Bool.{Bool, true, false, not}
 use Prim.Native.Nat.{ℕ, suc, _+_, _-_, _*_, _≤_, _<_}
 use native.Mathlib.Omega.{arith}
@@ -31,6 +32,11 @@ count-records list = records-length (list .count) (list .buffer)
 pub written-records : (list : EventList) (rs : List Record) (n : ℕ) → n ≤ length rs → recordsOf (written list rs n) ≡ take n rs
 unfolding recordsOf
 written-records list rs n h = records-front n rs (drop (0 + length (numbersOfAll rs)) (list .buffer)) h
+
+-- the limit is the most records that the buffer holds, and no more than events may be
+pub limit-is : (sizes : Sizes) (list : EventList) (n : ℕ)
+    → (n ≤ limitOf sizes list) ↔ ((n * recordSize ≤ length (list .buffer)) × (n ≤ sizes .eventLimit))
+limit-is sizes list n = (λ h. omega arith, λ h. omega arith)
 
 -- the records after PUT, WITHDRAW and MOVE
 module _ (list : EventList) where
