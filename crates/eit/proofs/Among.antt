@@ -7,7 +7,7 @@ use native.Mathlib.Omega.{arith}
 use mathlib.Core.List.{List, [], _∷_}
 use lib.Dec.{T, eqb, eqb→eq, eqb-refl, T-not, not-T}
 use lib.ListN.{length, getD}
-use Rattle.eit.specs.Sound.{isAmong, allDiffer}
+use Rattle.eit.specs.Among.{isAmong, allDiffer}
 use Rattle.eit.proofs.Test.{and-left, and-right, and-both, or-cases, or-left, or-right}
 
 pub among-at : (ns : List ℕ) (i : ℕ) → i < length ns → T (isAmong (getD ns i 0) ns)

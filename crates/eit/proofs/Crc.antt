@@ -234,14 +234,14 @@ crc-only r bs hr four hb e =
 
 -- ---- a section
 
-crc32-of : (bs : List ℕ) → crc32 bs ≡ crcOf crcFirst bs
+pub crc32-of : (bs : List ℕ) → crc32 bs ≡ crcOf crcFirst bs
 unfolding crc32
 crc32-of bs = refl
 
 pub crc32-lt : (bs : List ℕ) → Bytes bs → crc32 bs < 2 ^ 32
 crc32-lt bs h = rw crc32-of (crc-lt crcFirst bs (lit< tt) h)
 
-crc32-append : (xs ys : List ℕ) → crc32 (xs ++ ys) ≡ crcOf (crc32 xs) ys
+pub crc32-append : (xs ys : List ℕ) → crc32 (xs ++ ys) ≡ crcOf (crc32 xs) ys
 crc32-append xs ys = simp crc32-of (crc-append crcFirst xs ys)
 
 pub closed : (bs : List ℕ) → Bytes bs → crc32 (bs ++ bigEndian 4 (crc32 bs)) ≡ 0

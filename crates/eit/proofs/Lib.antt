@@ -18,6 +18,8 @@ pub mod Chain
 pub mod Pools
 -- records and the numbers of the buffer
 pub mod Records
+-- the places of an id and of a start
+pub mod Find
 -- `follows`, and lists of events that rise
 pub mod Events
 -- two records of one event
@@ -26,3 +28,5 @@ pub mod SameEvent
 pub mod Among
 -- what soundness says, part by part
 pub mod Sound
+-- the examples, computed
+pub mod Examples

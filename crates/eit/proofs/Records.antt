@@ -4,9 +4,9 @@ use mathlib.Core.Path.{_≡_, refl, sym, ap, ap₂, _∙_}
 use Prim.Native.Nat.{ℕ, zero, suc, _+_, _*_, _≤_, _<_}
 use native.Mathlib.Omega.{arith}
 use mathlib.Core.List.{List, [], _∷_, _++_}
-use lib.ListN.{length, getD, take, drop, length-drop}
+use lib.ListN.{length, getD, take, drop, length-drop, take-append-drop}
 use lib.Seq.{drop-drop, take-add}
-use Rattle.eit.specs.Records.{recordSize, numbersOf, frontRecord, recordsIn, numbersOfAll}
+use Rattle.eit.specs.Records.{EventList, recordSize, recordsOf, numbersOf, frontRecord, recordsIn, numbersOfAll}
 use Rattle.eit.specs.declared.Record.{Record}
 
 pub records-length : (n : ℕ) (d : List ℕ) → length (recordsIn n d) ≡ n
@@ -74,3 +74,17 @@ numbers-drop (suc k) [] rest h = absurd (omega arith)
 numbers-drop (suc k) (r ∷ rs) rest h =
     let e : suc k * recordSize ≡ suc (suc (suc (suc (suc (suc (k * recordSize)))))) = omega arith in
     rw e (numbers-drop k rs rest (omega arith))
+
+-- ---- a list
+
+-- a list has as many records as it counts
+pub count-records : (list : EventList) → length (recordsOf list) ≡ list .count
+unfolding recordsOf
+count-records list = records-length (list .count) (list .buffer)
+
+-- the buffer of a list that it fits in: its records, and what lies behind them
+pub buffer-is : (list : EventList) → list .count * recordSize ≤ length (list .buffer)
+    → list .buffer ≡ numbersOfAll (recordsOf list) ++ drop (list .count * recordSize) (list .buffer)
+unfolding recordsOf
+buffer-is list held =
+    rw (numbers-back (list .count) (list .buffer) held) (sym (take-append-drop (list .count * recordSize) (list .buffer)))

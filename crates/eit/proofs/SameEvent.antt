@@ -7,13 +7,9 @@ use Prim.Native.Nat.{ℕ, zero, suc, _+_, _*_, _/_, _%_, _≤_, _<_}
 use native.Mathlib.Omega.{arith}
 use lib.Dec.{eqb}
 use Rattle.eit.specs.Limits.{marksMost}
-use Rattle.eit.specs.Pools.{Pools, choose, odd, marksFreeCa, marksOffAir}
-use Rattle.eit.specs.Events.{Event, eventOf}
+use Rattle.eit.specs.Pools.{Pools, odd, marksFreeCa, marksOffAir}
+use Rattle.eit.specs.Events.{Event, eventOf, marksOther, Same}
 use Rattle.eit.specs.declared.Record.{Record}
-
--- marks with 2 taken out
-abbrev pub marksOther : ℕ → ℕ
-marksOther marks = marks / 4 * 4 + marks % 2
 
 bit-same : (a b : ℕ) → a < 2 → b < 2 → eqb a 1 ≡ eqb b 1 → a ≡ b
 bit-same zero zero p q e = refl
@@ -42,14 +38,6 @@ marks-same m n hm hn = (forth, back)
         let few′ : n / 4 % 2 ≡ n / 4 = omega arith in
         let quarter : m / 4 ≡ n / 4 = sym few ∙ high ∙ few′ in
         λ i. quarter i * 4 + low i
-
--- what document 01 says of two records of one event
-pub record Same (p q : Pools) (r s : Record) : Type 0 where
-  pub id : r .id ≡ s .id
-  pub start : r .start ≡ s .start
-  pub duration : r .duration ≡ s .duration
-  pub marks : marksOther (r .marks) ≡ marksOther (s .marks)
-  pub chain : choose p (r .marks) (r .offset) (r .«chain_length») ≡ choose q (s .marks) (s .offset) (s .«chain_length»)
 
 pub same-event : (p q : Pools) (r s : Record) → r .marks ≤ marksMost → s .marks ≤ marksMost
     → (eventOf p r ≡ eventOf q s) ↔ Same p q r s

@@ -1,17 +1,21 @@
 -- What soundness says, part by part, and from its parts back: by the laws of conjunction. Assumes nothing.
-use Prim.Native.Nat.{ℕ, zero, suc, _*_, _≤_, _<_}
+use mathlib.Core.Path.{_≡_, _∙_}
+use Prim.Native.Nat.{ℕ, zero, suc, _+_, _*_, _≤_, _<_}
 use native.Mathlib.Omega.{arith}
 use mathlib.Core.List.{List, [], _∷_}
 use lib.Dec.{T, leb→le, le→leb, ltb→lt}
-use lib.ListN.{length, getD}
+use lib.ListN.{length, getD, length-map}
 use Rattle.eit.specs.Sizes.{Sizes}
 use Rattle.eit.specs.Limits.{idMost, startLimit, durationLeast, durationMost, marksMost}
-use Rattle.eit.specs.Pools.{Pools}
+use Rattle.eit.specs.Chain.{isChain}
+use Rattle.eit.specs.Pools.{Pools, poolOf, choose}
 use Rattle.eit.specs.Records.{EventList, recordSize, recordsOf}
-use Rattle.eit.specs.Events.{eventsIn, rising}
-use Rattle.eit.specs.Sound.{inRange, hasChain, allValid, allDiffer, idsOf, soundRecords, sound}
+use Rattle.eit.specs.Events.{eventOf, eventsIn, rising}
+use Rattle.eit.specs.Among.{allDiffer}
+use Rattle.eit.specs.Sound.{inRange, hasChain, allValid, idsOf, soundRecords, sound, eventsOf}
 use Rattle.eit.specs.declared.Record.{Record}
 use Rattle.eit.proofs.Test.{tests}
+use Rattle.eit.proofs.Records.{count-records}
 
 -- values in range, one by one
 pub record RangeFacts (r : Record) : Type 0 where
@@ -83,3 +87,24 @@ valid-all pools (r ∷ rs) d h =
     let first = h 0 (omega arith) in
     let rest : T (allValid pools rs) = valid-all pools rs d (λ i l. h (suc i) (omega arith)) in
     search (tests, first .0, first .1)
+
+-- `hasChain`: offset + length at most the pool's, and the part is a chain, of any length
+pub chain-facts : (pools : Pools) (r : Record) → T (hasChain pools r)
+    → (r .offset + r .«chain_length» ≤ length (poolOf pools (r .marks)))
+    × T (isChain (choose pools (r .marks) (r .offset) (r .«chain_length»)))
+chain-facts pools r t = (leb→le (r .offset + r .«chain_length») (length (poolOf pools (r .marks))) (search tests), search tests)
+
+pub facts-chain : (pools : Pools) (r : Record) → r .offset + r .«chain_length» ≤ length (poolOf pools (r .marks))
+    → T (isChain (choose pools (r .marks) (r .offset) (r .«chain_length»))) → T (hasChain pools r)
+facts-chain pools r inside chain = search (tests, le→leb)
+
+-- ---- the events of a list
+
+pub events-length : (pools : Pools) (list : EventList) → length (eventsOf pools list) ≡ list .count
+unfolding eventsOf
+events-length pools list = length-map (recordsOf list) (eventOf pools) ∙ count-records list
+
+-- those of a sound list rise
+pub events-rise : (sizes : Sizes) (pools : Pools) (list : EventList) → T (sound sizes pools list) → T (rising (eventsOf pools list))
+unfolding eventsOf
+events-rise sizes pools list t = sound-list sizes pools list t .records .rises

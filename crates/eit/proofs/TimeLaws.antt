@@ -12,7 +12,7 @@ use lib.ListN.{length}
 use Rattle.eit.specs.Fields.{Bytes, bigEndian, valueOf}
 use Rattle.eit.specs.Limits.{startLimit, durationLeast, durationMost, baseMost}
 use Rattle.eit.specs.Time.{timeOf, toBcd, timeBytes, durationBytes, secondsOfDay, startBytes}
-use Rattle.eit.specs.Time.{isBcd, ofBcd, isBcdUpTo, isTime, secondsOf, isDuration, startOf, isStart}
+use Rattle.eit.specs.Time.{isBcd, ofBcd, isBcdUpTo, isTime, secondsOf, isDurationBytes, startOf, isStartBytes}
 use Rattle.eit.specs.declared.Time.{Time}
 use Rattle.eit.proofs.Test.{and-both, and-parts, le-or-lt}
 use Rattle.eit.proofs.Fields.{value-back, big-endian-value}
@@ -137,14 +137,14 @@ time-only h (a ∷ b ∷ c ∷ d ∷ bs) three t = absurd (omega arith)
 pub duration-back : (d : ℕ) → d ≤ durationMost → secondsOf (durationBytes d) ≡ d
 duration-back d most = time-back d most
 
-pub duration-is : (d : ℕ) → durationLeast ≤ d → d ≤ durationMost → T (isDuration (durationBytes d))
+pub duration-is : (d : ℕ) → durationLeast ≤ d → d ≤ durationMost → T (isDurationBytes (durationBytes d))
 duration-is d least most =
     let enough : durationLeast ≤ secondsOf (durationBytes d) = rw (duration-back d most) least in
     and-both (isTime 99 (durationBytes d)) (leb durationLeast (secondsOf (durationBytes d)))
     (time-hours 99 d (omega arith))
     (le→leb _ _ enough)
 
-pub duration-only : (bs : List ℕ) → length bs ≡ 3 → T (isDuration bs)
+pub duration-only : (bs : List ℕ) → length bs ≡ 3 → T (isDurationBytes bs)
     → (durationBytes (secondsOf bs) ≡ bs) × (durationLeast ≤ secondsOf bs) × (secondsOf bs ≤ durationMost)
 duration-only bs three t =
     let (time, least) = and-parts (isTime 99 bs) (leb durationLeast (secondsOf bs)) t in
@@ -166,7 +166,7 @@ module _ (base s : ℕ) (inside : base ≤ baseMost) (few : s < startLimit) wher
   pub start-back : startOf base (startBytes base s) ≡ s
   start-back = rw (start-day, time-back (s % secondsOfDay) (omega arith)) (omega arith)
 
-  pub start-is : T (isStart base (startBytes base s))
+  pub start-is : T (isStartBytes base (startBytes base s))
   start-is =
       let time : List ℕ = timeBytes (timeOf (s % secondsOfDay)) in
       let day : ℕ = valueOf (bigEndian 2 (base + s / secondsOfDay)) in
@@ -183,7 +183,7 @@ start-parts : (base day rest : ℕ) → base ≤ day → rest < secondsOfDay
     × (((day - base) * secondsOfDay + rest) % secondsOfDay ≡ rest)
 start-parts base day rest later few = omega arith
 
-pub start-only : (base : ℕ) (bs : List ℕ) → length bs ≡ 5 → Bytes bs → T (isStart base bs)
+pub start-only : (base : ℕ) (bs : List ℕ) → length bs ≡ 5 → Bytes bs → T (isStartBytes base bs)
     → (startBytes base (startOf base bs) ≡ bs) × (startOf base bs < startLimit)
 start-only base [] five bytes t = absurd (omega arith)
 start-only base (a ∷ []) five bytes t = absurd (omega arith)
@@ -215,8 +215,8 @@ pub time-refused :
     × (isTime 99 (0x0A ∷ 0x00 ∷ 0x00 ∷ []) ≡ false)
     × (isTime 99 (0x00 ∷ 0xA0 ∷ 0x00 ∷ []) ≡ false)
     × (isTime 99 (0x99 ∷ 0x59 ∷ 0x59 ∷ []) ≡ true)
-    × (isDuration (0x00 ∷ 0x00 ∷ 0x00 ∷ []) ≡ false)
-    × (isStart 49_274 (0xC0 ∷ 0x79 ∷ 0x12 ∷ 0x45 ∷ 0x00 ∷ []) ≡ false)
-    × (isStart 49_209 (0xC0 ∷ 0x79 ∷ 0x12 ∷ 0x45 ∷ 0x00 ∷ []) ≡ false)
-    × (isStart 49_210 (0xC0 ∷ 0x79 ∷ 0x23 ∷ 0x59 ∷ 0x59 ∷ []) ≡ true)
+    × (isDurationBytes (0x00 ∷ 0x00 ∷ 0x00 ∷ []) ≡ false)
+    × (isStartBytes 49_274 (0xC0 ∷ 0x79 ∷ 0x12 ∷ 0x45 ∷ 0x00 ∷ []) ≡ false)
+    × (isStartBytes 49_209 (0xC0 ∷ 0x79 ∷ 0x12 ∷ 0x45 ∷ 0x00 ∷ []) ≡ false)
+    × (isStartBytes 49_210 (0xC0 ∷ 0x79 ∷ 0x23 ∷ 0x59 ∷ 0x59 ∷ []) ≡ true)
 time-refused = (refl, refl, refl, refl, refl, refl, refl, refl, refl, refl)

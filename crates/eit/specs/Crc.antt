@@ -10,6 +10,7 @@ use lib.Dec.{ltb}
 abbrev pub crcFirst : ℕ
 crcFirst = 0xFFFF_FFFF
 
+-- x^26 + x^23 + x^22 + x^16 + x^12 + x^11 + x^10 + x^8 + x^7 + x^5 + x^4 + x^2 + x + 1, below x^32
 abbrev pub polynomial : ℕ
 polynomial = 0x04C1_1DB7
 
@@ -17,6 +18,7 @@ polynomial = 0x04C1_1DB7
 unfoldable pub crcBit : ℕ → ℕ
 crcBit r = elim (ltb r (2 ^ 31)) [ true ↦ r * 2 % 2 ^ 32 | false ↦ bitXor (r * 2 % 2 ^ 32) polynomial ]
 
+-- the register after n bits
 unfoldable pub crcBits : ℕ → ℕ → ℕ
 crcBits zero r = r
 crcBits (suc n) r = crcBits n (crcBit r)
@@ -32,6 +34,7 @@ unfolding crcByte
 crcOf r [] = r
 crcOf r (b ∷ bs) = crcOf (crcByte r b) bs
 
+-- no final inversion
 unfoldable pub crc32 : List ℕ → ℕ
 unfolding crcOf
 crc32 bs = crcOf crcFirst bs

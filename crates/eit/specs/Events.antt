@@ -1,14 +1,14 @@
 -- Events: what a record stands for, apart from where its chain lies (01, "Event record and sound list"). Laws:
--- proofs/Events.antt. Assumes nothing.
-use Prim.Native.Nat.{ℕ}
+-- proofs/Events.antt, proofs/SameEvent.antt. Assumes nothing.
+use mathlib.Core.Path.{_≡_}
+use Prim.Native.Nat.{ℕ, _+_, _*_, _/_, _%_}
 use mathlib.Core.Bool.{Bool, true, _&&_}
 use mathlib.Core.List.{List, [], _∷_, map}
 use lib.Dec.{ltb}
 use Rattle.eit.specs.Pools.{Pools, choose, marksFreeCa, marksOffAir}
 use Rattle.eit.specs.declared.Record.{Record}
 
--- 01's term: same event. Two records are the same event if id, start, duration, marks other than 2 and chain bytes are equal,
--- that is, if their events are equal
+-- what a record stands for; two records are the same event exactly if their events are equal (`same-event`)
 pub record Event : Type 0 where
   pub id : ℕ
   pub start : ℕ
@@ -27,6 +27,18 @@ eventOf pools r =
       freeCa = marksFreeCa (r .marks);
       chain = choose pools (r .marks) (r .offset) (r .«chain_length»);
     }
+
+-- marks with 2 taken out
+abbrev pub marksOther : ℕ → ℕ
+marksOther marks = marks / 4 * 4 + marks % 2
+
+-- 01's term: same event. Events are the same if id, start, duration, marks other than 2 and chain bytes are equal
+pub record Same (p q : Pools) (r s : Record) : Type 0 where
+  pub id : r .id ≡ s .id
+  pub start : r .start ≡ s .start
+  pub duration : r .duration ≡ s .duration
+  pub marks : marksOther (r .marks) ≡ marksOther (s .marks)
+  pub chain : choose p (r .marks) (r .offset) (r .«chain_length») ≡ choose q (s .marks) (s .offset) (s .«chain_length»)
 
 -- the events of some records
 abbrev pub eventsIn : Pools → List Record → List Event

@@ -7,7 +7,9 @@ pub mod Time  -- BCD digits and MJD, both ways
 pub mod Crc  -- CRC_32 bit by bit
 pub mod Chain  -- descriptor and chain
 pub mod Pools  -- the two pools, and the part that a record chooses
+pub mod Among  -- a number that is one of some, and numbers that all differ
 pub mod Records  -- records in the lent buffer
 pub mod Find  -- the place of an id and of a start
 pub mod Events  -- what a record stands for, and `follows`
 pub mod Sound  -- soundness, and the events of a list
+pub mod Examples  -- soundness and events computed from raw numbers

@@ -25,6 +25,7 @@ marksSeries marks = odd (marks / 2)
 abbrev pub marksOffAir : ℕ → Bool
 marksOffAir marks = odd (marks / 4)
 
+-- marks with 2 choose the series pool, all others the day pool
 abbrev pub poolOf : Pools → ℕ → List ℕ
 poolOf pools marks = elim (marksSeries marks) [ true ↦ pools .series | false ↦ pools .day ]
 

@@ -14,6 +14,7 @@ pub record EventList : Type 0 where
 abbrev pub recordSize : ℕ
 recordSize = 6
 
+-- a record is six u32 numbers: id, start, duration, marks, offset, length
 abbrev pub numbersOf : Record → List ℕ
 numbersOf r = r .id ∷ r .start ∷ r .duration ∷ r .marks ∷ r .offset ∷ r .«chain_length» ∷ []
 

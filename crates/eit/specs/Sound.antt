@@ -1,12 +1,13 @@
 -- Soundness of a list, total in every buffer, count and pools, and the events that a list stands for (01, "Event record and
 -- sound list"). Laws: proofs/Sound.antt. Assumes nothing.
 use Prim.Native.Nat.{ℕ, _*_}
-use mathlib.Core.Bool.{Bool, true, false, not, _&&_, _||_}
+use mathlib.Core.Bool.{Bool, true, _&&_}
 use mathlib.Core.List.{List, [], _∷_, map}
-use lib.Dec.{leb, ltb, eqb}
+use lib.Dec.{leb, ltb}
 use lib.ListN.{length}
 use Rattle.eit.specs.Sizes.{Sizes}
 use Rattle.eit.specs.Limits.{idMost, startLimit, durationLeast, durationMost, marksMost}
+use Rattle.eit.specs.Among.{allDiffer}
 use Rattle.eit.specs.Chain.{isChain}
 use Rattle.eit.specs.Pools.{Pools, poolOf, inPool, choose}
 use Rattle.eit.specs.Records.{EventList, recordSize, recordsOf}
@@ -26,31 +27,24 @@ hasChain pools r =
     inPool (poolOf pools (r .marks)) (r .offset) (r .«chain_length»)
     && isChain (choose pools (r .marks) (r .offset) (r .«chain_length»))
 
+-- every record is so
 abbrev pub allValid : Pools → List Record → Bool
 allValid pools [] = true
 allValid pools (r ∷ rs) = inRange r && hasChain pools r && allValid pools rs
 
--- whether a number is one of some numbers
-abbrev pub isAmong : ℕ → List ℕ → Bool
-isAmong n [] = false
-isAmong n (m ∷ ms) = eqb n m || isAmong n ms
-
--- no two of the numbers are equal
-abbrev pub allDiffer : List ℕ → Bool
-allDiffer [] = true
-allDiffer (n ∷ ns) = not (isAmong n ns) && allDiffer ns
-
+-- the ids and the starts of some records
 abbrev pub idsOf : List Record → List ℕ
 idsOf rs = map (λ (r : Record). r .id) rs
 
 abbrev pub startsOf : List Record → List ℕ
 startsOf rs = map (λ (r : Record). r .start) rs
 
--- what soundness asks of the records: values in range, parts and chains, starts rise strictly, ids differ
+-- what soundness asks of the records: values in range, parts and chains, starts rise strictly, and ids differ. Overlap is not
+-- looked at
 unfoldable pub soundRecords : Pools → List Record → Bool
 soundRecords pools rs = allValid pools rs && (rising (eventsIn pools rs) && allDiffer (idsOf rs))
 
--- 01's term: sound
+-- 01's term: sound. The count is at most 2,048, the buffer has at least 6 × count numbers, and the records are as above
 unfoldable pub sound : Sizes → Pools → EventList → Bool
 unfolding soundRecords
 sound sizes pools list =

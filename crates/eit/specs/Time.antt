@@ -42,6 +42,7 @@ startBytes base start = bigEndian 2 (base + start / secondsOfDay) ++ timeBytes (
 abbrev pub isBcd : ℕ → Bool
 isBcd b = leb (b / 16) 9 && leb (b % 16) 9
 
+-- the number that two BCD digits show
 abbrev pub ofBcd : ℕ → ℕ
 ofBcd b = b / 16 * 10 + b % 16
 
@@ -53,16 +54,18 @@ isBcdUpTo most b = isBcd b && leb (ofBcd b) most
 abbrev pub isTime : ℕ → List ℕ → Bool
 isTime hoursMost bs = isBcdUpTo hoursMost (getD bs 0 0) && (isBcdUpTo 59 (getD bs 1 0) && isBcdUpTo 59 (getD bs 2 0))
 
+-- the seconds of six BCD digits hhmmss
 abbrev pub secondsOf : List ℕ → ℕ
 secondsOf bs = ofBcd (getD bs 0 0) * 3600 + ofBcd (getD bs 1 0) * 60 + ofBcd (getD bs 2 0)
 
--- start and duration stay in a record's range
-abbrev pub isDuration : List ℕ → Bool
-isDuration bs = isTime 99 bs && leb durationLeast (secondsOf bs)
+-- a duration stays in a record's range: its digits show at most 99:59:59
+abbrev pub isDurationBytes : List ℕ → Bool
+isDurationBytes bs = isTime 99 bs && leb durationLeast (secondsOf bs)
 
 -- the seconds after t0 of a start's five bytes; the day comes from its MJD
 abbrev pub startOf : ℕ → List ℕ → ℕ
 startOf base bs = (valueOf (take 2 bs) - base) * secondsOfDay + secondsOf (drop 2 bs)
 
-abbrev pub isStart : ℕ → List ℕ → Bool
-isStart base bs = isTime 23 (drop 2 bs) && (leb base (valueOf (take 2 bs)) && ltb (startOf base bs) startLimit)
+-- a start stays in a record's range: not before t0, and below 5,529,600
+abbrev pub isStartBytes : ℕ → List ℕ → Bool
+isStartBytes base bs = isTime 23 (drop 2 bs) && (leb base (valueOf (take 2 bs)) && ltb (startOf base bs) startLimit)

@@ -19,7 +19,7 @@ pub struct Record {
     pub chain_length: u32,
 }
 
-// What every section of a file repeats beside last_table_id (01, "The file of sections").
+// 01's term: identity. It is the same in every section of a file ("The file of sections").
 pub struct Identity {
     pub service_id: u16,
     pub transport_stream_id: u16,

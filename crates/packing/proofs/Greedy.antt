@@ -256,3 +256,8 @@ module _ {A : Type 0} (size : A → ℕ) where
   -- a list that is not unpackable gets no empty part
   pub greedy-nonempty : (room k : ℕ) (xs : List A) → T (not (unpackable size room k xs)) → NoneEmpty (greedy size room k xs)
   greedy-nonempty room k xs t = reached-nonempty room k xs (nltb→le (reach size room k xs) (length xs) t)
+
+  -- so the first j parts of a packing in order hold at most as many as the first j of the greedy one
+  pub greedy-dominates : (room j k : ℕ) (xs : List A) (ps : List (List A)) → Packing size room xs ps → j ≤ k
+      → held j ps ≤ held j (greedy size room k xs)
+  greedy-dominates room j k xs ps h l = rw (greedy-held room j k xs l) (greedy-best room j xs ps h)

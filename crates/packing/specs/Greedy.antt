@@ -13,7 +13,7 @@ use lib.Dec.{leb, ltb}
 use lib.ListN.{length, take, drop}
 
 module _ {A : Type 0} where
-  -- 01, "Build, Read": "the segment's next events": the elements of the parts, in order
+  -- the elements of the parts, in order
   abbrev pub joined : List (List A) → List A
   joined [] = []
   joined (p ∷ ps) = p ++ joined ps
@@ -28,7 +28,7 @@ module _ {A : Type 0} where
   NoneEmpty (p ∷ ps) = (0 < length p) × NoneEmpty ps
 
 module _ {A : Type 0} (size : A → ℕ) where
-  -- 01, "The file of sections": "That is 12 + length bytes": the sizes of the elements, added up
+  -- the sizes of the elements, added up
   abbrev pub sizeOf : List A → ℕ
   sizeOf [] = 0
   sizeOf (x ∷ xs) = size x + sizeOf xs
@@ -54,7 +54,8 @@ module _ {A : Type 0} (size : A → ℕ) where
   greedy room (suc k) [] = []
   greedy room (suc k) (x ∷ xs) = let n = fit room (x ∷ xs) in take n (x ∷ xs) ∷ greedy room k (drop n (x ∷ xs))
 
-  -- 01, "Build, Read": "A segment that would need a ninth section .. is unpackable": an element is left after k parts
+  -- 01's term: unpackable ("Build, Read": "A segment that would need a ninth section .. is unpackable"). An element is left
+  -- after k parts
   abbrev pub unpackable : ℕ → ℕ → List A → Bool
   unpackable room k xs = ltb (reach room k xs) (length xs)
 

@@ -11,10 +11,11 @@ use Rattle.eit.specs.Sizes.{Sizes}
 use Rattle.eit.specs.Pools.{Pools}
 use Rattle.eit.specs.Limits.{startLimit}
 use Rattle.eit.specs.Records.{EventList, recordsOf}
-use Rattle.eit.specs.Sound.{inRange, hasChain, isAmong, idsOf, startsOf, sound}
+use Rattle.eit.specs.Among.{isAmong}
+use Rattle.eit.specs.Sound.{inRange, hasChain, idsOf, startsOf, sound}
 use Rattle.eit.proofs.Test.{test-or, true-is, false-is}
 use Rattle.script.specs.Form.{Edit, Act, put, withdraw, move, Command, Form, commands, broken, formOf}
-use Rattle.script.specs.Struck.{Struck, unstruck, nothingAt, struckIn}
+use Rattle.script.specs.Struck.{Unstruck, unstruck, nothingAt, unstruckIn}
 use Rattle.script.specs.Machine.{limitOf, without, afterPut, afterWithdraw, afterMove, Step, done, refused, check, step}
 use Rattle.script.specs.Edit.{Edited, run, refusal, edit}
 use Rattle.script.proofs.Machine.{step-sound}
@@ -126,12 +127,12 @@ module _ (sizes : Sizes) (pools : Pools) where
       unfolding edit
       edit-broken at f = rw (edit, true-is (sound sizes pools list) t, f)
 
-      pub edit-idle : (cs : List Command) (at : ℕ) → formOf script ≡ commands cs → struckIn cs ≡ nothingAt at
+      pub edit-nothing : (cs : List Command) (at : ℕ) → formOf script ≡ commands cs → unstruckIn cs ≡ nothingAt at
           → edit sizes pools list script ≡ refusal 4 at list
       unfolding edit
-      edit-idle cs at f u = rw (edit, true-is (sound sizes pools list) t, f, u)
+      edit-nothing cs at f u = rw (edit, true-is (sound sizes pools list) t, f, u)
 
-      pub edit-runs : (cs : List Command) (es : List Edit) → formOf script ≡ commands cs → struckIn cs ≡ unstruck es
+      pub edit-runs : (cs : List Command) (es : List Edit) → formOf script ≡ commands cs → unstruckIn cs ≡ unstruck es
           → edit sizes pools list script ≡ run sizes pools list es
       unfolding edit
       edit-runs cs es f u = rw (edit, true-is (sound sizes pools list) t, f, u)
@@ -143,13 +144,13 @@ module _ (sizes : Sizes) (pools : Pools) where
   edit-or P list script unsound broke idle runs =
       ⊎-elim (λ t. formed t (formOf script) refl) (λ t. rw (edit-unsound list script t) unsound) (test-or (sound sizes pools list))
     where
-      struck : (t : T (sound sizes pools list)) (cs : List Command) → formOf script ≡ commands cs → (u : Struck) → struckIn cs ≡ u
+      struck : (t : T (sound sizes pools list)) (cs : List Command) → formOf script ≡ commands cs → (u : Unstruck) → unstruckIn cs ≡ u
           → P (edit sizes pools list script)
       struck t cs f (unstruck es) u = rw (edit-runs list script t cs es f u) (runs es t)
-      struck t cs f (nothingAt at) u = rw (edit-idle list script t cs at f u) (idle at)
+      struck t cs f (nothingAt at) u = rw (edit-nothing list script t cs at f u) (idle at)
 
       formed : T (sound sizes pools list) → (f : Form) → formOf script ≡ f → P (edit sizes pools list script)
-      formed t (commands cs) f = struck t cs f (struckIn cs) refl
+      formed t (commands cs) f = struck t cs f (unstruckIn cs) refl
       formed t (broken at) f = rw (edit-broken list script t at f) (broke at)
 
   -- Edit on a sound list leaves a sound list, accepted or refused

@@ -6,14 +6,16 @@ use Rattle.eit.specs.Records.{recordsOf}
 use Rattle.eit.specs.Events.{follows}
 use Rattle.eit.specs.Sound.{sound}
 use Rattle.script.specs.Form.{formOf}
-use Rattle.script.specs.Struck.{struckIn}
+use Rattle.script.specs.Struck.{unstruckIn}
 use Rattle.script.specs.Edit.{edit}
 use Rattle.script.specs.Examples.{Examples}
 
 pub examples : Examples
-unfolding edit formOf struckIn sound recordsOf follows choose isChain
+unfolding edit formOf unstruckIn sound recordsOf follows choose isChain
 examples =
     record {
+      paper-script = refl;
+      operands = refl;
       put-between = refl;
       withdraw-frees = refl;
       move-re-places = refl;
@@ -21,22 +23,28 @@ examples =
       one-less = refl;
       as-many = refl;
       own-start = refl;
+      descriptors = refl;
       undone = refl;
       struck-for-form-only = refl;
-      descriptors = refl;
       unsound = refl;
       unknown = refl;
       cut = refl;
       form-first = refl;
-      idle = refl;
-      late-start = refl;
+      undo-alone = refl;
+      nothing-to-strike = refl;
+      start-most = refl;
+      start-above = refl;
+      range-first = refl;
       outside = refl;
       no-chain = refl;
       other-pool = refl;
       present = refl;
       taken = refl;
       full = refl;
+      at-event-limit = refl;
+      below-event-limit = refl;
       absent = refl;
+      keeps-the-earlier = refl;
       moved-late = refl;
       moved-absent = refl;
       moved-onto = refl;

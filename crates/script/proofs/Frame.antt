@@ -6,31 +6,26 @@ use Prim.Native.Nat.{ℕ, suc, _+_, _-_, _*_, _≤_, _<_}
 use native.Mathlib.Omega.{arith}
 use mathlib.Core.List.{List, [], _∷_, _++_}
 use lib.Dec.{T, ltb→lt}
-use lib.ListN.{length, take, drop, replicate, length-append, take-append-drop}
+use lib.ListN.{length, take, drop, replicate, length-append}
 use lib.Seq.{drop-at, take-append-le}
 use Rattle.eit.specs.Sizes.{Sizes}
 use Rattle.eit.specs.Find.{indexOf, placeOf}
 use Rattle.eit.specs.Pools.{Pools}
 use Rattle.eit.specs.Records.{EventList, recordSize, recordsOf, numbersOfAll}
-use Rattle.eit.specs.Sound.{isAmong, idsOf, sound}
+use Rattle.eit.specs.Among.{isAmong}
+use Rattle.eit.specs.Sound.{idsOf, sound}
 use Rattle.eit.specs.declared.Record.{Record}
 use Rattle.eit.proofs.Test.{le-or-lt}
+use Rattle.eit.proofs.Find.{place-length, index-length}
 use Rattle.eit.proofs.Overwrite.{over-length, over-after}
-use Rattle.eit.proofs.Records.{numbers-length, numbers-back, numbers-take, numbers-drop}
+use Rattle.eit.proofs.Records.{count-records, buffer-is, numbers-length, numbers-take, numbers-drop}
 use Rattle.eit.proofs.Sound.{sound-list}
 use Rattle.script.specs.Form.{Act, put, withdraw, move}
-use Rattle.script.specs.Edit.{edit}
+use Rattle.script.specs.Edit.{Edited, edit}
 use Rattle.script.specs.Machine.{limitOf, insert, find, without, withStart, zeroRecord, written, afterPut, afterWithdraw, afterMove, done, step}
-use Rattle.script.proofs.Places.{place-length, index-length, insert-before, insert-behind, without-before, without-behind}
-use Rattle.script.proofs.Machine.{count-records, put-length, withdraw-length, move-length, put-done, withdraw-done, move-done, step-sound}
+use Rattle.script.proofs.Places.{insert-before, insert-behind, without-before, without-behind}
+use Rattle.script.proofs.Machine.{limit-is, put-length, withdraw-length, move-length, put-done, withdraw-done, move-done, step-sound}
 use Rattle.script.proofs.Edit.{run-ind, edit-or}
-
--- the buffer of a list that it fits in: its records, and what lies behind them
-buffer-is : (list : EventList) → list .count * recordSize ≤ length (list .buffer)
-    → list .buffer ≡ numbersOfAll (recordsOf list) ++ drop (list .count * recordSize) (list .buffer)
-unfolding recordsOf
-buffer-is list held =
-    rw (numbers-back (list .count) (list .buffer) held) (sym (take-append-drop (list .count * recordSize) (list .buffer)))
 
 -- ---- records written over the front of a buffer
 
@@ -177,3 +172,44 @@ edit-length sizes pools list script =
     (λ list t. refl) (λ list e n q t. refl)
     (λ list e next o q ih t. ih (step-sound sizes pools list (e .act) next q t) ∙ step-length sizes pools list (e .act) next q t)
     list es t)
+
+-- ---- numbers beyond the limit stay, whatever Edit answers
+
+module _ (sizes : Sizes) (pools : Pools) (k : ℕ) where
+  -- the buffer, and so the limit, keeps its length
+  Beyond : EventList → Edited → Type 0
+  Beyond list o =
+      T (sound sizes pools list) → limitOf sizes list ≤ k
+      → drop (k * recordSize) (o .list .buffer) ≡ drop (k * recordSize) (list .buffer)
+
+  step-beyond : (list : EventList) (act : Act) (next : EventList) → step sizes pools list act ≡ done next
+      → T (sound sizes pools list) → limitOf sizes list ≤ k
+      → drop (k * recordSize) (next .buffer) ≡ drop (k * recordSize) (list .buffer)
+  step-beyond list (put r) next e t h =
+      let p = put-done sizes pools list r next e in
+      let limit = ltb→lt (list .count) (limitOf sizes list) (p .limit) in
+      rw (p .after) (put-beyond list r k (omega arith))
+  step-beyond list (withdraw id) next e t h =
+      let p = withdraw-done sizes pools list id next e in
+      let f = sound-list sizes pools list t in
+      rw (p .after) (withdraw-beyond list id (p .oldId) k (omega (arith, limit-is sizes list (list .count) .1 (f .held, f .few))))
+  step-beyond list (move id start) next e t h =
+      let p = move-done sizes pools list id start next e in
+      let f = sound-list sizes pools list t in
+      let r : Record = withStart start (find id (recordsOf list)) in
+      rw (p .after)
+      (written-beyond list (insert r (without id (recordsOf list))) (list .count) k
+      (omega (arith, move-length list id (p .oldId) r, limit-is sizes list (list .count) .1 (f .held, f .few))))
+
+  pub edit-beyond : (list : EventList) (script : List ℕ) → limitOf sizes list ≤ k
+      → drop (k * recordSize) (edit sizes pools list script .list .buffer) ≡ drop (k * recordSize) (list .buffer)
+  unfolding Beyond
+  edit-beyond list script h =
+      edit-or sizes pools (λ o. drop (k * recordSize) (o .list .buffer) ≡ drop (k * recordSize) (list .buffer)) list script refl
+      (λ at. refl) (λ at. refl)
+      (λ es t.
+      run-ind sizes pools Beyond (λ list t h. refl) (λ list e n q t h. refl)
+      (λ list e next o q ih t h.
+      let same = step-length sizes pools list (e .act) next q t in
+      ih (step-sound sizes pools list (e .act) next q t) (omega arith) ∙ step-beyond list (e .act) next q t h)
+      list es t h)

@@ -6,6 +6,8 @@ pub mod Struck
 pub mod Placing
 -- and what they move
 pub mod Places
+-- which number an edit is refused with, and when it is done
+pub mod Steps
 -- one edit: what it has passed, and that it keeps a list sound
 pub mod Machine
 -- MOVE onto its own start

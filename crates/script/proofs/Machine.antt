@@ -1,5 +1,5 @@
--- One edit of the plain machine keeps a list sound, and changes no number that document 01 does not name: what it writes are
--- records, which are read back as they are (`records-front`). Assumes nothing.
+-- One edit of the plain machine keeps a list sound: what it writes are records, which are read back as they are
+-- (`records-front`). Assumes nothing.
 use mathlib.Core.Path.{_≡_, _∙_}
 use mathlib.Core.Logic.{_↔_}
 use mathlib.Core.Bool.{Bool, true, false, not}
@@ -13,20 +13,16 @@ use Rattle.eit.specs.Sizes.{Sizes}
 use Rattle.eit.specs.Limits.{startLimit}
 use Rattle.eit.specs.Pools.{Pools}
 use Rattle.eit.specs.Records.{EventList, recordSize, recordsOf, numbersOfAll}
-use Rattle.eit.specs.Sound.{inRange, hasChain, isAmong, idsOf, startsOf, sound}
+use Rattle.eit.specs.Among.{isAmong}
+use Rattle.eit.specs.Sound.{inRange, hasChain, idsOf, startsOf, sound}
 use Rattle.eit.specs.declared.Record.{Record}
 use Rattle.eit.proofs.Test.{tests}
 use Rattle.eit.proofs.Overwrite.{over-length}
-use Rattle.eit.proofs.Records.{records-length, numbers-length, records-front}
+use Rattle.eit.proofs.Records.{count-records, numbers-length, records-front}
 use Rattle.eit.proofs.Sound.{RecordFacts, ListFacts, list-sound, sound-list}
 use Rattle.script.specs.Machine.{limitOf, insert, find, without, withStart, zeroRecord, written, afterPut, afterWithdraw, afterMove, Step, done, check, step}
 use Rattle.script.specs.Form.{Act, put, withdraw, move}
 use Rattle.script.proofs.Placing.{insert-length, without-length, insert-valid, without-valid, find-valid, insert-rises, without-rises, insert-differ, without-differ, without-gone, find-id}
-
--- a list has as many records as it counts
-pub count-records : (list : EventList) → length (recordsOf list) ≡ list .count
-unfolding recordsOf
-count-records list = records-length (list .count) (list .buffer)
 
 -- records written over the front of the buffer are the records of the list, as many as it counts
 pub written-records : (list : EventList) (rs : List Record) (n : ℕ) → n ≤ length rs → recordsOf (written list rs n) ≡ take n rs

@@ -2,7 +2,7 @@
 -- By induction over the records, whose starts rise. Assumes nothing.
 use mathlib.Core.Path.{_≡_, refl, ap, ap₂, _∙_}
 use mathlib.Core.Logic.{⊎-elim}
-use mathlib.Core.Bool.{Bool, true, false, not}
+use mathlib.Core.Bool.{not}
 use Prim.Native.Nat.{ℕ, _*_, _<_}
 use native.Mathlib.Omega.{arith}
 use mathlib.Core.List.{List, [], _∷_}
@@ -15,7 +15,8 @@ use Rattle.eit.specs.Overwrite.{overwrite}
 use Rattle.eit.specs.Pools.{Pools}
 use Rattle.eit.specs.Records.{EventList, recordSize, recordsOf, numbersOfAll}
 use Rattle.eit.specs.Events.{eventOf, eventsIn, rising}
-use Rattle.eit.specs.Sound.{isAmong, idsOf, startsOf, sound}
+use Rattle.eit.specs.Among.{isAmong}
+use Rattle.eit.specs.Sound.{idsOf, startsOf, sound}
 use Rattle.eit.specs.declared.Record.{Record}
 use Rattle.eit.proofs.Test.{tests, nor-both, ne-test, test-or}
 use Rattle.eit.proofs.Overwrite.{over-self}
@@ -23,7 +24,8 @@ use Rattle.eit.proofs.Records.{numbers-back}
 use Rattle.eit.proofs.Events.{AllAfter, rising-rest, rising-after}
 use Rattle.eit.proofs.Sound.{sound-list}
 use Rattle.script.specs.Form.{move}
-use Rattle.script.specs.Machine.{insert, find, without, afterMove, Step, done, check, step}
+use Rattle.script.specs.Machine.{insert, find, without, afterMove, done, step}
+use Rattle.script.proofs.Steps.{move-passes}
 use Rattle.script.proofs.Placing.{insert-here, insert-later, without-here, without-later, find-here, find-later, among-later, find-valid}
 
 module _ (pools : Pools) where
@@ -76,10 +78,6 @@ module _ (pools : Pools) where
       (start-other id rs (among-later id r rs there a) (rising-rest (eventOf pools r) (eventsIn pools rs) t))))
       (test-or (eqb id (r .id)))
 
-check-passed : (b : Bool) (n : ℕ) (s : Step) → T b → check b n s ≡ s
-check-passed true n s t = refl
-check-passed false n s t = absurd t
-
 module _ (sizes : Sizes) (pools : Pools) (list : EventList) (id : ℕ) (t : T (sound sizes pools list)) (a : T (isAmong id (idsOf (recordsOf list)))) where
   -- the records are written over themselves
   move-same : afterMove list id (find id (recordsOf list) .start) ≡ list
@@ -94,14 +92,10 @@ module _ (sizes : Sizes) (pools : Pools) (list : EventList) (id : ℕ) (t : T (s
       λ i. record { buffer = buffer i; count = list .count }
 
   pub move-own : step sizes pools list (move id (find id (recordsOf list) .start)) ≡ done list
-  unfolding step
   move-own =
       let f = sound-list sizes pools list t in
       let rs : List Record = recordsOf list in
       let start : ℕ = find id rs .start in
       let was = find-valid pools id rs a (f .records .valid) in
       let range : T (ltb start startLimit) = search (tests, was .0) in
-      check-passed (ltb start startLimit) 5 _ range
-      ∙ check-passed (isAmong id (idsOf rs)) 6 _ a
-      ∙ check-passed (not (isAmong start (startsOf (without id rs)))) 7 _ (start-other pools id rs a (f .records .rises))
-      ∙ ap done move-same
+      move-passes sizes pools list id start range a (start-other pools id rs a (f .records .rises)) ∙ ap done move-same

@@ -2,48 +2,20 @@
 -- by one. By induction over the records, and then by the laws of `take` and `drop`. Assumes nothing.
 use mathlib.Core.Path.{_≡_, refl, ap, _∙_}
 use mathlib.Core.Logic.{⊎-elim}
-use mathlib.Core.Bool.{not}
-use Prim.Native.Nat.{ℕ, suc, _+_, _-_, _≤_, _<_}
+use Prim.Native.Nat.{ℕ, suc, _+_, _-_, _≤_}
 use native.Mathlib.Omega.{arith}
 use mathlib.Core.List.{List, [], _∷_, _++_}
 use lib.Dec.{T, eqb, ltb}
 use lib.ListN.{length, take, drop}
 use lib.Seq.{length-take-le, take-append-le, take-take, drop-append-add, drop-drop}
 use Rattle.eit.specs.Find.{indexOf, placeOf}
-use Rattle.eit.specs.Sound.{isAmong, idsOf}
+use Rattle.eit.specs.Among.{isAmong}
+use Rattle.eit.specs.Sound.{idsOf}
 use Rattle.eit.specs.declared.Record.{Record}
-use Rattle.eit.proofs.Test.{test-or, true-is, false-is}
+use Rattle.eit.proofs.Test.{test-or}
+use Rattle.eit.proofs.Find.{place-here, place-later, place-length, index-here, index-later, index-length}
 use Rattle.script.specs.Machine.{insert, without}
 use Rattle.script.proofs.Placing.{insert-here, insert-later, without-here, without-later, among-later}
-
--- ---- the two cases of each place
-
-module _ (start : ℕ) (r : Record) (rs : List Record) where
-  place-here : T (ltb start (r .start)) → placeOf start (r ∷ rs) ≡ 0
-  place-here t = rw (placeOf, true-is (ltb start (r .start)) t)
-
-  place-later : T (not (ltb start (r .start))) → placeOf start (r ∷ rs) ≡ suc (placeOf start rs)
-  place-later t = rw (placeOf, false-is (ltb start (r .start)) t)
-
-module _ (id : ℕ) (r : Record) (rs : List Record) where
-  index-here : T (eqb id (r .id)) → indexOf id (r ∷ rs) ≡ 0
-  index-here t = rw (indexOf, true-is (eqb id (r .id)) t)
-
-  index-later : T (not (eqb id (r .id))) → indexOf id (r ∷ rs) ≡ suc (indexOf id rs)
-  index-later t = rw (indexOf, false-is (eqb id (r .id)) t)
-
-pub place-length : (start : ℕ) (rs : List Record) → placeOf start rs ≤ length rs
-place-length start [] = omega arith
-place-length start (r ∷ rs) =
-    ⊎-elim (λ t. rw (place-here start r rs t) (omega arith)) (λ t. rw (place-later start r rs t) (omega (arith, place-length start rs)))
-    (test-or (ltb start (r .start)))
-
-pub index-length : (id : ℕ) (rs : List Record) → T (isAmong id (idsOf rs)) → indexOf id rs < length rs
-index-length id [] a = absurd a
-index-length id (r ∷ rs) a =
-    ⊎-elim (λ t. rw (index-here id r rs t) (omega arith))
-    (λ t. rw (index-later id r rs t) (omega (arith, index-length id rs (among-later id r rs t a))))
-    (test-or (eqb id (r .id)))
 
 -- ---- the records around the place
 

@@ -11,7 +11,8 @@ use lib.ListN.{length}
 use borrow.Author.Tests.{eqb-false}
 use Rattle.eit.specs.Pools.{Pools}
 use Rattle.eit.specs.Events.{eventOf, eventsIn, rising}
-use Rattle.eit.specs.Sound.{inRange, hasChain, allValid, isAmong, allDiffer, idsOf, startsOf}
+use Rattle.eit.specs.Among.{isAmong, allDiffer}
+use Rattle.eit.specs.Sound.{inRange, hasChain, allValid, idsOf, startsOf}
 use Rattle.eit.specs.declared.Record.{Record}
 use Rattle.eit.proofs.Test.{tests, or-other, ne-sym, test-or, true-is, false-is}
 use Rattle.eit.proofs.Events.{AllAfter, later-follows, rising-rest, rising-after, after-rising}

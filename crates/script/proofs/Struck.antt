@@ -1,7 +1,7 @@
 -- UNDO strikes the nearest edit, is refused exactly where none is left, and says the same when the script is read from the
 -- right: by induction over the commands, where each law speaks of any kept edits or of any number of pending UNDOs.
 -- Assumes nothing.
-use mathlib.Core.Path.{_≡_, refl, ap, ap₂, _∙_}
+use mathlib.Core.Path.{_≡_, refl, sym, ap, ap₂, _∙_}
 use mathlib.Core.List.{List, [], _∷_, _++_, map, reverse, append-nil, reverse-cons, reverse-reverse}
 use mathlib.Core.List.{Sublistᴰ, Sublistᴰ·slnil, Sublistᴰ·cons, Sublistᴰ·cons-cons}
 use Prim.Native.Nat.{ℕ, zero, suc, pred, _≤_}
@@ -9,7 +9,7 @@ use native.Mathlib.Omega.{arith}
 use lib.ListN.{length, drop}
 use lib.Seq.{drop-nil, append-snoc}
 use Rattle.script.specs.Form.{Edit, Command, doEdit, undo}
-use Rattle.script.specs.Struck.{unstruck, nothingAt, strike, struckIn, passed, unlessStruck, live}
+use Rattle.script.specs.Struck.{unstruck, nothingAt, strike, unstruckIn, passed, unlessStruck, live}
 
 -- ---- an UNDO strikes the nearest edit
 
@@ -22,8 +22,8 @@ undo-cancels [] (undo there ∷ xs) ys e at = refl
 undo-cancels (f ∷ kept) (undo there ∷ xs) ys e at = undo-cancels kept xs ys e at
 
 pub undo-nearest : (xs : List Command) (es : List Edit) (e : Edit) (at : ℕ)
-    → struckIn xs ≡ unstruck es → struckIn (xs ++ (doEdit e ∷ undo at ∷ [])) ≡ unstruck es
-unfolding struckIn
+    → unstruckIn xs ≡ unstruck es → unstruckIn (xs ++ (doEdit e ∷ undo at ∷ [])) ≡ unstruck es
+unfolding unstruckIn
 undo-nearest xs es e at h = undo-cancels [] xs [] e at ∙ rw append-nil h
 
 -- ---- joined scripts
@@ -49,8 +49,8 @@ strike-append-refused (e ∷ kept) (undo there ∷ xs) ys at h = strike-append-r
 -- ---- an UNDO with nothing to strike
 
 -- it is refused there exactly if all edits before it are struck
-pub refused-at : (xs ys : List Command) (at : ℕ) → struckIn xs ≡ unstruck [] → struckIn (xs ++ (undo at ∷ ys)) ≡ nothingAt at
-unfolding struckIn
+pub refused-at : (xs ys : List Command) (at : ℕ) → unstruckIn xs ≡ unstruck [] → unstruckIn (xs ++ (undo at ∷ ys)) ≡ nothingAt at
+unfolding unstruckIn
 refused-at xs ys at h = strike-append [] xs (undo at ∷ ys) [] h
 
 strike-refused-only : (kept : List Edit) (cs : List Command) (at : ℕ) → strike kept cs ≡ nothingAt at
@@ -64,9 +64,9 @@ strike-refused-only (e ∷ kept) (undo there ∷ cs) at h =
     let (xs, ys, split, struck) = strike-refused-only kept cs at h in
     (undo there ∷ xs, ys, cc, struck)
 
-pub refused-only : (cs : List Command) (at : ℕ) → struckIn cs ≡ nothingAt at
-    → (xs : List Command) × (ys : List Command) × (cs ≡ xs ++ (undo at ∷ ys)) × (struckIn xs ≡ unstruck [])
-unfolding struckIn
+pub refused-only : (cs : List Command) (at : ℕ) → unstruckIn cs ≡ nothingAt at
+    → (xs : List Command) × (ys : List Command) × (cs ≡ xs ++ (undo at ∷ ys)) × (unstruckIn xs ≡ unstruck [])
+unfolding unstruckIn
 refused-only cs at h = strike-refused-only [] cs at h
 
 -- ---- the same from the right
@@ -119,16 +119,16 @@ pub strike-live : (kept : List Edit) (cs : List Command) (es : List Edit)
 strike-live kept cs es h = cc (strike-enough kept cs (strike-passed kept cs es h))
 
 -- of a whole script: the unstruck edits are the live ones, and each UNDO has something to strike exactly if none passes all
-pub struck-live : (cs : List Command) (es : List Edit) → struckIn cs ≡ unstruck es → es ≡ live 0 cs
-unfolding struckIn
+pub struck-live : (cs : List Command) (es : List Edit) → unstruckIn cs ≡ unstruck es → es ≡ live 0 cs
+unfolding unstruckIn
 struck-live cs es h = strike-live [] cs es h ∙ rw drop-nil
 
-pub struck-enough : (cs : List Command) → passed 0 cs ≡ 0 → struckIn cs ≡ unstruck (live 0 cs)
-unfolding struckIn
+pub struck-enough : (cs : List Command) → passed 0 cs ≡ 0 → unstruckIn cs ≡ unstruck (live 0 cs)
+unfolding unstruckIn
 struck-enough cs h = strike-enough [] cs (omega arith) ∙ rw drop-nil
 
-pub struck-passed : (cs : List Command) (es : List Edit) → struckIn cs ≡ unstruck es → passed 0 cs ≡ 0
-unfolding struckIn
+pub struck-passed : (cs : List Command) (es : List Edit) → unstruckIn cs ≡ unstruck es → passed 0 cs ≡ 0
+unfolding unstruckIn
 struck-passed cs es h = omega (arith, strike-passed [] cs es h)
 
 -- ---- the unstruck edits are, in order, edits of the script
@@ -143,5 +143,15 @@ live-sublist p [] = Sublistᴰ·slnil
 live-sublist p (doEdit e ∷ cs) = unless-sublist (passed p cs) e (live p cs) cs (live-sublist p cs)
 live-sublist p (undo at ∷ cs) = Sublistᴰ·cons (live-sublist p cs)
 
-pub unstruck-are-edits : (cs : List Command) (es : List Edit) → struckIn cs ≡ unstruck es → Sublistᴰ (map doEdit es) cs
+pub unstruck-are-edits : (cs : List Command) (es : List Edit) → unstruckIn cs ≡ unstruck es → Sublistᴰ (map doEdit es) cs
 unstruck-are-edits cs es h = rw (struck-live cs es h) (live-sublist 0 cs)
+
+pub struck-joined : (xs ys : List Command) (es fs : List Edit) → unstruckIn xs ≡ unstruck es → unstruckIn ys ≡ unstruck fs
+    → unstruckIn (xs ++ ys) ≡ unstruck (es ++ fs)
+struck-joined xs ys es fs h k =
+    let none : passed 0 ys ≡ 0 = struck-passed ys fs k in
+    let all : passed 0 (xs ++ ys) ≡ 0 = passed-append 0 xs ys ∙ ap (λ (p : ℕ). passed p xs) none ∙ struck-passed xs es h in
+    let both : live 0 (xs ++ ys) ≡ es ++ fs =
+    live-append 0 xs ys ∙ ap (λ (p : ℕ). live p xs ++ live 0 ys) none
+    ∙ ap₂ (λ (us vs : List Edit). us ++ vs) (sym (struck-live xs es h)) (sym (struck-live ys fs k)) in
+    struck-enough (xs ++ ys) all ∙ ap unstruck both

@@ -8,7 +8,7 @@ use Rattle.eit.specs.Pools.{Pools}
 use Rattle.eit.specs.Records.{EventList}
 use Rattle.eit.specs.Sound.{sound}
 use Rattle.script.specs.Form.{Edit, commands, broken, formOf}
-use Rattle.script.specs.Struck.{unstruck, nothingAt, struckIn}
+use Rattle.script.specs.Struck.{unstruck, nothingAt, unstruckIn}
 use Rattle.script.specs.Machine.{done, refused, step}
 
 -- what Edit returns and leaves: number and value of the answer, and the list with its count
@@ -16,6 +16,10 @@ pub record Edited : Type 0 where
   pub number : ℕ
   pub value : ℕ
   pub list : EventList
+
+-- a refusal: its number, what it returns, and the list that it leaves
+abbrev pub refusal : ℕ → ℕ → EventList → Edited
+refusal number value list = record { number = number; value = value; list = list }
 
 -- the unstruck edits are carried out in order; success returns the new count, a refusal the edit's offset, and it leaves the
 -- list as the earlier edits made it
@@ -25,12 +29,8 @@ run sizes pools list [] = record { number = 0; value = list .count; list = list 
 run sizes pools list (e ∷ es) =
     elim (step sizes pools list (e .act)) [
       | done next ↦ run sizes pools next es
-      | refused number ↦ record { number = number; value = e .at; list = list }
+      | refused number ↦ refusal number (e .at) list
     ]
-
--- a refusal that leaves all as it was
-abbrev pub refusal : ℕ → ℕ → EventList → Edited
-refusal number value list = record { number = number; value = value; list = list }
 
 -- Edit: 12, 3 over the script, 4 over the script; then per edit
 unfoldable pub edit : Sizes → Pools → EventList → List ℕ → Edited
@@ -40,7 +40,7 @@ edit sizes pools list script =
       | false ↦ refusal 12 0 list
       | true ↦ elim (formOf script) [
         | broken at ↦ refusal 3 at list
-        | commands cs ↦ elim (struckIn cs) [
+        | commands cs ↦ elim (unstruckIn cs) [
           | nothingAt at ↦ refusal 4 at list
           | unstruck es ↦ run sizes pools list es
         ]

@@ -9,7 +9,7 @@ use Rattle.eit.specs.Limits.{startLimit}
 use Rattle.eit.specs.Pools.{Pools}
 use Rattle.eit.specs.Records.{EventList, numbersOfAll}
 use Rattle.eit.specs.declared.Record.{Record}
-use Rattle.script.specs.Form.{put, withdraw, move}
+use Rattle.script.specs.Form.{put, withdraw, move, doEdit, undo, commands, formOf}
 use Rattle.script.specs.Encode.{actBytes}
 use Rattle.script.specs.Edit.{edit}
 
@@ -40,6 +40,13 @@ abbrev pub left : List ℕ → List ℕ
 left script = edit broadcast pools (list 2) script .list .buffer
 
 pub record Examples : Type 0 where
+  -- the form, from raw bytes: 01's own script; then every operand of PUT and of MOVE in its place, and an UNDO between them
+  pub paper-script : formOf (0x01 ∷ 0 ∷ 1 ∷ 0 ∷ 0 ∷ 0xB3 ∷ 0x4C ∷ 0 ∷ 0 ∷ 0x18 ∷ 0xBA ∷ 0 ∷ 0 ∷ 0 ∷ 0 ∷ 0 ∷ 0 ∷ 0 ∷ [])
+      ≡ commands (doEdit (record { at = 0; act = put (record { id = 1; start = 45_900; duration = 6_330; marks = 0; offset = 0; «chain_length» = 0 }) }) ∷ [])
+  pub operands : formOf (0x01 ∷ 1 ∷ 2 ∷ 0 ∷ 0 ∷ 3 ∷ 4 ∷ 0 ∷ 0 ∷ 5 ∷ 6 ∷ 7 ∷ 0 ∷ 0 ∷ 8 ∷ 9 ∷ 10 ∷ 11 ∷ 0x04 ∷ 0x03 ∷ 1 ∷ 2 ∷ 0 ∷ 0 ∷ 3 ∷ 4 ∷ [])
+      ≡ commands (doEdit (record { at = 0; act = put (record { id = 258; start = 772; duration = 1_286; marks = 7; offset = 2_057; «chain_length» = 2_571 }) })
+      ∷ undo 18 ∷ doEdit (record { at = 19; act = move 258 772 }) ∷ [])
+  -- what each command does
   pub put-between : left (actBytes (put (plain 3 150))) ≡ numbersOfAll (plain 1 100 ∷ plain 3 150 ∷ plain 2 200 ∷ []) ++ (7 ∷ 7 ∷ [])
   pub withdraw-frees : left (actBytes (withdraw 1)) ≡ numbersOfAll (plain 2 200 ∷ []) ++ replicate 6 0 ++ replicate 8 7
   pub move-re-places : left (actBytes (move 1 300)) ≡ numbersOfAll (plain 2 200 ∷ plain 1 300 ∷ []) ++ replicate 8 7
@@ -47,25 +54,32 @@ pub record Examples : Type 0 where
   pub one-less : said (actBytes (withdraw 1)) ≡ (0, 1, 1)
   pub as-many : said (actBytes (move 1 300)) ≡ (0, 2, 2)
   pub own-start : said (actBytes (move 1 100)) ≡ (0, 2, 2)
+  pub descriptors : said (actBytes (put (event 3 150 0 3))) ≡ (0, 3, 3)
   -- struck edits are not carried out, and leave no zeros behind
   pub undone : left (actBytes (put (plain 3 150)) ++ actBytes (withdraw 1) ++ undoByte ++ undoByte) ≡ list 2 .buffer
   pub struck-for-form-only : said (actBytes (put (event 3 150 8 0)) ++ undoByte) ≡ (0, 2, 2)
-  pub descriptors : said (actBytes (put (event 3 150 0 3))) ≡ (0, 3, 3)
   -- 12, 3 and 4 over the whole script, before any edit
   pub unsound : edit broadcast pools (list 4) (0x05 ∷ []) ≡ record { number = 12; value = 0; list = list 4 }
   pub unknown : said (actBytes (withdraw 1) ++ (0x05 ∷ [])) ≡ (3, 3, 2)
   pub cut : said (0x03 ∷ 0 ∷ 1 ∷ []) ≡ (3, 0, 2)
   pub form-first : said (undoByte ++ (0x05 ∷ [])) ≡ (3, 1, 2)
-  pub idle : said (actBytes (withdraw 1) ++ undoByte ++ undoByte) ≡ (4, 4, 2)
-  -- per edit 5, 9, 6, 7, 8
-  pub late-start : said (actBytes (put (event 1 startLimit 0 4))) ≡ (5, 0, 2)
+  pub undo-alone : said undoByte ≡ (4, 0, 2)
+  pub nothing-to-strike : said (actBytes (withdraw 1) ++ undoByte ++ undoByte) ≡ (4, 4, 2)
+  -- per edit 5, 9, 6, 7, 8: PUT
+  pub start-most : said (actBytes (put (plain 3 5_529_599))) ≡ (0, 3, 3)
+  pub start-above : said (actBytes (put (plain 3 5_529_600))) ≡ (5, 0, 2)
+  pub range-first : said (actBytes (put (event 1 startLimit 0 4))) ≡ (5, 0, 2)
   pub outside : said (actBytes (put (event 1 200 0 4))) ≡ (9, 0, 2)
   pub no-chain : said (actBytes (put (event 3 150 0 2))) ≡ (9, 0, 2)
   pub other-pool : said (actBytes (put (event 3 150 2 3))) ≡ (9, 0, 2)
   pub present : said (actBytes (put (plain 1 200))) ≡ (6, 0, 2)
   pub taken : said (actBytes (put (plain 3 300)) ++ actBytes (put (plain 4 200))) ≡ (7, 18, 3)
   pub full : said (actBytes (put (plain 3 300)) ++ actBytes (put (plain 4 400))) ≡ (8, 18, 3)
+  pub at-event-limit : edit (record { sectionBytes = 4096; eventLimit = 2 }) pools (list 2) (actBytes (put (plain 3 150))) .number ≡ 8
+  pub below-event-limit : edit (record { sectionBytes = 4096; eventLimit = 3 }) pools (list 2) (actBytes (put (plain 3 150))) .number ≡ 0
+  -- WITHDRAW and MOVE
   pub absent : said (actBytes (withdraw 9)) ≡ (6, 0, 2)
+  pub keeps-the-earlier : left (actBytes (withdraw 1) ++ actBytes (withdraw 1)) ≡ numbersOfAll (plain 2 200 ∷ []) ++ replicate 6 0 ++ replicate 8 7
   pub moved-late : said (actBytes (move 9 startLimit)) ≡ (5, 0, 2)
   pub moved-absent : said (actBytes (move 9 200)) ≡ (6, 0, 2)
   pub moved-onto : said (actBytes (move 1 200)) ≡ (7, 0, 2)

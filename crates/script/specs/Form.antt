@@ -14,7 +14,7 @@ pub data Act : Type 0 where
   withdraw : ℕ → Act
   move : ℕ → ℕ → Act
 
--- PUT, WITHDRAW and MOVE are the edits; `at` is the offset of the command's byte
+-- 01's term: edit. PUT, WITHDRAW and MOVE are the edits; `at` is the offset of the command's byte
 pub record Edit : Type 0 where
   pub at : ℕ
   pub act : Act
@@ -78,6 +78,7 @@ before c (broken at) = broken at
 -- the rest of a script from the offset `at` on, of which the first `skip` bytes are operands of a command that has begun
 abbrev pub formFrom : ℕ → ℕ → List ℕ → Form
 formFrom zero at [] = commands []
+-- never met: a cut operand is refused at its command
 formFrom (suc skip) at [] = commands []
 formFrom (suc skip) at (b ∷ bs) = formFrom skip (suc at) bs
 formFrom zero at (code ∷ bs) =
@@ -86,6 +87,7 @@ formFrom zero at (code ∷ bs) =
       | false ↦ broken at
     ]
 
+-- the form of a script
 unfoldable pub formOf : List ℕ → Form
 formOf script = formFrom 0 0 script
 

@@ -1,5 +1,5 @@
--- The plain machine (01, "Edit"): its state is the whole buffer and the count; a number that no command changes stays.
--- Laws: proofs/Placing.antt, proofs/Machine.antt. Assumes nothing.
+-- 01's term: plain machine ("Edit"). Its state is the whole buffer and the count; a number that no command changes stays.
+-- Laws: proofs/Placing, Places, Steps, Machine, OwnStart and Frame. Assumes nothing.
 use Prim.Native.Nat.{ℕ, _+_, _-_, _/_, min}
 use mathlib.Core.Bool.{Bool, true, false, not}
 use mathlib.Core.List.{List, [], _∷_, _++_}
@@ -10,7 +10,8 @@ use Rattle.eit.specs.Limits.{startLimit}
 use Rattle.eit.specs.Overwrite.{overwrite}
 use Rattle.eit.specs.Pools.{Pools}
 use Rattle.eit.specs.Records.{EventList, recordSize, recordsOf, numbersOfAll}
-use Rattle.eit.specs.Sound.{inRange, hasChain, isAmong, idsOf, startsOf}
+use Rattle.eit.specs.Among.{isAmong}
+use Rattle.eit.specs.Sound.{inRange, hasChain, idsOf, startsOf}
 use Rattle.eit.specs.declared.Record.{Record}
 use Rattle.script.specs.Form.{Act, put, withdraw, move}
 
@@ -36,6 +37,7 @@ abbrev pub without : ℕ → List Record → List Record
 without id [] = []
 without id (r ∷ rs) = elim (eqb id (r .id)) [ true ↦ rs | false ↦ r ∷ without id rs ]
 
+-- a record with another start
 abbrev pub withStart : ℕ → Record → Record
 withStart start r =
     record {

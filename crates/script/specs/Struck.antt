@@ -5,19 +5,20 @@ use mathlib.Core.List.{List, [], _∷_, reverse}
 use Rattle.script.specs.Form.{Edit, Command, doEdit, undo}
 
 -- 01's term: struck. The edits of a script that are not struck, in order; or the offset of the first UNDO with nothing to strike
-pub data Struck : Type 0 where
-  unstruck : List Edit → Struck
-  nothingAt : ℕ → Struck
+pub data Unstruck : Type 0 where
+  unstruck : List Edit → Unstruck
+  nothingAt : ℕ → Unstruck
 
 -- `kept` holds the earlier edits that are not yet struck, the nearest first
-abbrev pub strike : List Edit → List Command → Struck
+abbrev pub strike : List Edit → List Command → Unstruck
 strike kept [] = unstruck (reverse kept)
 strike kept (doEdit e ∷ cs) = strike (e ∷ kept) cs
 strike [] (undo at ∷ cs) = nothingAt at
 strike (e ∷ kept) (undo at ∷ cs) = strike kept cs
 
-unfoldable pub struckIn : List Command → Struck
-struckIn cs = strike [] cs
+-- of a whole script
+unfoldable pub unstruckIn : List Command → Unstruck
+unstruckIn cs = strike [] cs
 
 -- the same from the right: with p UNDOs pending behind the commands, `passed` is how many are pending before them; an UNDO adds
 -- one, an edit takes one if there is one

@@ -1,0 +1,33 @@
+-- The examples of specs/Examples.antt hold: each is computed. Assumes nothing.
+use mathlib.Core.Path.{refl}
+use Rattle.eit.specs.Chain.{isChain}
+use Rattle.eit.specs.Pools.{choose}
+use Rattle.eit.specs.Records.{recordsOf}
+use Rattle.eit.specs.Events.{follows}
+use Rattle.eit.specs.Sound.{sound, eventsOf}
+use Rattle.eit.specs.Examples.{Examples}
+
+pub examples : Examples
+unfolding sound eventsOf recordsOf follows choose isChain
+examples =
+    record {
+      most = refl;
+      least = refl;
+      id-above = refl;
+      start-above = refl;
+      no-duration = refl;
+      duration-above = refl;
+      marks-above = refl;
+      outside = refl;
+      empty-outside = refl;
+      no-chain = refl;
+      overlap = refl;
+      same-start = refl;
+      same-id = refl;
+      buffer-short = refl;
+      events = refl;
+      index = (refl, refl);
+      place = (refl, refl, refl);
+      numbers = (refl, refl);
+      marks-bit = refl;
+    }

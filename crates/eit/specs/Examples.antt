@@ -1,0 +1,51 @@
+-- Soundness and events computed from raw numbers (01, "Event record and sound list"): each limit at its two sides, each fault, and
+-- the order of a record's six numbers. The value is in proofs/Examples.antt. Assumes nothing.
+use Prim.Native.Nat.{ℕ}
+use mathlib.Core.Path.{_≡_}
+use mathlib.Core.Bool.{Bool, true, false}
+use mathlib.Core.List.{List, [], _∷_}
+use Rattle.eit.specs.Sizes.{broadcast}
+use Rattle.eit.specs.Records.{EventList, recordsOf}
+use Rattle.eit.specs.Pools.{Pools, poolOf}
+use Rattle.eit.specs.Find.{indexOf, placeOf}
+use Rattle.eit.specs.Sound.{idsOf, startsOf, sound, eventsOf}
+use Rattle.eit.specs.declared.Record.{Record}
+
+-- one descriptor in each pool
+abbrev pub pools : Pools
+pools = record { day = 0x4D ∷ 1 ∷ 9 ∷ []; series = 0x4E ∷ 0 ∷ [] }
+
+abbrev pub isSound : ℕ → List ℕ → Bool
+isSound count buffer = sound broadcast pools (record { buffer = buffer; count = count })
+
+-- two records, and a number that belongs to neither
+abbrev pub two : EventList
+two = record { buffer = 1 ∷ 2 ∷ 3 ∷ 5 ∷ 0 ∷ 3 ∷ 4 ∷ 5 ∷ 6 ∷ 3 ∷ 0 ∷ 2 ∷ 9 ∷ []; count = 2 }
+
+abbrev pub records : List Record
+records = recordsOf two
+
+pub record Examples : Type 0 where
+  pub most : isSound 1 (65_535 ∷ 5_529_599 ∷ 359_999 ∷ 7 ∷ 0 ∷ 2 ∷ []) ≡ true
+  pub least : isSound 1 (0 ∷ 0 ∷ 1 ∷ 0 ∷ 3 ∷ 0 ∷ []) ≡ true
+  pub id-above : isSound 1 (65_536 ∷ 0 ∷ 1 ∷ 0 ∷ 0 ∷ 0 ∷ []) ≡ false
+  pub start-above : isSound 1 (0 ∷ 5_529_600 ∷ 1 ∷ 0 ∷ 0 ∷ 0 ∷ []) ≡ false
+  pub no-duration : isSound 1 (0 ∷ 0 ∷ 0 ∷ 0 ∷ 0 ∷ 0 ∷ []) ≡ false
+  pub duration-above : isSound 1 (0 ∷ 0 ∷ 360_000 ∷ 0 ∷ 0 ∷ 0 ∷ []) ≡ false
+  pub marks-above : isSound 1 (0 ∷ 0 ∷ 1 ∷ 8 ∷ 0 ∷ 0 ∷ []) ≡ false
+  pub outside : isSound 1 (0 ∷ 0 ∷ 1 ∷ 0 ∷ 1 ∷ 3 ∷ []) ≡ false
+  pub empty-outside : isSound 1 (0 ∷ 0 ∷ 1 ∷ 0 ∷ 4 ∷ 0 ∷ []) ≡ false
+  pub no-chain : isSound 1 (0 ∷ 0 ∷ 1 ∷ 0 ∷ 0 ∷ 2 ∷ []) ≡ false
+  pub overlap : isSound 2 (1 ∷ 0 ∷ 60 ∷ 0 ∷ 0 ∷ 0 ∷ 2 ∷ 1 ∷ 60 ∷ 0 ∷ 0 ∷ 0 ∷ []) ≡ true
+  pub same-start : isSound 2 (1 ∷ 5 ∷ 60 ∷ 0 ∷ 0 ∷ 0 ∷ 2 ∷ 5 ∷ 60 ∷ 0 ∷ 0 ∷ 0 ∷ []) ≡ false
+  pub same-id : isSound 2 (1 ∷ 0 ∷ 60 ∷ 0 ∷ 0 ∷ 0 ∷ 1 ∷ 5 ∷ 60 ∷ 0 ∷ 0 ∷ 0 ∷ []) ≡ false
+  pub buffer-short : isSound 1 (0 ∷ 0 ∷ 1 ∷ 0 ∷ 0 ∷ []) ≡ false
+  pub events :
+      eventsOf pools two
+      ≡ record { id = 1; start = 2; duration = 3; offAir = true; freeCa = true; chain = 0x4D ∷ 1 ∷ 9 ∷ [] }
+      ∷ record { id = 4; start = 5; duration = 6; offAir = false; freeCa = true; chain = 0x4E ∷ 0 ∷ [] } ∷ []
+  pub index : (indexOf 4 records ≡ 1) × (indexOf 9 records ≡ 2)
+  pub place : (placeOf 1 records ≡ 0) × (placeOf 2 records ≡ 1) × (placeOf 5 records ≡ 2)
+  pub numbers : (idsOf records ≡ 1 ∷ 4 ∷ []) × (startsOf records ≡ 2 ∷ 5 ∷ [])
+  -- marks above 7, which only the chooser meets: the bit of value 2 decides
+  pub marks-bit : poolOf pools 10 ≡ pools .series

@@ -1,0 +1,104 @@
+-- Which number an edit is refused with, and when it is done: the first check that fails, in the paper's order (01, "When a call says
+-- no": per edit 5, 9, 6, 7, 8). With `put-done`, `withdraw-done` and `move-done` each answer is exact. Assumes nothing.
+use mathlib.Core.Path.{_≡_, refl, _∙_}
+use mathlib.Core.Bool.{Bool, true, false, not}
+use Prim.Native.Nat.{ℕ}
+use lib.Dec.{T, ltb}
+use Rattle.eit.specs.Sizes.{Sizes}
+use Rattle.eit.specs.Limits.{startLimit}
+use Rattle.eit.specs.Pools.{Pools}
+use Rattle.eit.specs.Records.{EventList, recordsOf}
+use Rattle.eit.specs.Among.{isAmong}
+use Rattle.eit.specs.Sound.{inRange, hasChain, idsOf, startsOf}
+use Rattle.eit.specs.declared.Record.{Record}
+use Rattle.script.specs.Form.{put, withdraw, move}
+use Rattle.script.specs.Machine.{limitOf, without, afterPut, afterWithdraw, afterMove, Step, done, refused, check, step}
+
+check-passed : (b : Bool) (n : ℕ) (s : Step) → T b → check b n s ≡ s
+check-passed true n s t = refl
+check-passed false n s t = absurd t
+
+check-failed : (b : Bool) (n : ℕ) (s : Step) → T (not b) → check b n s ≡ refused n
+check-failed true n s t = absurd t
+check-failed false n s t = refl
+
+module _ (sizes : Sizes) (pools : Pools) (list : EventList) (r : Record) where
+  abbrev newId : Bool
+  newId = not (isAmong (r .id) (idsOf (recordsOf list)))
+
+  abbrev newStart : Bool
+  newStart = not (isAmong (r .start) (startsOf (recordsOf list)))
+
+  abbrev below : Bool
+  below = ltb (list .count) (limitOf sizes list)
+
+  pub put-5 : T (not (inRange r)) → step sizes pools list (put r) ≡ refused 5
+  unfolding step
+  put-5 a = check-failed (inRange r) 5 _ a
+
+  module _ (range : T (inRange r)) where
+    pub put-9 : T (not (hasChain pools r)) → step sizes pools list (put r) ≡ refused 9
+    unfolding step
+    put-9 b = check-passed (inRange r) 5 _ range ∙ check-failed (hasChain pools r) 9 _ b
+
+    module _ (chain : T (hasChain pools r)) where
+      pub put-6 : T (not newId) → step sizes pools list (put r) ≡ refused 6
+      unfolding step
+      put-6 c = check-passed (inRange r) 5 _ range ∙ check-passed (hasChain pools r) 9 _ chain ∙ check-failed newId 6 _ c
+
+      module _ (id : T newId) where
+        pub put-7 : T (not newStart) → step sizes pools list (put r) ≡ refused 7
+        unfolding step
+        put-7 d =
+            check-passed (inRange r) 5 _ range ∙ check-passed (hasChain pools r) 9 _ chain ∙ check-passed newId 6 _ id
+            ∙ check-failed newStart 7 _ d
+
+        module _ (start : T newStart) where
+          pub put-8 : T (not below) → step sizes pools list (put r) ≡ refused 8
+          unfolding step
+          put-8 e =
+              check-passed (inRange r) 5 _ range ∙ check-passed (hasChain pools r) 9 _ chain ∙ check-passed newId 6 _ id
+              ∙ check-passed newStart 7 _ start ∙ check-failed below 8 _ e
+
+          pub put-passes : T below → step sizes pools list (put r) ≡ done (afterPut list r)
+          unfolding step
+          put-passes e =
+              check-passed (inRange r) 5 _ range ∙ check-passed (hasChain pools r) 9 _ chain ∙ check-passed newId 6 _ id
+              ∙ check-passed newStart 7 _ start ∙ check-passed below 8 _ e
+
+module _ (sizes : Sizes) (pools : Pools) (list : EventList) (id : ℕ) where
+  pub withdraw-6 : T (not (isAmong id (idsOf (recordsOf list)))) → step sizes pools list (withdraw id) ≡ refused 6
+  unfolding step
+  withdraw-6 a = check-failed (isAmong id (idsOf (recordsOf list))) 6 _ a
+
+  pub withdraw-passes : T (isAmong id (idsOf (recordsOf list))) → step sizes pools list (withdraw id) ≡ done (afterWithdraw list id)
+  unfolding step
+  withdraw-passes a = check-passed (isAmong id (idsOf (recordsOf list))) 6 _ a
+
+  module _ (start : ℕ) where
+    pub move-5 : T (not (ltb start startLimit)) → step sizes pools list (move id start) ≡ refused 5
+    unfolding step
+    move-5 a = check-failed (ltb start startLimit) 5 _ a
+
+    module _ (range : T (ltb start startLimit)) where
+      pub move-6 : T (not (isAmong id (idsOf (recordsOf list)))) → step sizes pools list (move id start) ≡ refused 6
+      unfolding step
+      move-6 b = check-passed (ltb start startLimit) 5 _ range ∙ check-failed (isAmong id (idsOf (recordsOf list))) 6 _ b
+
+      module _ (old : T (isAmong id (idsOf (recordsOf list)))) where
+        pub move-7 : T (isAmong start (startsOf (without id (recordsOf list)))) → step sizes pools list (move id start) ≡ refused 7
+        unfolding step
+        move-7 c =
+            check-passed (ltb start startLimit) 5 _ range ∙ check-passed (isAmong id (idsOf (recordsOf list))) 6 _ old
+            ∙ check-failed (not (isAmong start (startsOf (without id (recordsOf list))))) 7 _ (twice (isAmong start (startsOf (without id (recordsOf list)))) c)
+          where
+            twice : (b : Bool) → T b → T (not (not b))
+            twice true t = t
+            twice false t = absurd t
+
+        pub move-passes : T (not (isAmong start (startsOf (without id (recordsOf list)))))
+            → step sizes pools list (move id start) ≡ done (afterMove list id start)
+        unfolding step
+        move-passes c =
+            check-passed (ltb start startLimit) 5 _ range ∙ check-passed (isAmong id (idsOf (recordsOf list))) 6 _ old
+            ∙ check-passed (not (isAmong start (startsOf (without id (recordsOf list))))) 7 _ c
