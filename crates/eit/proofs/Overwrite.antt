@@ -63,6 +63,12 @@ module _ {A : Type 0} where
   pub over-paste : (d : List A) (at : ℕ) (xs : List A) → paste d at xs (length xs) ≡ overwrite d at xs
   over-paste d at xs = rw (take-length xs)
 
+  -- a write from the front that begins with what stands there
+  pub over-front : (d : List A) (at : ℕ) (xs : List A) → at ≤ length d → overwrite d 0 (take at d ++ xs) ≡ overwrite d at xs
+  over-front d at xs inside =
+      let e : 0 + length (take at d ++ xs) ≡ at + length xs = omega (arith, front-length d at xs inside) in
+      ap (λ (k : ℕ). take at d ++ xs ++ drop k d) e
+
   -- ---- two writes
 
   -- one right behind the other

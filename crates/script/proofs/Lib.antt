@@ -16,5 +16,7 @@ pub mod OwnStart
 pub mod Edit
 -- the numbers that an edit does not touch
 pub mod Frame
+-- PUT and WITHDRAW as one write, MOVE as both
+pub mod Writes
 -- the examples, computed
 pub mod Examples
