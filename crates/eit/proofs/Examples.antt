@@ -24,6 +24,7 @@ examples =
       overlap = refl;
       same-start = refl;
       same-id = refl;
+      same-id-apart = refl;
       buffer-short = refl;
       events = refl;
       index = (refl, refl);

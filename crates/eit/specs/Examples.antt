@@ -39,6 +39,7 @@ pub record Examples : Type 0 where
   pub overlap : isSound 2 (1 ∷ 0 ∷ 60 ∷ 0 ∷ 0 ∷ 0 ∷ 2 ∷ 1 ∷ 60 ∷ 0 ∷ 0 ∷ 0 ∷ []) ≡ true
   pub same-start : isSound 2 (1 ∷ 5 ∷ 60 ∷ 0 ∷ 0 ∷ 0 ∷ 2 ∷ 5 ∷ 60 ∷ 0 ∷ 0 ∷ 0 ∷ []) ≡ false
   pub same-id : isSound 2 (1 ∷ 0 ∷ 60 ∷ 0 ∷ 0 ∷ 0 ∷ 1 ∷ 5 ∷ 60 ∷ 0 ∷ 0 ∷ 0 ∷ []) ≡ false
+  pub same-id-apart : isSound 3 (1 ∷ 0 ∷ 60 ∷ 0 ∷ 0 ∷ 0 ∷ 2 ∷ 5 ∷ 60 ∷ 0 ∷ 0 ∷ 0 ∷ 1 ∷ 9 ∷ 60 ∷ 0 ∷ 0 ∷ 0 ∷ []) ≡ false
   pub buffer-short : isSound 1 (0 ∷ 0 ∷ 1 ∷ 0 ∷ 0 ∷ []) ≡ false
   pub events :
       eventsOf pools two

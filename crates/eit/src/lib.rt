@@ -37,9 +37,9 @@ pub struct Time {
 impl Time {
     // A start is fewer seconds after t0 than this: 64 days.
     pub const START_LIMIT: u32 = 5_529_600;
-    // A duration is at least a second, and at most 99:59:59.
+    // A duration is at least a second.
     pub const DURATION_LEAST: u32 = 1;
-
+    // And at most 99:59:59.
     pub const DURATION_MOST: u32 = 359_999;
 
     // A start in a record's range: seconds after t0.

@@ -1,13 +1,13 @@
--- PUT, WITHDRAW and MOVE change no number beyond those that document 01 names: an edit writes records over the front of the
--- buffer, so it is enough to say which records are as they were. Assumes nothing.
+-- Which numbers an edit leaves as they were, beyond what proofs/Writes.antt says of PUT and WITHDRAW: those around both places of a
+-- MOVE, those behind the list's limit, and how many there are. An edit writes records over the front of the buffer, so it is
+-- enough to say which records are as they were. Assumes nothing.
 use mathlib.Core.Path.{_≡_, refl, sym, ap, _∙_}
 use mathlib.Core.Logic.{⊎-elim}
 use Prim.Native.Nat.{ℕ, suc, _+_, _-_, _*_, _≤_, _<_}
 use native.Mathlib.Omega.{arith}
 use mathlib.Core.List.{List, [], _∷_, _++_}
 use lib.Dec.{T, ltb→lt}
-use lib.ListN.{length, take, drop, replicate, length-append}
-use lib.Seq.{drop-at, take-append-le}
+use lib.ListN.{length, take, drop, length-append}
 use Rattle.eit.specs.Sizes.{Sizes}
 use Rattle.eit.specs.Find.{indexOf, placeOf}
 use Rattle.eit.specs.Pools.{Pools}
@@ -16,13 +16,13 @@ use Rattle.eit.specs.Among.{isAmong}
 use Rattle.eit.specs.Sound.{idsOf, sound}
 use Rattle.eit.specs.declared.Record.{Record}
 use Rattle.eit.proofs.Test.{le-or-lt}
-use Rattle.eit.proofs.Find.{place-length, index-length}
+use Rattle.eit.proofs.Find.{index-length}
 use Rattle.eit.proofs.Overwrite.{over-length, over-after}
 use Rattle.eit.proofs.Records.{count-records, buffer-is, numbers-length, numbers-take, numbers-drop}
 use Rattle.eit.proofs.Sound.{sound-list}
 use Rattle.script.specs.Form.{Act, put, withdraw, move}
 use Rattle.script.specs.Edit.{Edited, edit}
-use Rattle.script.specs.Machine.{limitOf, insert, find, without, withStart, zeroRecord, written, afterPut, afterWithdraw, afterMove, done, step}
+use Rattle.script.specs.Machine.{limitOf, insert, find, without, withStart, zeroRecord, written, afterMove, done, step}
 use Rattle.script.proofs.Places.{insert-before, insert-behind, without-before, without-behind}
 use Rattle.script.proofs.Machine.{limit-is, put-length, withdraw-length, move-length, put-done, withdraw-done, move-done, step-sound}
 use Rattle.script.proofs.Edit.{run-ind, edit-or}
@@ -54,55 +54,6 @@ module _ (list : EventList) (held : list .count * recordSize ≤ length (list .b
       rw (numbers-drop k rs (drop (0 + length (numbersOfAll rs)) (list .buffer)) (omega arith), size, e)
       (sym (numbers-drop k (recordsOf list) rest (omega (arith, count-records list)))
       ∙ ap (drop (k * recordSize)) (sym (buffer-is list held)))
-
--- ---- PUT
-
-module _ (list : EventList) (r : Record) (k : ℕ) where
-  -- numbers behind one record more stay
-  pub put-beyond : list .count < k → drop (k * recordSize) (afterPut list r .buffer) ≡ drop (k * recordSize) (list .buffer)
-  put-beyond h =
-      let rs : List Record = recordsOf list in
-      written-beyond list (insert r rs) (list .count + 1) k (omega (arith, put-length list r))
-
-  -- records before its place stay
-  pub put-before : list .count * recordSize ≤ length (list .buffer) → k ≤ placeOf (r .start) (recordsOf list)
-      → take (k * recordSize) (afterPut list r .buffer) ≡ take (k * recordSize) (list .buffer)
-  put-before held h =
-      let rs : List Record = recordsOf list in
-      let few : k ≤ list .count = omega (arith, place-length (r .start) rs, count-records list) in
-      written-before list held (insert r rs) (list .count + 1) k (omega (arith, put-length list r)) few
-      (insert-before k r rs h)
-
--- ---- WITHDRAW
-
-module _ (list : EventList) (id : ℕ) (a : T (isAmong id (idsOf (recordsOf list)))) where
-  -- numbers behind the list stay
-  pub withdraw-beyond : (k : ℕ) → list .count ≤ k
-      → drop (k * recordSize) (afterWithdraw list id .buffer) ≡ drop (k * recordSize) (list .buffer)
-  withdraw-beyond k h =
-      let rs : List Record = without id (recordsOf list) in
-      written-beyond list (rs ++ (zeroRecord ∷ [])) (list .count - 1) k
-      (omega (arith, withdraw-length list id a, length-append rs (zeroRecord ∷ [])))
-
-  -- records before it stay
-  pub withdraw-before : (k : ℕ) → list .count * recordSize ≤ length (list .buffer) → k ≤ indexOf id (recordsOf list)
-      → take (k * recordSize) (afterWithdraw list id .buffer) ≡ take (k * recordSize) (list .buffer)
-  withdraw-before k held h =
-      let rs : List Record = without id (recordsOf list) in
-      let few : k ≤ length rs = omega (arith, withdraw-length list id a, index-length id (recordsOf list) a, count-records list) in
-      written-before list held (rs ++ (zeroRecord ∷ [])) (list .count - 1) k
-      (omega (arith, length-append rs (zeroRecord ∷ []))) (omega (arith, withdraw-length list id a))
-      (take-append-le k rs (zeroRecord ∷ []) few ∙ without-before k id (recordsOf list) a h)
-
-  -- the freed record is six zeros
-  pub withdraw-freed : take recordSize (drop ((list .count - 1) * recordSize) (afterWithdraw list id .buffer)) ≡ replicate recordSize 0
-  withdraw-freed =
-      let rs : List Record = without id (recordsOf list) in
-      let last : length rs ≡ list .count - 1 = omega (arith, withdraw-length) in
-      let rest : List ℕ = drop (0 + length (numbersOfAll (rs ++ (zeroRecord ∷ [])))) (list .buffer) in
-      ap (take recordSize)
-      (numbers-drop (list .count - 1) (rs ++ (zeroRecord ∷ [])) rest (omega (arith, length-append rs (zeroRecord ∷ [])))
-      ∙ ap (λ (ss : List Record). numbersOfAll ss ++ rest) (drop-at rs (zeroRecord ∷ []) (list .count - 1) last))
 
 -- ---- MOVE
 
@@ -188,18 +139,24 @@ module _ (sizes : Sizes) (pools : Pools) (k : ℕ) where
   step-beyond list (put r) next e t h =
       let p = put-done sizes pools list r next e in
       let limit = ltb→lt (list .count) (limitOf sizes list) (p .limit) in
-      rw (p .after) (put-beyond list r k (omega arith))
+      rw (p .after)
+      (written-beyond list (insert r (recordsOf list)) (list .count + 1) k (omega (arith, limit, put-length list r)))
   step-beyond list (withdraw id) next e t h =
       let p = withdraw-done sizes pools list id next e in
       let f = sound-list sizes pools list t in
-      rw (p .after) (withdraw-beyond list id (p .oldId) k (omega (arith, limit-is sizes list (list .count) .1 (f .held, f .few))))
+      let rs : List Record = without id (recordsOf list) in
+      let few : list .count ≤ limitOf sizes list = limit-is sizes list (list .count) .1 (f .held, f .few) in
+      rw (p .after)
+      (written-beyond list (rs ++ (zeroRecord ∷ [])) (list .count - 1) k
+      (omega (arith, few, withdraw-length list id (p .oldId), length-append rs (zeroRecord ∷ []))))
   step-beyond list (move id start) next e t h =
       let p = move-done sizes pools list id start next e in
       let f = sound-list sizes pools list t in
       let r : Record = withStart start (find id (recordsOf list)) in
+      let few : list .count ≤ limitOf sizes list = limit-is sizes list (list .count) .1 (f .held, f .few) in
       rw (p .after)
       (written-beyond list (insert r (without id (recordsOf list))) (list .count) k
-      (omega (arith, move-length list id (p .oldId) r, limit-is sizes list (list .count) .1 (f .held, f .few))))
+      (omega (arith, few, move-length list id (p .oldId) r)))
 
   pub edit-beyond : (list : EventList) (script : List ℕ) → limitOf sizes list ≤ k
       → drop (k * recordSize) (edit sizes pools list script .list .buffer) ≡ drop (k * recordSize) (list .buffer)

@@ -14,9 +14,9 @@ pub mod Machine
 pub mod OwnStart
 -- Edit: its run, its refusals, and that it keeps a list sound
 pub mod Edit
--- the numbers that an edit does not touch
-pub mod Frame
--- PUT and WITHDRAW as one write, MOVE as both
+-- PUT and WITHDRAW as one write from the record's place on, MOVE as both
 pub mod Writes
+-- the other numbers that an edit does not touch
+pub mod Frame
 -- the examples, computed
 pub mod Examples

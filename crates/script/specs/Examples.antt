@@ -21,6 +21,9 @@ event id start marks size =
 abbrev pub plain : ℕ → ℕ → Record
 plain id start = event id start 0 0
 
+abbrev pub lasting : ℕ → Record
+lasting duration = record { id = 3; start = 150; duration = duration; marks = 0; offset = 0; «chain_length» = 0 }
+
 -- one descriptor, and an empty series pool
 abbrev pub pools : Pools
 pools = record { day = 0x4D ∷ 1 ∷ 9 ∷ []; series = [] }
@@ -68,6 +71,10 @@ pub record Examples : Type 0 where
   -- per edit 5, 9, 6, 7, 8: PUT
   pub start-most : said (actBytes (put (plain 3 5_529_599))) ≡ (0, 3, 3)
   pub start-above : said (actBytes (put (plain 3 5_529_600))) ≡ (5, 0, 2)
+  pub duration-most : said (actBytes (put (lasting 359_999))) ≡ (0, 3, 3)
+  pub duration-above : said (actBytes (put (lasting 360_000))) ≡ (5, 0, 2)
+  pub no-duration : said (actBytes (put (lasting 0))) ≡ (5, 0, 2)
+  pub marks-above : said (actBytes (put (event 3 150 8 0))) ≡ (5, 0, 2)
   pub range-first : said (actBytes (put (event 1 startLimit 0 4))) ≡ (5, 0, 2)
   pub outside : said (actBytes (put (event 1 200 0 4))) ≡ (9, 0, 2)
   pub no-chain : said (actBytes (put (event 3 150 0 2))) ≡ (9, 0, 2)
