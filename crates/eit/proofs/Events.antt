@@ -1,12 +1,13 @@
 -- `follows` means a later start, and in a list that rises every event starts after all before it: by induction.
 -- Assumes nothing.
+use mathlib.Core.Logic.{_↔_}
 use Prim.Native.Nat.{ℕ, zero, suc, _<_}
 use native.Mathlib.Omega.{arith}
-use mathlib.Core.List.{List, [], _∷_}
+use mathlib.Core.List.{List, [], _∷_, _++_}
 use lib.Dec.{T, ltb→lt, lt→ltb}
 use lib.ListN.{length, getD}
 use Rattle.eit.specs.Events.{Event, follows, rising}
-use Rattle.eit.proofs.Test.{and-left, and-right, and-both}
+use Rattle.eit.proofs.Test.{tests, and-left, and-right, and-both}
 
 pub follows-later : (e f : Event) → T (follows e f) → e .start < f .start
 unfolding follows
@@ -57,3 +58,20 @@ rising-all (e ∷ []) d h = tt
 rising-all (e ∷ f ∷ es) d h =
     and-both (follows e f) (rising (f ∷ es)) (later-follows e f (h 0 (omega arith)))
     (rising-all (f ∷ es) d (λ i l. h (suc i) (omega arith)))
+
+-- ---- at the end
+
+-- one event more, behind the last one
+pub rising-snoc : (ds : List Event) (d e : Event) → T (rising (ds ++ (d ∷ e ∷ []))) ↔ (T (rising (ds ++ (d ∷ []))) × T (follows d e))
+rising-snoc [] d e = (λ t. (tt, search tests), λ p. search (tests, p .1))
+rising-snoc (c ∷ []) d e = (λ t. (search tests, search tests), λ p. search (tests, p .0, p .1))
+rising-snoc (c ∷ b ∷ ds) d e =
+    let rest = rising-snoc (b ∷ ds) d e in (
+      λ t. let parts = rest .0 (search tests) in (search (tests, parts .0), parts .1),
+      λ p. let front = p .0 in search (tests, rest .1),
+    )
+
+pub rising-front : (ds es : List Event) → T (rising (ds ++ es)) → T (rising ds)
+rising-front [] es t = tt
+rising-front (c ∷ []) es t = tt
+rising-front (c ∷ b ∷ ds) es t = let rest = rising-front (b ∷ ds) es (search tests) in search tests

@@ -16,6 +16,12 @@ pub bytes-append : (xs ys : List ℕ) → Bytes xs → Bytes ys → Bytes (xs ++
 bytes-append [] ys hx hy = hy
 bytes-append (x ∷ xs) ys hx hy = (hx .0, bytes-append xs ys (hx .1) hy)
 
+pub bytes-parts : (xs ys : List ℕ) → Bytes (xs ++ ys) → Bytes xs × Bytes ys
+bytes-parts [] ys bytes = (tt, bytes)
+bytes-parts (x ∷ xs) ys bytes =
+    let (front, behind) = bytes-parts xs ys (bytes .1) in
+    ((bytes .0, front), behind)
+
 pub bytes-take : (k : ℕ) (bs : List ℕ) → Bytes bs → Bytes (take k bs)
 bytes-take zero bs h = tt
 bytes-take (suc k) [] h = tt

@@ -5,8 +5,9 @@ use Prim.Native.Nat.{ℕ, zero, suc, _+_, _*_, _≤_, _<_}
 use native.Mathlib.Omega.{arith}
 use mathlib.Core.List.{List, [], _∷_, _++_}
 use lib.ListN.{length, getD, take, drop, length-drop, take-append-drop}
-use lib.Seq.{drop-drop, take-add}
+use lib.Seq.{drop-drop, take-add, take-length}
 use Rattle.eit.specs.Records.{EventList, recordSize, recordsOf, numbersOf, frontRecord, recordsIn, numbersOfAll}
+use Rattle.eit.specs.Overwrite.{overwrite}
 use Rattle.eit.specs.declared.Record.{Record}
 
 pub records-length : (n : ℕ) (d : List ℕ) → length (recordsIn n d) ≡ n
@@ -88,3 +89,10 @@ pub buffer-is : (list : EventList) → list .count * recordSize ≤ length (list
 unfolding recordsOf
 buffer-is list held =
     rw (numbers-back (list .count) (list .buffer) held) (sym (take-append-drop (list .count * recordSize) (list .buffer)))
+
+-- records that are written over the front of a buffer are read back
+pub records-written : (rs : List Record) (buffer : List ℕ)
+    → recordsOf (record { buffer = overwrite buffer 0 (numbersOfAll rs); count = length rs }) ≡ rs
+unfolding recordsOf
+records-written rs buffer =
+    records-front (length rs) rs (drop (0 + length (numbersOfAll rs)) buffer) (omega arith) ∙ take-length rs

@@ -68,6 +68,9 @@ pub nor-both : (a b : Bool) → T (not a) → T (not b) → T (not (a || b))
 nor-both true b m n = m
 nor-both false b m n = n
 
+pub eq-test : (m n : ℕ) → m ≡ n → T (eqb m n)
+eq-test m n e = subst (λ (k : ℕ). T (eqb m k)) e (eqb-refl m)
+
 pub ne-test : (m n : ℕ) → (m ≡ n → ⊥) → T (not (eqb m n))
 ne-test m n h = not-T (eqb m n) (λ e. h (eqb→eq m n e))
 

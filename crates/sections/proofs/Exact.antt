@@ -1,0 +1,198 @@
+-- Read is exact (demand 2): it accepts exactly the files that follow the rules, and returns their identity and their events' records.
+-- Forth by proofs/Forth.antt, back by proofs/Back.antt. Assumes nothing.
+use mathlib.Core.Path.{_≡_, refl, sym, ap, ap₂, subst, _∙_}
+use mathlib.Core.Logic.{_↔_, ⊎-elim}
+use Prim.Native.Nat.{ℕ, _*_, _≤_}
+use native.Mathlib.Omega.{arith}
+use mathlib.Core.List.{List, [], _∷_, map, flatten}
+use lib.Dec.{T}
+use lib.ListN.{length}
+use Rattle.eit.specs.Sizes.{Sizes}
+use Rattle.eit.specs.Limits.{baseMost}
+use Rattle.eit.specs.Fields.{Bytes}
+use Rattle.eit.specs.Overwrite.{overwrite}
+use Rattle.eit.specs.Records.{recordSize, recordsOf, numbersOfAll}
+use Rattle.eit.specs.declared.Identity.{Identity}
+use Rattle.eit.specs.declared.Record.{Record}
+use Rattle.eit.proofs.Test.{le-or-lt}
+use Rattle.eit.proofs.Records.{records-written}
+use Rattle.sections.specs.Every.{Every}
+use Rattle.sections.specs.Segment.{tableMost}
+use Rattle.sections.specs.Section.{Section, sectionEvents}
+use Rattle.sections.specs.Encode.{sectionBytes, fileBytes}
+use Rattle.sections.specs.Decode.{statedSectionSize, sectionIn, cutFile, cutSections}
+use Rattle.sections.specs.Rules.{IdentityRules, SectionRules, Rules}
+use Rattle.sections.specs.JudgeEvents.{areNew}
+use Rattle.sections.specs.Walk.{atStart}
+use Rattle.sections.specs.Read.{identityOf, Answer, success, checkFile, Reading, fileRecords, read}
+use Rattle.sections.specs.Places.{recordsFrom}
+use Rattle.sections.specs.Exact.{FollowsRules, readingOf}
+use Rattle.sections.proofs.Cut.{Stated, cut-joined, cut-back}
+use Rattle.sections.proofs.Order.{InOrder, seen-length, new-order, order-new}
+use Rattle.sections.proofs.Walk.{behindAll}
+use Rattle.sections.proofs.SectionBack.{section-back, section-stated}
+use Rattle.sections.proofs.Read.{accepted, check-succeeds, check-succeeded, read-short, read-succeeds, read-agrees}
+use Rattle.sections.proofs.Forth.{shown-seen, shown-new, shown-few, All, all-forth}
+use Rattle.sections.proofs.Back.{Accepts, all-back}
+use Rattle.sections.proofs.Places.{records-count}
+
+-- ---- cutting and joining
+
+pub file-joined : (file : List ℕ) → flatten (cutFile file) ≡ file
+unfolding cutFile
+file-joined file = cut-joined statedSectionSize (λ bs. omega arith) file
+
+sections-are : (base : ℕ) (file : List ℕ) → cutSections base file ≡ map (sectionIn base) (cutFile file)
+unfolding cutSections
+sections-are base file = refl
+
+bytes-are : (base : ℕ) (ss : List Section) → fileBytes base ss ≡ flatten (map (sectionBytes base) ss)
+unfolding fileBytes
+bytes-are base ss = refl
+
+records-are : (base : ℕ) (file : List ℕ) → fileRecords base file ≡ recordsFrom 0 (cutSections base file)
+unfolding fileRecords
+records-are base file = refl
+
+-- the events that the walk has seen are those of the sections
+seen-count : (base : ℕ) (file : List ℕ) → length (behindAll base atStart (cutFile file) .seen) ≡ length (fileRecords base file)
+seen-count base file =
+    let ss : List Section = map (sectionIn base) (cutFile file) in
+    ap length (shown-seen base atStart (cutFile file))
+    ∙ seen-length (sectionEvents ss) []
+    ∙ omega (arith, records-count 0 ss, ap length (records-are base file), ap (λ (ts : List Section). length (recordsFrom 0 ts)) (sections-are base file))
+
+-- ---- forth
+
+module _ (sizes : Sizes) (base : ℕ) (file : List ℕ) where
+  -- the identity that check returns, and how many events
+  pub accepted-answer : checkFile sizes base file .number ≡ 0
+      → checkFile sizes base file ≡ success (checkFile sizes base file .identity) (length (fileRecords base file))
+  accepted-answer zero =
+      let (legal, all, complete) = check-succeeded sizes base file zero in
+      let is : checkFile sizes base file ≡ accepted sizes base file = check-succeeds sizes base file legal all complete in
+      is ∙ ap₂ success (sym (ap (λ (a : Answer). a .identity) is)) (seen-count base file)
+
+  pub accepted-follows : Bytes file → checkFile sizes base file .number ≡ 0
+      → FollowsRules sizes base file (checkFile sizes base file .identity) (fileRecords base file)
+  accepted-follows bytes zero =
+      let xs : List (List ℕ) = cutFile file in
+      let ss : List Section = map (sectionIn base) xs in
+      let (legal, all, complete) = check-succeeded sizes base file zero in
+      let is : checkFile sizes base file ≡ accepted sizes base file = check-succeeds sizes base file legal all complete in
+      let same : checkFile sizes base file .identity ≡ identityOf (behindAll base atStart xs .before) = ap (λ (a : Answer). a .identity) is in
+      let every : All sizes base xs (identityOf (behindAll base atStart xs .before)) =
+      all-forth sizes base xs (rw (file-joined file) bytes) all complete in
+      let order : InOrder (sectionEvents ss) =
+      new-order [] (sectionEvents ss) (record { rises = tt; differ = tt }) (shown-new sizes base atStart xs all) in
+      rw same (record {
+        sections = ss;
+        rules =
+            record {
+              identityRules = every .identityRules;
+              lastTableId = every .lastTableId;
+              lastTable = every .lastTable;
+              sections = every .rules;
+              ordered = every .ordered;
+              rises = order .rises;
+              differ = order .differ;
+              few = omega (arith, shown-few sizes base atStart xs (omega arith) all);
+            };
+        bytes = bytes-are base ss ∙ ap flatten (every .bytes) ∙ file-joined file;
+        records = sym (records-are base file ∙ ap (recordsFrom 0) (sections-are base file));
+      })
+
+-- ---- back
+
+module _ (sizes : Sizes) (base : ℕ) (large : sizes .sectionBytes ≤ 4_096) (legal : base ≤ baseMost)
+    (identity : Identity) (lastTableId : ℕ) (known : IdentityRules identity) (most : lastTableId ≤ tableMost)
+  where
+    all-stated : (ss : List Section) → Every (SectionRules sizes identity lastTableId) ss
+        → Every (Stated statedSectionSize) (map (sectionBytes base) ss)
+    all-stated [] rules = tt
+    all-stated (s ∷ ss) rules =
+        (section-stated sizes base large legal identity lastTableId known most s (rules .0), all-stated ss (rules .1))
+
+    all-shown : (ss : List Section) → Every (SectionRules sizes identity lastTableId) ss
+        → map (sectionIn base) (map (sectionBytes base) ss) ≡ ss
+    all-shown [] rules = refl
+    all-shown (s ∷ ss) rules =
+        ap₂ (λ (t : Section) (ts : List Section). t ∷ ts)
+        (section-back sizes base large legal identity lastTableId known most s (rules .0)) (all-shown ss (rules .1))
+
+module _ (sizes : Sizes) (base : ℕ) (large : sizes .sectionBytes ≤ 4_096) (legal : base ≤ baseMost)
+    (identity : Identity) (ss : List Section) (rules : Rules sizes identity ss)
+  where
+    pub cut-file-back : cutFile (fileBytes base ss) ≡ map (sectionBytes base) ss
+    unfolding cutFile
+    cut-file-back =
+        ap cutFile (bytes-are base ss)
+        ∙ cut-back statedSectionSize (map (sectionBytes base) ss)
+        (all-stated sizes base large legal identity (rules .lastTableId) (rules .identityRules) (rules .lastTable) ss (rules .sections))
+
+    -- cutting the joined bytes of sections that keep the rules gives them back
+    pub cut-sections-back : cutSections base (fileBytes base ss) ≡ ss
+    cut-sections-back =
+        sections-are base (fileBytes base ss)
+        ∙ ap (map (sectionIn base)) cut-file-back
+        ∙ all-shown sizes base large legal identity (rules .lastTableId) (rules .identityRules) (rules .lastTable) ss (rules .sections)
+
+    pub follows-records : fileRecords base (fileBytes base ss) ≡ recordsFrom 0 ss
+    follows-records = records-are base (fileBytes base ss) ∙ ap (recordsFrom 0) cut-sections-back
+
+    pub follows-accepted : checkFile sizes base (fileBytes base ss) ≡ success identity (length (recordsFrom 0 ss))
+    follows-accepted =
+        let new : T (areNew [] (sectionEvents ss)) = order-new [] (sectionEvents ss) (record { rises = rules .rises; differ = rules .differ }) in
+        let accepts : Accepts sizes base identity atStart (cutFile (fileBytes base ss)) =
+        rw cut-file-back (all-back sizes base large legal identity (rules .lastTableId) (rules .identityRules) (rules .lastTable) ss (rules .sections) (rules .ordered) new (rules .few)) in
+        check-succeeds sizes base (fileBytes base ss) legal (accepts .all) (accepts .complete)
+        ∙ ap₂ success (accepts .same) (seen-count base (fileBytes base ss) ∙ ap length follows-records)
+
+    pub follows-read : (buffer : List ℕ) → sizes .eventLimit * recordSize ≤ length buffer
+        → read sizes base (fileBytes base ss) buffer ≡ readingOf buffer identity (recordsFrom 0 ss)
+    follows-read buffer enough =
+        let count : checkFile sizes base (fileBytes base ss) .count ≡ length (recordsFrom 0 ss) = ap (λ (a : Answer). a .count) follows-accepted in
+        let fits : checkFile sizes base (fileBytes base ss) .count * recordSize ≤ length buffer =
+        omega (arith, records-count 0 ss, rules .few) in
+        read-succeeds sizes base (fileBytes base ss) buffer (ap (λ (a : Answer). a .number) follows-accepted) fits
+        ∙ (λ i. record { answer = follows-accepted i; buffer = overwrite buffer 0 (numbersOfAll (follows-records i)) })
+
+-- ---- Read is exact
+
+module _ (sizes : Sizes) (base : ℕ) (file buffer : List ℕ) (identity : Identity) (rs : List Record) where
+  -- what Read returns and writes of a file that it accepts is what the file's bytes carry
+  read-follows : Bytes file → read sizes base file buffer ≡ readingOf buffer identity rs → FollowsRules sizes base file identity rs
+  read-follows bytes e =
+      let zero-says : read sizes base file buffer .answer .number ≡ 0 = ap (λ (r : Reading). r .answer .number) e in
+      let agrees : read sizes base file buffer .answer ≡ checkFile sizes base file =
+      read-agrees sizes base file buffer (λ says. omega arith) in
+      let zero : checkFile sizes base file .number ≡ 0 = sym (ap (λ (a : Answer). a .number) agrees) ∙ zero-says in
+      let fits : checkFile sizes base file .count * recordSize ≤ length buffer =
+      ⊎-elim (λ fits. fits)
+      (λ short.
+      let says : read sizes base file buffer .answer .number ≡ 27 =
+      ap (λ (r : Reading). r .answer .number) (read-short sizes base file buffer zero short) in
+      absurd (omega arith))
+      (le-or-lt (checkFile sizes base file .count * recordSize) (length buffer)) in
+      let count : length (fileRecords base file) ≡ length rs =
+      sym (ap (λ (a : Answer). a .count) (accepted-answer sizes base file zero))
+      ∙ sym (ap (λ (a : Answer). a .count) agrees)
+      ∙ ap (λ (r : Reading). r .answer .count) e in
+      let written : overwrite buffer 0 (numbersOfAll (fileRecords base file)) ≡ overwrite buffer 0 (numbersOfAll rs) =
+      sym (ap (λ (r : Reading). r .buffer) (read-succeeds sizes base file buffer zero fits)) ∙ ap (λ (r : Reading). r .buffer) e in
+      let records : fileRecords base file ≡ rs =
+      sym (records-written (fileRecords base file) buffer)
+      ∙ (λ i. recordsOf (record { buffer = written i; count = count i }))
+      ∙ records-written rs buffer in
+      let same : checkFile sizes base file .identity ≡ identity =
+      sym (ap (λ (a : Answer). a .identity) agrees) ∙ ap (λ (r : Reading). r .answer .identity) e in
+      subst (λ (qs : List Record). FollowsRules sizes base file identity qs) records
+      (subst (λ (i : Identity). FollowsRules sizes base file i (fileRecords base file)) same (accepted-follows sizes base file bytes zero))
+
+  -- demand 2: for every legal base day and every file of bytes, with a record buffer that the largest list fits in
+  pub read-exact : sizes .sectionBytes ≤ 4_096 → base ≤ baseMost → Bytes file → sizes .eventLimit * recordSize ≤ length buffer
+      → (read sizes base file buffer ≡ readingOf buffer identity rs) ↔ FollowsRules sizes base file identity rs
+  read-exact large legal bytes enough = (
+    read-follows bytes,
+    λ f. rw (← f .bytes, ← f .records) (follows-read sizes base large legal identity (f .sections) (f .rules) buffer enough),
+  )

@@ -1,0 +1,70 @@
+-- The records of a file that follows the rules are a sound list with the file as day pool, and its events are the sections': each
+-- part of soundness is a rule, or a law of Places. Assumes nothing.
+use mathlib.Core.Path.{_≡_}
+use Prim.Native.Nat.{ℕ, _*_, _≤_}
+use native.Mathlib.Omega.{arith}
+use mathlib.Core.List.{List, [], _∷_, append-nil}
+use lib.Dec.{T}
+use lib.ListN.{length}
+use Rattle.eit.specs.Sizes.{Sizes}
+use Rattle.eit.specs.Overwrite.{overwrite}
+use Rattle.eit.specs.Records.{EventList, recordSize, numbersOfAll}
+use Rattle.eit.specs.Events.{eventsIn}
+use Rattle.eit.specs.Sound.{allValid, sound, eventsOf}
+use Rattle.eit.specs.declared.Identity.{Identity}
+use Rattle.eit.specs.declared.Record.{Record}
+use Rattle.eit.proofs.Overwrite.{over-length}
+use Rattle.eit.proofs.Records.{records-written, numbers-length}
+use Rattle.eit.proofs.Sound.{RecordFacts, list-sound}
+use Rattle.sections.specs.Every.{Every}
+use Rattle.sections.specs.Section.{Section, sectionEvents}
+use Rattle.sections.specs.Encode.{fileBytes}
+use Rattle.sections.specs.Rules.{EventRules, SectionRules, Rules}
+use Rattle.sections.specs.Places.{recordsFrom, filePools}
+use Rattle.sections.proofs.Places.{records-count, records-ids, records-events, records-valid}
+
+-- the laws of Places, for sections with nothing around them
+module _ (base : ℕ) (ss : List Section) (series : List ℕ) where
+  whole-events : eventsIn (filePools (fileBytes base ss) series) (recordsFrom 0 ss) ≡ sectionEvents ss
+  whole-events = rw (append-nil (fileBytes base ss)) at (records-events base [] ss [] series)
+
+  whole-valid : Every (λ (s : Section). Every (EventRules (s .header)) (s .events)) ss
+      → T (allValid (filePools (fileBytes base ss) series) (recordsFrom 0 ss))
+  whole-valid = rw (append-nil (fileBytes base ss)) at (records-valid base [] ss [] series)
+
+event-rules : (sizes : Sizes) (identity : Identity) (lastTableId : ℕ) (ss : List Section)
+    → Every (SectionRules sizes identity lastTableId) ss
+    → Every (λ (s : Section). Every (EventRules (s .header)) (s .events)) ss
+event-rules sizes identity lastTableId [] r = tt
+event-rules sizes identity lastTableId (s ∷ ss) r = (r .0 .eventRules, event-rules sizes identity lastTableId ss (r .1))
+
+-- its events are the sections'
+pub file-events : (base : ℕ) (ss : List Section) (series buffer : List ℕ)
+    → eventsOf (filePools (fileBytes base ss) series)
+    (record { buffer = overwrite buffer 0 (numbersOfAll (recordsFrom 0 ss)); count = length (recordsFrom 0 ss) })
+    ≡ sectionEvents ss
+unfolding eventsOf
+file-events base ss series buffer =
+    rw (records-written (recordsFrom 0 ss) buffer) (whole-events base ss series)
+
+-- the records of a file that follows the rules are a sound list with the file as day pool, wherever they are written
+pub file-sound : (sizes : Sizes) (base : ℕ) (identity : Identity) (ss : List Section) (series buffer : List ℕ)
+    → Rules sizes identity ss
+    → length (recordsFrom 0 ss) * recordSize ≤ length buffer
+    → T (sound sizes (filePools (fileBytes base ss) series)
+    (record { buffer = overwrite buffer 0 (numbersOfAll (recordsFrom 0 ss)); count = length (recordsFrom 0 ss) }))
+file-sound sizes base identity ss series buffer rules fits =
+    let rs : List Record = recordsFrom 0 ss in
+    let list : EventList = record { buffer = overwrite buffer 0 (numbersOfAll rs); count = length rs } in
+    let facts : RecordFacts (filePools (fileBytes base ss) series) rs =
+    record {
+      valid = whole-valid base ss series (event-rules sizes identity (rules .lastTableId) ss (rules .sections));
+      rises = rw (whole-events base ss series) (rules .rises);
+      differ = rw (records-ids 0 ss) (rules .differ);
+    } in
+    list-sound sizes (filePools (fileBytes base ss) series) list
+    (record {
+      few = rw (records-count 0 ss) (rules .few);
+      held = rw (over-length buffer 0 (numbersOfAll rs) (omega (arith, numbers-length rs))) fits;
+      records = rw (records-written rs buffer) facts;
+    })

@@ -1,0 +1,137 @@
+-- A file that Read accepts follows the rules: each section that passes is the bytes of the section that it shows, and what the walk
+-- keeps of the sections before says what the rules say of the whole file. By induction over the sections. Assumes nothing.
+use mathlib.Core.Path.{_≡_, refl, sym, ap, _∙_, subst}
+use mathlib.Core.Option.{some}
+use Prim.Native.Nat.{ℕ, _+_, _≤_}
+use native.Mathlib.Omega.{arith}
+use mathlib.Core.List.{List, [], _∷_, _++_, map, flatten, reverse, reverse-append, append-assoc}
+use lib.Dec.{T, leb→le}
+use lib.ListN.{length, length-append, length-map}
+use Rattle.eit.specs.Sizes.{Sizes}
+use Rattle.eit.specs.Fields.{Bytes}
+use Rattle.eit.specs.Events.{Event}
+use Rattle.eit.specs.declared.Identity.{Identity}
+use Rattle.eit.proofs.Test.{tests}
+use Rattle.eit.proofs.Fields.{bytes-parts}
+use Rattle.sections.specs.Every.{Every}
+use Rattle.sections.specs.Segment.{tableMost}
+use Rattle.sections.specs.Section.{Header, Section, headersOf, sectionEvents}
+use Rattle.sections.specs.Encode.{sectionBytes}
+use Rattle.sections.specs.Decode.{headerIn, eventIn, cutEvents, sectionIn}
+use Rattle.sections.specs.Rules.{Numbered, Next, Succeeding, Ordered, IdentityRules, SectionRules}
+use Rattle.sections.specs.JudgeHeader.{isHeader, isInPlace}
+use Rattle.sections.specs.JudgeEvents.{areNew, isEventLoop, isWithinLimit}
+use Rattle.sections.specs.Walk.{Progress, atStart, behind}
+use Rattle.sections.specs.Read.{isComplete, identityOf}
+use Rattle.sections.proofs.SameFile.{same-file}
+use Rattle.sections.proofs.Numbering.{is-first, is-next, is-last}
+use Rattle.sections.proofs.Order.{seen-length, new-append}
+use Rattle.sections.proofs.Walk.{behindAll, AllPass}
+use Rattle.sections.proofs.SectionForth.{Shown, section-forth}
+
+-- the sections that pieces show
+abbrev pub shown : ℕ → List (List ℕ) → List Section
+shown base xs = map (sectionIn base) xs
+
+-- ---- the events
+
+pub shown-seen : (base : ℕ) (p : Progress) (xs : List (List ℕ))
+    → behindAll base p xs .seen ≡ reverse (sectionEvents (shown base xs)) ++ p .seen
+unfolding sectionEvents sectionIn
+shown-seen base p [] = refl
+shown-seen base p (bs ∷ rest) =
+    let es : List Event = map (eventIn base) (cutEvents bs) in
+    let fs : List Event = sectionEvents (shown base rest) in
+    shown-seen base (behind base p bs) rest
+    ∙ sym (append-assoc (reverse fs) (reverse es) (p .seen))
+    ∙ ap (λ (l : List Event). l ++ p .seen) (sym (reverse-append es fs))
+
+module _ (sizes : Sizes) (base : ℕ) where
+  pub shown-new : (p : Progress) (xs : List (List ℕ)) → AllPass sizes base p xs → T (areNew (p .seen) (sectionEvents (shown base xs)))
+  unfolding sectionEvents sectionIn isEventLoop
+  shown-new p [] all = tt
+  shown-new p (bs ∷ rest) all =
+      let es : List Event = map (eventIn base) (cutEvents bs) in
+      let loop = all .0 .loop in
+      new-append (p .seen) es (sectionEvents (shown base rest)) (search tests) (shown-new (behind base p bs) rest (all .1))
+
+  pub shown-few : (p : Progress) (xs : List (List ℕ)) → length (p .seen) ≤ sizes .eventLimit → AllPass sizes base p xs
+      → length (p .seen) + length (sectionEvents (shown base xs)) ≤ sizes .eventLimit
+  unfolding sectionEvents sectionIn isWithinLimit
+  shown-few p [] few all = omega arith
+  shown-few p (bs ∷ rest) few all =
+      let es : List Event = map (eventIn base) (cutEvents bs) in
+      let fs : List Event = sectionEvents (shown base rest) in
+      let count : length es ≡ length (cutEvents bs) = length-map (cutEvents bs) (eventIn base) in
+      let within : length (p .seen) + length (cutEvents bs) ≤ sizes .eventLimit = leb→le _ _ (all .0 .limit) in
+      let rest-few = shown-few (behind base p bs) rest (omega (arith, seen-length es (p .seen))) (all .1) in
+      omega (arith, length-append es fs, seen-length es (p .seen))
+
+  -- ---- the sections
+
+  same-rules : {i j : Identity} {m n : ℕ} (ss : List Section) → i ≡ j → m ≡ n → Every (SectionRules sizes i m) ss → Every (SectionRules sizes j n) ss
+  same-rules {j = j} {m = m} ss same last rules =
+      subst (λ (k : ℕ). Every (SectionRules sizes j k) ss) last (subst (λ (k : Identity). Every (SectionRules sizes k m) ss) same rules)
+
+  -- those behind a section g
+  pub record Behind (g : Header) (xs : List (List ℕ)) : Type 0 where
+    pub bytes : map (sectionBytes base) (shown base xs) ≡ xs
+    pub rules : Every (SectionRules sizes (g .identity) (g .lastTableId)) (shown base xs)
+    pub succeeding : Succeeding g (headersOf (shown base xs))
+
+  behind-forth : (offset : ℕ) (g : Header) (seen : List Event) (xs : List (List ℕ))
+      → Bytes (flatten xs)
+      → Numbered g
+      → AllPass sizes base (record { offset = offset; before = some g; seen = seen }) xs
+      → T (isComplete (behindAll base (record { offset = offset; before = some g; seen = seen }) xs .before))
+      → Behind g xs × (identityOf (behindAll base (record { offset = offset; before = some g; seen = seen }) xs .before) ≡ g .identity)
+  unfolding flatten isHeader isInPlace sectionIn
+  behind-forth offset g seen [] bytes numbered all complete =
+      (record { bytes = refl; rules = tt; succeeding = is-last g complete }, refl)
+  behind-forth offset g seen (bs ∷ rest) bytes numbered all complete =
+      let p : Progress = record { offset = offset; before = some g; seen = seen } in
+      let h : Header = headerIn bs in
+      let (first, others) = bytes-parts bs (flatten rest) bytes in
+      let this : Shown sizes base bs = section-forth sizes base p bs first (all .0) in
+      let header = all .0 .header in
+      let place = all .0 .place in
+      let (sameIdentity, sameLast) = same-file g h (search tests) in
+      let next : Next g h = is-next g h numbered (search tests) in
+      let q : Progress = behind base p bs in
+      let (behind, identity) = behind-forth (q .offset) h (q .seen) rest others (this .rules .headerRules .numbered) (all .1) complete in (
+        record {
+          bytes = λ i. this .bytes i ∷ behind .bytes i;
+          rules = same-rules (shown base (bs ∷ rest)) sameIdentity sameLast (this .rules, behind .rules);
+          succeeding = (next, behind .succeeding);
+        },
+        identity ∙ sameIdentity,
+      )
+
+  -- all of them
+  pub record All (xs : List (List ℕ)) (identity : Identity) : Type 0 where
+    pub bytes : map (sectionBytes base) (shown base xs) ≡ xs
+    pub identityRules : IdentityRules identity
+    pub lastTableId : ℕ
+    pub lastTable : lastTableId ≤ tableMost
+    pub rules : Every (SectionRules sizes identity lastTableId) (shown base xs)
+    pub ordered : Ordered (headersOf (shown base xs))
+
+  pub all-forth : (xs : List (List ℕ)) → Bytes (flatten xs) → AllPass sizes base atStart xs → T (isComplete (behindAll base atStart xs .before))
+      → All xs (identityOf (behindAll base atStart xs .before))
+  unfolding flatten isInPlace sectionIn
+  all-forth [] bytes all complete = absurd complete
+  all-forth (bs ∷ rest) bytes all complete =
+      let h : Header = headerIn bs in
+      let (first, others) = bytes-parts bs (flatten rest) bytes in
+      let this : Shown sizes base bs = section-forth sizes base atStart bs first (all .0) in
+      let place = all .0 .place in
+      let q : Progress = behind base atStart bs in
+      let (behind, identity) = behind-forth (q .offset) h (q .seen) rest others (this .rules .headerRules .numbered) (all .1) complete in
+      rw identity (record {
+        bytes = λ i. this .bytes i ∷ behind .bytes i;
+        identityRules = this .identityRules;
+        lastTableId = h .lastTableId;
+        lastTable = this .lastTable;
+        rules = (this .rules, behind .rules);
+        ordered = (is-first h (search tests), behind .succeeding);
+      })

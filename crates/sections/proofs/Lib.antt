@@ -1,0 +1,38 @@
+-- how long the bytes of events, sections and files are
+pub mod Lengths
+-- bytes cut into pieces, and pieces joined
+pub mod Cut
+-- a field of any width at any place
+pub mod FieldBytes
+-- one event and its bytes
+pub mod EventBytes
+-- an event loop and its bytes
+pub mod EventLoop
+-- a section's header and its bytes
+pub mod HeaderBytes
+-- Read's test of identity and last_table_id
+pub mod SameFile
+-- Read's tests of numbering and the rules
+pub mod Numbering
+-- Read's look-back at starts and ids, and the rules
+pub mod Order
+-- what it means that Read's walk passes
+pub mod Walk
+-- a section that passes is the bytes of one that keeps the rules
+pub mod SectionForth
+-- and one that keeps the rules passes
+pub mod SectionBack
+-- when check and Read succeed, and what they return and leave
+pub mod Read
+-- an accepted file follows the rules
+pub mod Forth
+-- and a file that follows the rules is accepted
+pub mod Back
+-- Read is exact
+pub mod Exact
+-- a file's records are its sections' events
+pub mod Places
+-- and a sound list
+pub mod FileSound
+-- the examples, computed
+pub mod Examples

@@ -1,0 +1,187 @@
+-- When check and Read succeed, what they return and leave, and where they differ: by the cases of their definitions.
+-- Assumes nothing.
+use mathlib.Core.Path.{_≡_, refl, sym, ap, _∙_}
+use mathlib.Core.Bool.{Bool, true, false}
+use mathlib.Core.Logic.{_⊎_, inl, inr, ⊎-elim, _↔_}
+use Prim.Native.Nat.{ℕ, _*_, _≤_, _<_}
+use native.Mathlib.Omega.{arith}
+use mathlib.Core.List.{List, [], _∷_}
+use borrow.Author.Tests.{le-leb, lt-leb, eq-eqb, ne-eqb}
+use lib.Dec.{T, eqb, eqb→eq, T-not}
+use lib.ListN.{length}
+use Rattle.eit.specs.Sizes.{Sizes}
+use Rattle.eit.specs.Limits.{baseMost}
+use Rattle.eit.specs.Overwrite.{overwrite}
+use Rattle.eit.specs.Records.{recordSize, numbersOfAll}
+use Rattle.eit.proofs.Test.{true-is, false-is, test-or, le-or-lt, eq-test}
+use Rattle.eit.specs.declared.Record.{Record}
+use Rattle.sections.specs.Decode.{headerIn, cutFile}
+use Rattle.sections.specs.JudgeHeader.{isFramed, isClosed, isHeader, isInPlace}
+use Rattle.sections.specs.JudgeEvents.{isEventLoop, isWithinLimit}
+use Rattle.sections.specs.Walk.{Progress, atStart, Verdict, passed, refused, check, step, walk}
+use Rattle.sections.specs.Read.{isComplete, identityOf, Answer, success, refusal, atEnd, checkFile, Reading, fileRecords, fill, read}
+use Rattle.sections.proofs.Walk.{behindAll, AllPass, walk-passes, walk-passed}
+
+-- ---- the numbers of a walk
+
+-- a refusal of a section has a number from 20 to 26
+abbrev Numbers : Verdict → Type 0
+Numbers (passed p) = Unit {0}
+Numbers (refused number offset) = (20 ≤ number) × (number ≤ 26)
+
+check-numbers : (b : Bool) (number offset : ℕ) (next : Verdict) → 20 ≤ number → number ≤ 26 → Numbers next → Numbers (check b number offset next)
+check-numbers true number offset next low high rest = rest
+check-numbers false number offset next low high rest = (low, high)
+
+module _ (sizes : Sizes) (base : ℕ) where
+  step-numbers : (p : Progress) (bs : List ℕ) → Numbers (step sizes base p bs)
+  unfolding step
+  step-numbers p bs =
+      check-numbers (isFramed sizes bs) 20 (p .offset) _ (omega arith) (omega arith)
+      (check-numbers (isClosed bs) 21 (p .offset) _ (omega arith) (omega arith)
+      (check-numbers (isHeader (p .before) bs) 22 (p .offset) _ (omega arith) (omega arith)
+      (check-numbers (isInPlace (p .before) (headerIn bs)) 23 (p .offset) _ (omega arith) (omega arith)
+      (check-numbers (isEventLoop base (p .seen) bs) 24 (p .offset) _ (omega arith) (omega arith)
+      (check-numbers (isWithinLimit sizes (p .seen) bs) 26 (p .offset) _ (omega arith) (omega arith) tt)))))
+
+  after-numbers : (v : Verdict) (rest : List (List ℕ)) → Numbers v → ((q : Progress) → Numbers (walk sizes base q rest))
+      → Numbers (elim v [ passed next ↦ walk sizes base next rest | refused number offset ↦ refused number offset ])
+  after-numbers (passed next) rest first all = all next
+  after-numbers (refused number offset) rest first all = first
+
+  walk-numbers : (p : Progress) (xs : List (List ℕ)) → Numbers (walk sizes base p xs)
+  unfolding walk
+  walk-numbers p [] = tt
+  walk-numbers p (bs ∷ rest) = after-numbers (step sizes base p bs) rest (step-numbers p bs) (λ q. walk-numbers q rest)
+
+-- ---- check
+
+end-complete : (size : ℕ) (p : Progress) → T (isComplete (p .before))
+    → atEnd size (passed p) ≡ success (identityOf (p .before)) (length (p .seen))
+end-complete size p t = rw (atEnd, true-is (isComplete (p .before)) t)
+
+end-succeeded : (size : ℕ) (v : Verdict) → Numbers v → atEnd size v .number ≡ 0
+    → (p : Progress) × (v ≡ passed p) × T (isComplete (p .before))
+end-succeeded size (refused number offset) numbers zero = absurd (omega arith)
+end-succeeded size (passed p) numbers zero =
+    ⊎-elim (λ t. (p, refl, t))
+    (λ t. let never : _≡_ {A = ℕ} 25 0 = rw (atEnd, false-is (isComplete (p .before)) t) at zero in absurd (omega arith))
+    (test-or (isComplete (p .before)))
+
+module _ (sizes : Sizes) (base : ℕ) where
+  -- the file is complete behind all of its sections
+  abbrev pub Complete : List ℕ → Type 0
+  Complete file = T (isComplete (behindAll base atStart (cutFile file) .before))
+
+  -- what check returns of a file that it accepts
+  abbrev pub accepted : List ℕ → Answer
+  accepted file =
+      let end = behindAll base atStart (cutFile file) in
+      success (identityOf (end .before)) (length (end .seen))
+
+  pub check-succeeds : (file : List ℕ) → base ≤ baseMost → AllPass sizes base atStart (cutFile file) → Complete file
+      → checkFile sizes base file ≡ accepted file
+  unfolding checkFile
+  check-succeeds file legal all complete =
+      rw (checkFile, le-leb base baseMost legal)
+      (ap (atEnd (length file)) (walk-passes sizes base atStart (cutFile file) all)
+      ∙ end-complete (length file) (behindAll base atStart (cutFile file)) complete)
+
+  pub check-succeeded : (file : List ℕ) → checkFile sizes base file .number ≡ 0
+      → (base ≤ baseMost) × AllPass sizes base atStart (cutFile file) × Complete file
+  unfolding checkFile
+  check-succeeded file zero =
+      ⊎-elim
+      (λ legal.
+      let ended : atEnd (length file) (walk sizes base atStart (cutFile file)) .number ≡ 0 = rw (checkFile, le-leb base baseMost legal) at zero in
+      let (p, is, complete) = end-succeeded (length file) (walk sizes base atStart (cutFile file)) (walk-numbers sizes base atStart (cutFile file)) ended in
+      let (all, end) = walk-passed sizes base atStart p (cutFile file) is in
+      (legal, all, rw end complete))
+      (λ above. let never : _≡_ {A = ℕ} 1 0 = rw (checkFile, lt-leb base baseMost above) at zero in absurd (omega arith))
+      (le-or-lt base baseMost)
+
+end-numbers : (size : ℕ) (v : Verdict) → Numbers v → atEnd size v .number ≤ 26
+end-numbers size (refused number offset) numbers = numbers .1
+end-numbers size (passed p) numbers =
+    ⊎-elim (λ t. rw (atEnd, true-is (isComplete (p .before)) t) (omega arith))
+    (λ t. rw (atEnd, false-is (isComplete (p .before)) t) (omega arith))
+    (test-or (isComplete (p .before)))
+
+-- a call that reads a file without a record buffer never says 27
+pub check-numbers-most : (sizes : Sizes) (base : ℕ) (file : List ℕ) → checkFile sizes base file .number ≤ 26
+unfolding checkFile
+check-numbers-most sizes base file =
+    ⊎-elim
+    (λ legal. rw (checkFile, le-leb base baseMost legal) (end-numbers (length file) (walk sizes base atStart (cutFile file)) (walk-numbers sizes base atStart (cutFile file))))
+    (λ above. rw (checkFile, lt-leb base baseMost above) (omega arith))
+    (le-or-lt base baseMost)
+
+-- 1 before all
+pub check-base : (sizes : Sizes) (base : ℕ) (file : List ℕ) → baseMost < base → checkFile sizes base file ≡ refusal 1 0
+unfolding checkFile
+check-base sizes base file above = rw (checkFile, lt-leb base baseMost above)
+
+-- ---- Read
+
+module _ (buffer : List ℕ) (rs : List Record) (answer : Answer) where
+  fill-refused : (answer .number ≡ 0 → ⊥) → fill buffer rs answer ≡ record { answer = answer; buffer = buffer }
+  fill-refused some = rw (fill, ne-eqb (answer .number) 0 some)
+
+  fill-short : answer .number ≡ 0 → length buffer < answer .count * recordSize
+      → fill buffer rs answer ≡ record { answer = refusal 27 (answer .count); buffer = buffer }
+  fill-short zero short =
+      rw (fill, eq-eqb (answer .number) 0 zero, lt-leb (answer .count * recordSize) (length buffer) short)
+
+  fill-succeeds : answer .number ≡ 0 → answer .count * recordSize ≤ length buffer
+      → fill buffer rs answer ≡ record { answer = answer; buffer = overwrite buffer 0 (numbersOfAll rs) }
+  fill-succeeds zero fits =
+      rw (fill, eq-eqb (answer .number) 0 zero, le-leb (answer .count * recordSize) (length buffer) fits)
+
+module _ (sizes : Sizes) (base : ℕ) (file buffer : List ℕ) where
+  pub read-refused : (checkFile sizes base file .number ≡ 0 → ⊥)
+      → read sizes base file buffer ≡ record { answer = checkFile sizes base file; buffer = buffer }
+  unfolding read
+  read-refused some = fill-refused buffer (fileRecords base file) (checkFile sizes base file) some
+
+  pub read-short : checkFile sizes base file .number ≡ 0 → length buffer < checkFile sizes base file .count * recordSize
+      → read sizes base file buffer ≡ record { answer = refusal 27 (checkFile sizes base file .count); buffer = buffer }
+  unfolding read
+  read-short zero short = fill-short buffer (fileRecords base file) (checkFile sizes base file) zero short
+
+  pub read-succeeds : checkFile sizes base file .number ≡ 0 → checkFile sizes base file .count * recordSize ≤ length buffer
+      → read sizes base file buffer
+      ≡ record { answer = checkFile sizes base file; buffer = overwrite buffer 0 (numbersOfAll (fileRecords base file)) }
+  unfolding read
+  read-succeeds zero fits = fill-succeeds buffer (fileRecords base file) (checkFile sizes base file) zero fits
+
+  -- Read says what check says, or 27 of an accepted file whose records do not fit the record buffer
+  read-cases : (read sizes base file buffer .answer ≡ checkFile sizes base file)
+      ⊎ ((checkFile sizes base file .number ≡ 0) × (length buffer < checkFile sizes base file .count * recordSize))
+  read-cases =
+      ⊎-elim
+      (λ t.
+      let zero : checkFile sizes base file .number ≡ 0 = eqb→eq (checkFile sizes base file .number) 0 t in
+      ⊎-elim (λ fits. inl (ap (λ (r : Reading). r .answer) (read-succeeds zero fits))) (λ short. inr (zero, short))
+      (le-or-lt (checkFile sizes base file .count * recordSize) (length buffer)))
+      (λ t. inl (ap (λ (r : Reading). r .answer) (read-refused (λ zero. T-not (eqb (checkFile sizes base file .number) 0) t (eq-test (checkFile sizes base file .number) 0 zero)))))
+      (test-or (eqb (checkFile sizes base file .number) 0))
+
+  -- check and Read agree in all but 27
+  pub read-agrees : (read sizes base file buffer .answer .number ≡ 27 → ⊥) → read sizes base file buffer .answer ≡ checkFile sizes base file
+  read-agrees other =
+      ⊎-elim (λ same. same)
+      (λ c. absurd (other (ap (λ (r : Reading). r .answer .number) (read-short (c .0) (c .1)))))
+      read-cases
+
+  -- and Read says 27 exactly of a file that check accepts and whose records do not fit
+  pub read-says-27 : (read sizes base file buffer .answer .number ≡ 27)
+      ↔ ((checkFile sizes base file .number ≡ 0) × (length buffer < checkFile sizes base file .count * recordSize))
+  read-says-27 = (
+    λ is. ⊎-elim
+        (λ same.
+        let check-27 : checkFile sizes base file .number ≡ 27 = sym (ap (λ (a : Answer). a .number) same) ∙ is in
+        absurd (omega (arith, check-numbers-most sizes base file)))
+        (λ c. c)
+        read-cases,
+    λ c. ap (λ (r : Reading). r .answer .number) (read-short (c .0) (c .1)),
+  )

@@ -1,0 +1,209 @@
+-- Sections that keep the rules come back from their bytes, which state their own length and pass Read's tests: header, event loop and
+-- the four bytes of CRC_32 each by its own law. Assumes nothing.
+use mathlib.Core.Path.{_≡_, refl, sym, ap, subst, _∙_}
+use mathlib.Core.Bool.{_&&_}
+use mathlib.Core.Option.{Option, some}
+use Prim.Native.Nat.{ℕ, _+_, _-_, _≤_}
+use native.Mathlib.Omega.{arith}
+use mathlib.Core.List.{List, [], _∷_, _++_, map, reverse, append-assoc, append-nil}
+use lib.Dec.{T, eqb, leb, le→leb}
+use lib.ListN.{length, take, drop, length-map}
+use lib.Seq.{take-at, drop-at}
+use Rattle.eit.specs.Sizes.{Sizes, sectionOverhead}
+use Rattle.eit.specs.Limits.{baseMost}
+use Rattle.eit.specs.Fields.{Bytes, bigEndian}
+use Rattle.eit.specs.Crc.{crc32}
+use Rattle.eit.specs.Events.{Event}
+use Rattle.eit.specs.declared.Identity.{Identity}
+use Rattle.eit.proofs.Test.{tests, eq-test, and-both}
+use Rattle.eit.proofs.Fields.{bytes-append}
+use Rattle.eit.proofs.Crc.{closed}
+use Rattle.sections.specs.Every.{Every}
+use Rattle.sections.specs.Segment.{tableLeast, tableMost}
+use Rattle.sections.specs.Section.{Header, Section, headerSize, eventSizes, sectionSize}
+use Rattle.sections.specs.Cut.{cut}
+use Rattle.sections.specs.Encode.{eventBytes, headerBytes, eventLoopBytes, coveredBytes, sectionBytes}
+use Rattle.sections.specs.Decode.{statedEventSize, eventIn, statedSectionSize, headerIn, eventLoop, cutEvents, sectionIn}
+use Rattle.sections.specs.Rules.{Alone, IdentityRules, EventRules, SectionRules}
+use Rattle.sections.specs.JudgeHeader.{isTable, isFramed, isClosed, hasFixedBits, isSameFile, isHeader, isNumbered, isNext, isInPlace}
+use Rattle.sections.specs.JudgeEvents.{isFilledOrAlone, areEvents, areNew, isEventLoop, isWithinLimit}
+use Rattle.sections.specs.Walk.{Progress, behind}
+use Rattle.sections.proofs.Lengths.{loop-length, header-length, section-length}
+use Rattle.sections.proofs.Cut.{Stated}
+use Rattle.sections.proofs.EventBytes.{Short}
+use Rattle.sections.proofs.EventLoop.{loop-bytes, loop-cut, sizes-short, events-back, events-are}
+use Rattle.sections.proofs.HeaderBytes.{HeaderFits, rules-fit, header-bytes, header-back, header-stated, header-fixed}
+use Rattle.sections.proofs.Numbering.{numbered-is, alone-is}
+use Rattle.sections.proofs.Walk.{Passes}
+
+-- the four bytes behind the event loop
+abbrev closing : ℕ → Section → List ℕ
+closing base s = bigEndian 4 (crc32 (coveredBytes base s))
+
+-- a section in its two and in its three parts
+section-is : (base : ℕ) (s : Section) → sectionBytes base s ≡ coveredBytes base s ++ closing base s
+unfolding sectionBytes
+section-is base s = refl
+
+covered-is : (base : ℕ) (s : Section)
+    → coveredBytes base s ≡ headerBytes (sectionSize s) (s .header) ++ eventLoopBytes base (s .events)
+unfolding coveredBytes
+covered-is base s = refl
+
+section-parts : (base : ℕ) (s : Section)
+    → sectionBytes base s ≡ headerBytes (sectionSize s) (s .header) ++ (eventLoopBytes base (s .events) ++ closing base s)
+section-parts base s =
+    section-is base s
+    ∙ ap (λ (ds : List ℕ). ds ++ closing base s) (covered-is base s)
+    ∙ append-assoc (headerBytes (sectionSize s) (s .header)) (eventLoopBytes base (s .events)) (closing base s)
+
+chains-bytes : (h : Header) (es : List Event) → Every (EventRules h) es → Every (λ (e : Event). Bytes (e .chain)) es
+chains-bytes h [] rules = tt
+chains-bytes h (e ∷ es) rules = (rules .0 .bytes, chains-bytes h es (rules .1))
+
+alone-back : (base : ℕ) (h : Header) (es : List Event) → (es ≡ [] → Alone h) → T (isFilledOrAlone h (map (eventBytes base) es))
+alone-back base h [] alone = alone-is h (alone refl)
+alone-back base h (e ∷ es) alone = tt
+
+-- a section that keeps the rules, in a file whose identity and last_table_id do
+module _ (sizes : Sizes) (base : ℕ) (large : sizes .sectionBytes ≤ 4_096) (legal : base ≤ baseMost)
+    (identity : Identity) (lastTableId : ℕ) (known : IdentityRules identity) (most : lastTableId ≤ tableMost)
+    (s : Section) (rules : SectionRules sizes identity lastTableId s)
+  where
+    fits : HeaderFits (s .header)
+    fits = rules-fit identity lastTableId (s .header) known most (rules .headerRules)
+
+    short : Every Short (s .events)
+    short = sizes-short (s .events) (omega (arith, rules .size))
+
+    pub section-header : headerIn (sectionBytes base s) ≡ s .header
+    section-header = ap headerIn (section-parts base s) ∙ header-back (sectionSize s) (s .header) _ fits
+
+    loop-back : eventLoop (sectionBytes base s) ≡ eventLoopBytes base (s .events)
+    loop-back =
+        let size : length (sectionBytes base s) - sectionOverhead ≡ eventSizes (s .events) = omega (arith, section-length base s) in
+        ap (λ (n : ℕ). take n (drop headerSize (sectionBytes base s))) size
+        ∙ ap (take (eventSizes (s .events)))
+        (ap (drop headerSize) (section-parts base s)
+        ∙ drop-at (headerBytes (sectionSize s) (s .header)) (eventLoopBytes base (s .events) ++ closing base s) headerSize
+        (header-length (sectionSize s) (s .header)))
+        ∙ take-at (eventLoopBytes base (s .events)) (closing base s) (eventSizes (s .events)) (loop-length base (s .events))
+
+    cut-events : cutEvents (sectionBytes base s) ≡ map (eventBytes base) (s .events)
+    unfolding cutEvents
+    cut-events = ap (cut statedEventSize) loop-back ∙ loop-cut base (s .events) short
+
+    events-shown : map (eventIn base) (cutEvents (sectionBytes base s)) ≡ s .events
+    events-shown = ap (map (eventIn base)) cut-events ∙ events-back base legal (s .header) (s .events) (rules .eventRules) short
+
+    -- its bytes show the section
+    pub section-back : sectionIn base (sectionBytes base s) ≡ s
+    unfolding sectionIn
+    section-back = λ i. record { header = section-header i; events = events-shown i }
+
+    -- and state how many they are
+    pub section-stated : Stated statedSectionSize (sectionBytes base s)
+    section-stated =
+        let size : length (sectionBytes base s) ≡ sectionSize s = section-length base s in
+        record {
+          some = omega arith;
+          stated =
+              λ rest.
+              ap statedSectionSize
+              (ap (λ (ds : List ℕ). ds ++ rest) (section-parts base s)
+              ∙ append-assoc (headerBytes (sectionSize s) (s .header)) (eventLoopBytes base (s .events) ++ closing base s) rest)
+              ∙ header-stated (sectionSize s) (s .header) _ (omega arith) (omega (arith, rules .size))
+              ∙ sym size;
+        }
+
+    -- ---- the tests
+
+    framed : T (isFramed sizes (sectionBytes base s))
+    unfolding isFramed
+    framed =
+        let bs : List ℕ = sectionBytes base s in
+        let size : length bs ≡ sectionSize s = section-length base s in
+        let stated : statedSectionSize bs ≡ length bs = rw (append-nil bs) at (section-stated .stated []) in
+        let table : headerIn bs .tableId ≡ s .header .tableId = ap (λ (h : Header). h .tableId) section-header in
+        let whole : T (eqb (length bs) (statedSectionSize bs)) = eq-test _ _ (sym stated) in
+        let least : T (leb sectionOverhead (length bs)) = le→leb sectionOverhead (length bs) (omega arith) in
+        let most-bytes : T (leb (length bs) (sizes .sectionBytes)) = le→leb (length bs) (sizes .sectionBytes) (omega (arith, rules .size)) in
+        let low : T (leb tableLeast (headerIn bs .tableId)) = le→leb tableLeast (headerIn bs .tableId) (omega (arith, rules .headerRules .least)) in
+        let high : T (leb (headerIn bs .tableId) tableMost) = le→leb (headerIn bs .tableId) tableMost (omega (arith, rules .headerRules .most)) in
+        search tests
+
+    closes : T (isClosed (sectionBytes base s))
+    unfolding isClosed
+    closes =
+        let covered : Bytes (coveredBytes base s) =
+        rw (covered-is base s)
+        (bytes-append (headerBytes (sectionSize s) (s .header)) (eventLoopBytes base (s .events))
+        (header-bytes (sectionSize s) (s .header))
+        (loop-bytes base (s .events) (chains-bytes (s .header) (s .events) (rules .eventRules)))) in
+        eq-test (crc32 (sectionBytes base s)) 0 (ap crc32 (section-is base s) ∙ closed (coveredBytes base s) covered)
+
+    fixed : T (hasFixedBits (sectionBytes base s))
+    fixed = rw (section-parts base s) (header-fixed (sectionSize s) (s .header) _ (omega arith) (omega (arith, rules .size)) (fits .identityRules .version))
+
+    header-passes : (before : Option Header) → T (isSameFile before (s .header)) → T (isHeader before (sectionBytes base s))
+    unfolding isHeader
+    header-passes before same =
+        let lastTable : T (isTable (s .header .lastTableId)) =
+        and-both (leb tableLeast (s .header .lastTableId)) (leb (s .header .lastTableId) tableMost)
+        (le→leb tableLeast (s .header .lastTableId) (omega (arith, rules .headerRules .least, rules .headerRules .most, rules .headerRules .sameLastTable)))
+        (le→leb (s .header .lastTableId) tableMost (omega (arith, rules .headerRules .sameLastTable))) in
+        and-both (hasFixedBits (sectionBytes base s)) _ fixed
+        (subst (λ (h : Header). T (isTable (h .lastTableId) && isSameFile before h)) (sym section-header)
+        (and-both (isTable (s .header .lastTableId)) (isSameFile before (s .header)) lastTable same))
+
+    place-passes : (before : Option Header) → T (isNext before (s .header)) → T (isInPlace before (headerIn (sectionBytes base s)))
+    unfolding isInPlace
+    place-passes before next =
+        let numbered : T (isNumbered (s .header)) = numbered-is (s .header) (rules .headerRules .numbered) in
+        let table : T (leb (s .header .tableId) (s .header .lastTableId)) =
+        le→leb (s .header .tableId) (s .header .lastTableId) (omega (arith, rules .headerRules .most, rules .headerRules .sameLastTable)) in
+        subst (λ (h : Header). T (isInPlace before h)) (sym section-header) (search tests)
+
+    loop-passes : (seen : List Event) → T (areNew seen (s .events)) → T (isEventLoop base seen (sectionBytes base s))
+    unfolding isEventLoop
+    loop-passes seen new =
+        let events : T (areEvents base (s .header) (map (eventBytes base) (s .events))) =
+        events-are base legal (s .header) (s .events) (rules .eventRules) short in
+        let alone : T (isFilledOrAlone (s .header) (map (eventBytes base) (s .events))) =
+        alone-back base (s .header) (s .events) (rules .alone) in
+        rw (section-header, events-shown, cut-events) (search tests)
+
+    limit-passes : (seen : List Event) → length seen + length (s .events) ≤ sizes .eventLimit
+        → T (isWithinLimit sizes seen (sectionBytes base s))
+    unfolding isWithinLimit
+    limit-passes seen few =
+        let count : length (cutEvents (sectionBytes base s)) ≡ length (s .events) =
+        ap length cut-events ∙ length-map (s .events) (eventBytes base) in
+        le→leb (length seen + length (cutEvents (sectionBytes base s))) (sizes .eventLimit) (omega arith)
+
+    -- it passes where it stands in its place in the file
+    pub section-passes : (p : Progress)
+        → T (isSameFile (p .before) (s .header))
+        → T (isNext (p .before) (s .header))
+        → T (areNew (p .seen) (s .events))
+        → length (p .seen) + length (s .events) ≤ sizes .eventLimit
+        → Passes sizes base p (sectionBytes base s)
+    section-passes p same next new few =
+        record {
+          framed = framed;
+          closed = closes;
+          header = header-passes (p .before) same;
+          place = place-passes (p .before) next;
+          loop = loop-passes (p .seen) new;
+          limit = limit-passes (p .seen) few;
+        }
+
+    pub section-behind : (p : Progress)
+        → behind base p (sectionBytes base s)
+        ≡ record { offset = p .offset + sectionSize s; before = some (s .header); seen = reverse (s .events) ++ p .seen }
+    section-behind p =
+        λ i. record {
+          offset = p .offset + section-length base s i;
+          before = some (section-header i);
+          seen = reverse (events-shown i) ++ p .seen;
+        }

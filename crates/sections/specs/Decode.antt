@@ -1,0 +1,87 @@
+-- The sections that the bytes of a file show, by their length fields alone: fields are read, and nothing is tested (01, "The file of
+-- sections"; EN 300 468, 5.2.4). Laws: proofs/EventBytes.antt, proofs/SectionBytes.antt. Assumes nothing.
+use Prim.Native.Nat.{ℕ, _+_, _-_, _/_, _%_}
+use mathlib.Core.List.{List, map}
+use lib.Dec.{eqb}
+use lib.ListN.{length, take, drop}
+use Rattle.eit.specs.Sizes.{sectionOverhead}
+use Rattle.eit.specs.Fields.{valueOf}
+use Rattle.eit.specs.Time.{secondsOf, startOf}
+use Rattle.eit.specs.Pools.{odd}
+use Rattle.eit.specs.Events.{Event}
+use Rattle.sections.specs.Section.{Header, Section, headerSize, eventOverhead}
+use Rattle.sections.specs.Cut.{cut}
+
+-- `width` bytes from `at` on, and the number that they hold
+abbrev pub bytesAt : ℕ → ℕ → List ℕ → List ℕ
+bytesAt at width bs = take width (drop at bs)
+
+abbrev pub field : ℕ → ℕ → List ℕ → ℕ
+field at width bs = valueOf (bytesAt at width bs)
+
+-- ---- an event
+
+-- running_status (3 bits), free_CA (1 bit), chain length (12 bits)
+abbrev pub statusField : List ℕ → ℕ
+statusField bs = field 10 2 bs
+
+-- how many bytes the event at the front of bs has, by its chain length
+abbrev pub statedEventSize : List ℕ → ℕ
+statedEventSize bs = eventOverhead + statusField bs % 0x1000
+
+abbrev pub eventIn : ℕ → List ℕ → Event
+eventIn base bs =
+    record {
+      id = field 0 2 bs;
+      start = startOf base (bytesAt 2 5 bs);
+      duration = secondsOf (bytesAt 7 3 bs);
+      offAir = eqb (statusField bs / 0x2000) 5;
+      freeCa = odd (statusField bs / 0x1000);
+      chain = drop eventOverhead bs;
+    }
+
+-- ---- a section
+
+-- how many bytes the section at the front of bs has, by section_length: the bytes after its field
+abbrev pub statedSectionSize : List ℕ → ℕ
+statedSectionSize bs = 3 + field 1 2 bs % 0x1000
+
+abbrev pub headerIn : List ℕ → Header
+headerIn bs =
+    record {
+      tableId = field 0 1 bs;
+      sectionNumber = field 6 1 bs;
+      lastSectionNumber = field 7 1 bs;
+      segmentLastSectionNumber = field 12 1 bs;
+      lastTableId = field 13 1 bs;
+      identity =
+          record {
+            «service_id» = field 3 2 bs;
+            «transport_stream_id» = field 8 2 bs;
+            «original_network_id» = field 10 2 bs;
+            version = field 5 1 bs / 2 % 32;
+          };
+    }
+
+-- the bytes between the header and CRC_32, cut into events
+abbrev pub eventLoop : List ℕ → List ℕ
+eventLoop bs = bytesAt headerSize (length bs - sectionOverhead) bs
+
+unfoldable pub cutEvents : List ℕ → List (List ℕ)
+unfolding cut
+cutEvents bs = cut statedEventSize (eventLoop bs)
+
+unfoldable pub sectionIn : ℕ → List ℕ → Section
+unfolding cutEvents
+sectionIn base bs = record { header = headerIn bs; events = map (eventIn base) (cutEvents bs) }
+
+-- ---- a file
+
+-- the bytes of its sections
+unfoldable pub cutFile : List ℕ → List (List ℕ)
+unfolding cut
+cutFile file = cut statedSectionSize file
+
+unfoldable pub cutSections : ℕ → List ℕ → List Section
+unfolding cutFile sectionIn
+cutSections base file = map (sectionIn base) (cutFile file)

@@ -1,0 +1,28 @@
+-- What "Read is exact" speaks of (demand 2: "Read accepts exactly the files that follow their rules, packing aside, and returns the
+-- identity and events that the file's bytes carry"). The theorem is `read-exact` of proofs/Exact.antt. Assumes nothing.
+use mathlib.Core.Path.{_≡_}
+use Prim.Native.Nat.{ℕ}
+use mathlib.Core.List.{List}
+use lib.ListN.{length}
+use Rattle.eit.specs.Sizes.{Sizes}
+use Rattle.eit.specs.Overwrite.{overwrite}
+use Rattle.eit.specs.Records.{numbersOfAll}
+use Rattle.eit.specs.declared.Identity.{Identity}
+use Rattle.eit.specs.declared.Record.{Record}
+use Rattle.sections.specs.Section.{Section}
+use Rattle.sections.specs.Encode.{fileBytes}
+use Rattle.sections.specs.Rules.{Rules}
+use Rattle.sections.specs.Places.{recordsFrom}
+use Rattle.sections.specs.Read.{Reading, success}
+
+-- the file is the joined bytes of some sections that keep the rules, and the records are their events at their places in it
+pub record FollowsRules (sizes : Sizes) (base : ℕ) (file : List ℕ) (identity : Identity) (rs : List Record) : Type 0 where
+  pub sections : List Section
+  pub rules : Rules sizes identity sections
+  pub bytes : fileBytes base sections ≡ file
+  pub records : recordsFrom 0 sections ≡ rs
+
+-- Read succeeds with an identity and some records, which it writes over the front of the record buffer
+abbrev pub readingOf : List ℕ → Identity → List Record → Reading
+readingOf buffer identity rs =
+    record { answer = success identity (length rs); buffer = overwrite buffer 0 (numbersOfAll rs) }

@@ -1,0 +1,81 @@
+-- What Read asks of a section before its events: a test for each of the refusals 20 to 23, on the section's bytes and on the header
+-- before it (01, "When a call says no"). Assumes nothing.
+use Prim.Native.Nat.{ℕ, _+_, _/_, _%_}
+use mathlib.Core.Bool.{Bool, true, false, _&&_, _||_}
+use mathlib.Core.List.{List}
+use mathlib.Core.Option.{Option, none, some}
+use lib.Dec.{eqb, leb, ltb}
+use lib.ListN.{length}
+use Rattle.eit.specs.Sizes.{Sizes, sectionOverhead}
+use Rattle.eit.specs.Crc.{crc32}
+use Rattle.eit.specs.declared.Identity.{Identity}
+use Rattle.sections.specs.Segment.{tableLeast, tableMost, firstOf}
+use Rattle.sections.specs.Section.{Header}
+use Rattle.sections.specs.Encode.{versionOf}
+use Rattle.sections.specs.Decode.{field, statedSectionSize, headerIn}
+
+-- table_id, 0x50 to 0x5F; last_table_id (0x50 to 0x5F)
+abbrev pub isTable : ℕ → Bool
+isTable table = leb tableLeast table && leb table tableMost
+
+-- 20: section cut, table_id or length out of range. section_length, 15 to 4,093, counts all bytes but the first three
+unfoldable pub isFramed : Sizes → List ℕ → Bool
+isFramed sizes bs =
+    eqb (length bs) (statedSectionSize bs)
+    && (leb sectionOverhead (length bs) && (leb (length bs) (sizes .sectionBytes) && isTable (field 0 1 bs)))
+
+-- 21: over the whole section CRC_32 leaves 0
+unfoldable pub isClosed : List ℕ → Bool
+isClosed bs = eqb (crc32 bs) 0
+
+-- bits 1111 before section_length; bits 11 before the version, and current_next 1 behind it
+abbrev pub hasFixedBits : List ℕ → Bool
+hasFixedBits bs = eqb (field 1 2 bs / 0x1000) 0xF && (eqb (field 5 1 bs / 64) 3 && eqb (field 5 1 bs % 2) 1)
+
+-- a section of `table` with this identity would have the identity i
+abbrev pub isIdentity : ℕ → Identity → Identity → Bool
+isIdentity table identity i =
+    eqb (i .«service_id») (identity .«service_id»)
+    && (eqb (i .«transport_stream_id») (identity .«transport_stream_id»)
+    && (eqb (i .«original_network_id») (identity .«original_network_id») && eqb (i .version) (versionOf identity table)))
+
+-- identity and last_table_id are those of the section before
+abbrev pub isSameFile : Option Header → Header → Bool
+isSameFile none h = true
+isSameFile (some g) h = isIdentity (h .tableId) (g .identity) (h .identity) && eqb (h .lastTableId) (g .lastTableId)
+
+-- 22: fixed bits, identity, last_table_id (0x50 to 0x5F)
+unfoldable pub isHeader : Option Header → List ℕ → Bool
+isHeader before bs = hasFixedBits bs && (isTable (headerIn bs .lastTableId) && isSameFile before (headerIn bs))
+
+-- s0 ≤ S ≤ G ≤ L, G ≤ s0 + 7, and G = L or L ≥ s0 + 8
+abbrev pub isNumbered : Header → Bool
+isNumbered h =
+    let s0 = firstOf (h .sectionNumber) in
+    leb (h .sectionNumber) (h .segmentLastSectionNumber)
+    && (leb (h .segmentLastSectionNumber) (h .lastSectionNumber)
+    && (leb (h .segmentLastSectionNumber) (s0 + 7)
+    && (eqb (h .segmentLastSectionNumber) (h .lastSectionNumber) || leb (s0 + 8) (h .lastSectionNumber))))
+
+-- the section with this table, section_number and last_section_number
+abbrev pub isAt : ℕ → ℕ → ℕ → Header → Bool
+isAt table number last h =
+    eqb (h .tableId) table && (eqb (h .sectionNumber) number && eqb (h .lastSectionNumber) last)
+
+-- the place of a section behind the one before it; the first is table 0x50, section 0
+abbrev pub isNext : Option Header → Header → Bool
+isNext none h = eqb (h .tableId) tableLeast && eqb (h .sectionNumber) 0
+isNext (some g) h =
+    elim (ltb (g .sectionNumber) (g .segmentLastSectionNumber)) [
+      | true ↦
+          isAt (g .tableId) (g .sectionNumber + 1) (g .lastSectionNumber) h
+          && eqb (h .segmentLastSectionNumber) (g .segmentLastSectionNumber)
+      | false ↦ elim (ltb (g .sectionNumber) (g .lastSectionNumber)) [
+        | true ↦ isAt (g .tableId) (firstOf (g .sectionNumber) + 8) (g .lastSectionNumber) h
+        | false ↦ eqb (h .tableId) (g .tableId + 1) && eqb (h .sectionNumber) 0
+      ]
+    ]
+
+-- 23: numbering, or table past last_table_id
+unfoldable pub isInPlace : Option Header → Header → Bool
+isInPlace before h = isNumbered h && (isNext before h && leb (h .tableId) (h .lastTableId))

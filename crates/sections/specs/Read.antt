@@ -1,0 +1,82 @@
+-- Read as one total function of file, base day and record buffer, and check, which has no record buffer (01, "Build, Read", "When
+-- a call says no"). Laws: proofs/Read.antt, proofs/Exact.antt. Assumes nothing.
+use Prim.Native.Nat.{ℕ, _*_}
+use mathlib.Core.Bool.{Bool, true, false, _&&_}
+use mathlib.Core.List.{List}
+use mathlib.Core.Option.{Option, none, some}
+use lib.Dec.{eqb, leb}
+use lib.ListN.{length}
+use Rattle.eit.specs.Sizes.{Sizes}
+use Rattle.eit.specs.Limits.{baseMost}
+use Rattle.eit.specs.Overwrite.{overwrite}
+use Rattle.eit.specs.Records.{recordSize, numbersOfAll}
+use Rattle.eit.specs.declared.Identity.{Identity}
+use Rattle.eit.specs.declared.Record.{Record}
+use Rattle.sections.specs.Section.{Header}
+use Rattle.sections.specs.Decode.{cutFile, cutSections}
+use Rattle.sections.specs.Places.{recordsFrom}
+use Rattle.sections.specs.Walk.{atStart, Verdict, passed, refused, walk}
+
+-- the file ends after last_table_id
+abbrev pub isComplete : Option Header → Bool
+isComplete none = false
+isComplete (some h) = eqb (h .sectionNumber) (h .lastSectionNumber) && eqb (h .tableId) (h .lastTableId)
+
+abbrev pub noIdentity : Identity
+noIdentity = record { «service_id» = 0; «transport_stream_id» = 0; «original_network_id» = 0; version = 0 }
+
+-- the identity of the file, which every header has
+abbrev pub identityOf : Option Header → Identity
+identityOf none = noIdentity
+identityOf (some h) = h .identity
+
+-- what is returned: number and value of the answer, the identity and the number of events. A refusal has identity 0 and count 0
+pub record Answer : Type 0 where
+  pub number : ℕ
+  pub value : ℕ
+  pub identity : Identity
+  pub count : ℕ
+
+abbrev pub refusal : ℕ → ℕ → Answer
+refusal number value = record { number = number; value = value; identity = noIdentity; count = 0 }
+
+-- success is number 0 and returns the number of events
+abbrev pub success : Identity → ℕ → Answer
+success identity count = record { number = 0; value = count; identity = identity; count = count }
+
+-- at the end 25: file ends early, or is empty
+abbrev pub atEnd : ℕ → Verdict → Answer
+atEnd size (refused number offset) = refusal number offset
+atEnd size (passed p) =
+    elim (isComplete (p .before)) [ true ↦ success (identityOf (p .before)) (length (p .seen)) | false ↦ refusal 25 size ]
+
+-- Read without a record buffer: 1; per section; at the end 25. It never says 27
+unfoldable pub checkFile : Sizes → ℕ → List ℕ → Answer
+unfolding walk cutFile
+checkFile sizes base file =
+    elim (leb base baseMost) [ true ↦ atEnd (length file) (walk sizes base atStart (cutFile file)) | false ↦ refusal 1 0 ]
+
+-- what Read returns, and the record buffer after it
+pub record Reading : Type 0 where
+  pub answer : Answer
+  pub buffer : List ℕ
+
+-- the records of a file that is accepted
+unfoldable pub fileRecords : ℕ → List ℕ → List Record
+unfolding cutSections
+fileRecords base file = recordsFrom 0 (cutSections base file)
+
+-- with a record buffer, after all else 27: record buffer short. Numbers beyond 6 × count stay; a refusal leaves all
+abbrev pub fill : List ℕ → List Record → Answer → Reading
+fill buffer rs answer =
+    elim (eqb (answer .number) 0) [
+      | false ↦ record { answer = answer; buffer = buffer }
+      | true ↦ elim (leb (answer .count * recordSize) (length buffer)) [
+        | false ↦ record { answer = refusal 27 (answer .count); buffer = buffer }
+        | true ↦ record { answer = answer; buffer = overwrite buffer 0 (numbersOfAll rs) }
+      ]
+    ]
+
+unfoldable pub read : Sizes → ℕ → List ℕ → List ℕ → Reading
+unfolding checkFile fileRecords
+read sizes base file buffer = fill buffer (fileRecords base file) (checkFile sizes base file)

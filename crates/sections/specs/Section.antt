@@ -1,0 +1,51 @@
+-- A section as data (01, "The file of sections"). Assumes nothing.
+use Prim.Native.Nat.{ℕ, _+_}
+use mathlib.Core.List.{List, [], _∷_, map, flatten}
+use lib.ListN.{length}
+use Rattle.eit.specs.Sizes.{sectionOverhead}
+use Rattle.eit.specs.Events.{Event}
+use Rattle.eit.specs.declared.Identity.{Identity}
+
+-- what stands before a section's events, but for section_length and the fixed bits
+pub record Header : Type 0 where
+  pub tableId : ℕ
+  pub sectionNumber : ℕ
+  pub lastSectionNumber : ℕ
+  pub segmentLastSectionNumber : ℕ
+  pub lastTableId : ℕ
+  pub identity : Identity
+
+pub record Section : Type 0 where
+  pub header : Header
+  pub events : List Event
+
+-- bytes of a section before its events
+abbrev pub headerSize : ℕ
+headerSize = 14
+
+-- bytes of an event before its chain
+abbrev pub eventOverhead : ℕ
+eventOverhead = 12
+
+-- "That is 12 + length bytes"
+abbrev pub eventSize : Event → ℕ
+eventSize e = eventOverhead + length (e .chain)
+
+abbrev pub eventSizes : List Event → ℕ
+eventSizes [] = 0
+eventSizes (e ∷ es) = eventSize e + eventSizes es
+
+-- the bytes of a whole section, without making them
+abbrev pub sectionSize : Section → ℕ
+sectionSize s = sectionOverhead + eventSizes (s .events)
+
+-- the headers and the events of some sections, in their order
+abbrev pub headersOf : List Section → List Header
+headersOf ss = map (λ (s : Section). s .header) ss
+
+unfoldable pub sectionEvents : List Section → List Event
+unfolding flatten
+sectionEvents ss = flatten (map (λ (s : Section). s .events) ss)
+
+abbrev pub eventIds : List Event → List ℕ
+eventIds es = map (λ (e : Event). e .id) es

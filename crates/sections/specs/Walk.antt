@@ -1,0 +1,58 @@
+-- Read's walk over the sections of a file, one after the other (01, "When a call says no": per section 20, 21, 22, 23, 24, 26).
+-- Laws: proofs/Walk.antt. Assumes nothing.
+use Prim.Native.Nat.{ℕ, _+_}
+use mathlib.Core.Bool.{Bool, true, false}
+use mathlib.Core.List.{List, [], _∷_, _++_, map, reverse}
+use mathlib.Core.Option.{Option, none, some}
+use lib.ListN.{length}
+use Rattle.eit.specs.Sizes.{Sizes}
+use Rattle.eit.specs.Events.{Event}
+use Rattle.sections.specs.Section.{Header}
+use Rattle.sections.specs.Decode.{eventIn, headerIn, cutEvents}
+use Rattle.sections.specs.JudgeHeader.{isFramed, isClosed, isHeader, isInPlace}
+use Rattle.sections.specs.JudgeEvents.{isEventLoop, isWithinLimit}
+
+-- what is known before a section: its offset, the header before it, and the events so far, the latest first
+pub record Progress : Type 0 where
+  pub offset : ℕ
+  pub before : Option Header
+  pub seen : List Event
+
+-- before the first section
+abbrev pub atStart : Progress
+atStart = record { offset = 0; before = none; seen = [] }
+
+-- behind a section
+abbrev pub behind : ℕ → Progress → List ℕ → Progress
+behind base p bs =
+    record {
+      offset = p .offset + length bs;
+      before = some (headerIn bs);
+      seen = reverse (map (eventIn base) (cutEvents bs)) ++ p .seen;
+    }
+
+-- the sections pass, or one is refused with a number and its offset
+pub data Verdict : Type 0 where
+  passed : Progress → Verdict
+  refused : ℕ → ℕ → Verdict
+
+-- a check: if it fails, the section is refused with its number
+abbrev pub check : Bool → ℕ → ℕ → Verdict → Verdict
+check true number offset next = next
+check false number offset next = refused number offset
+
+-- per section 20, 21, 22, 23, 24, 26
+unfoldable pub step : Sizes → ℕ → Progress → List ℕ → Verdict
+step sizes base p bs =
+    check (isFramed sizes bs) 20 (p .offset)
+    (check (isClosed bs) 21 (p .offset)
+    (check (isHeader (p .before) bs) 22 (p .offset)
+    (check (isInPlace (p .before) (headerIn bs)) 23 (p .offset)
+    (check (isEventLoop base (p .seen) bs) 24 (p .offset)
+    (check (isWithinLimit sizes (p .seen) bs) 26 (p .offset) (passed (behind base p bs)))))))
+
+unfoldable pub walk : Sizes → ℕ → Progress → List (List ℕ) → Verdict
+unfolding step
+walk sizes base p [] = passed p
+walk sizes base p (bs ∷ rest) =
+    elim (step sizes base p bs) [ passed next ↦ walk sizes base next rest | refused number offset ↦ refused number offset ]
