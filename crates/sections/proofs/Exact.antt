@@ -24,7 +24,7 @@ use Rattle.sections.specs.Decode.{statedSectionSize, sectionIn, cutFile,
 use Rattle.sections.specs.Rules.{IdentityRules, SectionRules, Rules}
 use Rattle.sections.specs.JudgeEvents.{areNew}
 use Rattle.sections.specs.Walk.{atStart}
-use Rattle.sections.specs.Read.{identityOf, Answer, success, checkFile, Reading, fileRecords, read}
+use Rattle.sections.specs.Read.{identityOf, Answer, success, checkFile, Reading, fileRecords, read, listOf}
 use Rattle.sections.specs.Places.{recordsFrom}
 use Rattle.sections.specs.Exact.{FollowsRules, readingOf}
 use Rattle.sections.proofs.Cut.{Stated, cut-joined, cut-back}
@@ -159,40 +159,58 @@ module _ (sizes : Sizes) (base : ℕ) (large : sizes .sectionBytes ≤ 4_096) (l
 
 -- ---- Read is exact
 
-module _ (sizes : Sizes) (base : ℕ) (file buffer : List ℕ) (identity : Identity) (rs : List Record) where
-  -- what Read returns and writes of a file that it accepts is what the file's bytes carry
-  read-follows : Bytes file → read sizes base file buffer ≡ readingOf buffer identity rs → FollowsRules sizes base file identity rs
-  read-follows bytes e =
-      let zero-says : read sizes base file buffer .answer .number ≡ 0 = ap (λ (r : Reading). r .answer .number) e in
+-- a reading shows its identity and its records
+reading-shows : (buffer : List ℕ) (i j : Identity) (qs rs : List Record)
+    → readingOf buffer i qs ≡ readingOf buffer j rs
+    → (i ≡ j) × (qs ≡ rs)
+reading-shows buffer i j qs rs e = (
+  ap (λ (r : Reading). r .answer .identity) e,
+  sym (records-written qs buffer)
+      ∙ ap (λ (r : Reading). recordsOf (listOf r)) e
+      ∙ records-written rs buffer,
+)
+
+module _ (sizes : Sizes) (base : ℕ) (file buffer : List ℕ) where
+  -- what a reading with number 0 returns and leaves
+  pub read-accepted : read sizes base file buffer .answer .number ≡ 0
+      → (checkFile sizes base file .number ≡ 0)
+      × (read sizes base file buffer ≡ readingOf buffer (checkFile sizes base file .identity) (fileRecords base file))
+      × (length (fileRecords base file) * recordSize ≤ length buffer)
+  read-accepted success-says =
       let agrees : read sizes base file buffer .answer ≡ checkFile sizes base file =
       read-agrees sizes base file buffer (λ says. omega arith) in
-      let zero : checkFile sizes base file .number ≡ 0 = sym (ap (λ (a : Answer). a .number) agrees) ∙ zero-says in
+      let zero : checkFile sizes base file .number ≡ 0 = sym (ap (λ (a : Answer). a .number) agrees) ∙ success-says in
+      let answer = accepted-answer sizes base file zero in
+      let count : checkFile sizes base file .count ≡ length (fileRecords base file) = ap (λ (a : Answer). a .count) answer in
       let fits : checkFile sizes base file .count * recordSize ≤ length buffer =
       ⊎-elim (λ fits. fits)
       (λ short.
       let says : read sizes base file buffer .answer .number ≡ 27 =
       ap (λ (r : Reading). r .answer .number) (read-short sizes base file buffer zero short) in
       absurd (omega arith))
-      (le-or-lt (checkFile sizes base file .count * recordSize) (length buffer)) in
-      let count : length (fileRecords base file) ≡ length rs =
-      sym (ap (λ (a : Answer). a .count) (accepted-answer sizes base file zero))
-      ∙ sym (ap (λ (a : Answer). a .count) agrees)
-      ∙ ap (λ (r : Reading). r .answer .count) e in
-      let written : overwrite buffer 0 (numbersOfAll (fileRecords base file)) ≡ overwrite buffer 0 (numbersOfAll rs) =
-      sym (ap (λ (r : Reading). r .buffer) (read-succeeds sizes base file buffer zero fits)) ∙ ap (λ (r : Reading). r .buffer) e in
-      let records : fileRecords base file ≡ rs =
-      sym (records-written (fileRecords base file) buffer)
-      ∙ (λ i. recordsOf (record { buffer = written i; count = count i }))
-      ∙ records-written rs buffer in
-      let same : checkFile sizes base file .identity ≡ identity =
-      sym (ap (λ (a : Answer). a .identity) agrees) ∙ ap (λ (r : Reading). r .answer .identity) e in
-      subst (λ (qs : List Record). FollowsRules sizes base file identity qs) records
-      (subst (λ (i : Identity). FollowsRules sizes base file i (fileRecords base file)) same (accepted-follows sizes base file bytes zero))
+      (le-or-lt (checkFile sizes base file .count * recordSize) (length buffer)) in (
+        zero,
+        read-succeeds sizes base file buffer zero fits
+            ∙ (λ i. record { answer = answer i; buffer = overwrite buffer 0 (numbersOfAll (fileRecords base file)) }),
+        omega arith,
+      )
 
-  -- demand 2: for every legal base day and every file of bytes, with a record buffer that the largest list fits in
-  pub read-exact : sizes .sectionBytes ≤ 4_096 → base ≤ baseMost → Bytes file → sizes .eventLimit * recordSize ≤ length buffer
-      → (read sizes base file buffer ≡ readingOf buffer identity rs) ↔ FollowsRules sizes base file identity rs
-  read-exact large legal bytes enough = (
-    read-follows bytes,
-    λ f. rw (← f .bytes, ← f .records) (follows-read sizes base large legal identity (f .sections) (f .rules) buffer enough),
-  )
+  module _ (identity : Identity) (rs : List Record) where
+    read-follows : Bytes file → read sizes base file buffer ≡ readingOf buffer identity rs → FollowsRules sizes base file identity rs
+    read-follows bytes e =
+        let (zero, is, fits) = read-accepted (ap (λ (r : Reading). r .answer .number) e) in
+        let (same, records) = reading-shows buffer _ identity _ rs (sym is ∙ e) in
+        subst (λ (qs : List Record). FollowsRules sizes base file identity qs) records
+        (subst (λ (i : Identity). FollowsRules sizes base file i (fileRecords base file)) same
+        (accepted-follows sizes base file bytes zero))
+
+    -- demand 2: for every legal base day and every file of bytes, with a record buffer that the largest list fits in
+    pub read-exact : sizes .sectionBytes ≤ 4_096
+        → base ≤ baseMost
+        → Bytes file
+        → sizes .eventLimit * recordSize ≤ length buffer
+        → (read sizes base file buffer ≡ readingOf buffer identity rs) ↔ FollowsRules sizes base file identity rs
+    read-exact large legal bytes enough = (
+      read-follows bytes,
+      λ f. rw (← f .bytes, ← f .records) (follows-read sizes base large legal identity (f .sections) (f .rules) buffer enough),
+    )

@@ -1,12 +1,14 @@
 -- The records of a file that follows the rules are a sound list with the file as day pool, and its events are the sections': each
 -- part of soundness is a rule, or a law of Places. Assumes nothing.
-use mathlib.Core.Path.{_≡_}
+use mathlib.Core.Path.{_≡_, sym, ap, subst, _∙_}
 use Prim.Native.Nat.{ℕ, _*_, _≤_}
 use native.Mathlib.Omega.{arith}
 use mathlib.Core.List.{List, [], _∷_, append-nil}
 use lib.Dec.{T}
 use lib.ListN.{length}
 use Rattle.eit.specs.Sizes.{Sizes}
+use Rattle.eit.specs.Limits.{baseMost}
+use Rattle.eit.specs.Fields.{Bytes}
 use Rattle.eit.specs.Overwrite.{overwrite}
 use Rattle.eit.specs.Records.{EventList, recordSize, numbersOfAll}
 use Rattle.eit.specs.Events.{eventsIn}
@@ -19,8 +21,13 @@ use Rattle.eit.proofs.Sound.{RecordFacts, list-sound}
 use Rattle.sections.specs.Every.{Every}
 use Rattle.sections.specs.Section.{Section, sectionEvents}
 use Rattle.sections.specs.Encode.{fileBytes}
+use Rattle.sections.specs.Decode.{cutSections}
 use Rattle.sections.specs.Rules.{EventRules, SectionRules, Rules}
 use Rattle.sections.specs.Places.{recordsFrom, filePools}
+use Rattle.sections.specs.Read.{Reading, read, listOf}
+use Rattle.sections.specs.Exact.{FollowsRules, readingOf}
+use Rattle.sections.proofs.Read.{check-succeeded}
+use Rattle.sections.proofs.Exact.{accepted-follows, cut-sections-back, read-accepted}
 use Rattle.sections.proofs.Places.{records-count, records-ids, records-events, records-valid}
 
 -- the laws of Places, for sections with nothing around them
@@ -68,3 +75,37 @@ file-sound sizes base identity ss series buffer rules fits =
       held = rw (over-length buffer 0 (numbersOfAll rs) (omega (arith, numbers-length rs))) fits;
       records = rw (records-written rs buffer) facts;
     })
+
+-- ---- what Read returns
+
+module _ (sizes : Sizes) (base : ℕ) (file buffer series : List ℕ) where
+  reading-sound : (identity : Identity) (rs : List Record) → FollowsRules sizes base file identity rs → length rs * recordSize ≤ length buffer
+      → T (sound sizes (filePools file series) (listOf (readingOf buffer identity rs)))
+  reading-sound identity rs f fits =
+      rw (← f .bytes, ← f .records)
+      (file-sound sizes base identity (f .sections) series buffer (f .rules) (rw (f .records) fits))
+
+  reading-events : (identity : Identity) (rs : List Record) (f : FollowsRules sizes base file identity rs)
+      → eventsOf (filePools file series) (listOf (readingOf buffer identity rs)) ≡ sectionEvents (f .sections)
+  reading-events identity rs f = rw (← f .bytes, ← f .records) (file-events base (f .sections) series buffer)
+
+  module _ (bytes : Bytes file) (zero : read sizes base file buffer .answer .number ≡ 0) where
+    -- the records of an accepted file are a sound list with the file as day pool
+    pub accepted-sound : T (sound sizes (filePools file series) (listOf (read sizes base file buffer)))
+    accepted-sound =
+        let (accepted, is, fits) = read-accepted sizes base file buffer zero in
+        subst (λ (r : Reading). T (sound sizes (filePools file series) (listOf r))) (sym is)
+        (reading-sound _ _ (accepted-follows sizes base file bytes accepted) fits)
+
+    -- and its events are those of the sections that its bytes show
+    pub accepted-events : sizes .sectionBytes ≤ 4_096
+        → eventsOf (filePools file series) (listOf (read sizes base file buffer)) ≡ sectionEvents (cutSections base file)
+    accepted-events large =
+        let (accepted, is, fits) = read-accepted sizes base file buffer zero in
+        let legal : base ≤ baseMost = check-succeeded sizes base file accepted .0 in
+        let f = accepted-follows sizes base file bytes accepted in
+        let cuts : cutSections base file ≡ f .sections =
+        ap (cutSections base) (sym (f .bytes)) ∙ cut-sections-back sizes base large legal _ (f .sections) (f .rules) in
+        ap (λ (r : Reading). eventsOf (filePools file series) (listOf r)) is
+        ∙ reading-events _ _ f
+        ∙ ap sectionEvents (sym cuts)

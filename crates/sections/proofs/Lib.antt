@@ -24,12 +24,16 @@ pub mod SectionForth
 pub mod SectionBack
 -- when check and Read succeed, and what they return and leave
 pub mod Read
+-- which refusal comes, and with which value
+pub mod Answers
 -- an accepted file follows the rules
 pub mod Forth
 -- and a file that follows the rules is accepted
 pub mod Back
 -- Read is exact
 pub mod Exact
+-- how large an accepted file can be
+pub mod FileSize
 -- a file's records are its sections' events
 pub mod Places
 -- and a sound list

@@ -13,4 +13,7 @@ pub mod JudgeEvents  -- and of its events: 24 and 26
 pub mod Walk  -- Read's walk over the sections
 pub mod Read  -- Read and check
 pub mod Exact  -- what "Read is exact" speaks of
-pub mod Examples  -- Read computed on short files
+pub mod Files  -- short files in raw bytes
+pub mod Examples  -- sections and files computed
+pub mod Refusals  -- Read's refusals 1 and 20 to 23 computed
+pub mod EventRefusals  -- and 24 to 27

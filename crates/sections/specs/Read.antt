@@ -9,7 +9,7 @@ use lib.ListN.{length}
 use Rattle.eit.specs.Sizes.{Sizes}
 use Rattle.eit.specs.Limits.{baseMost}
 use Rattle.eit.specs.Overwrite.{overwrite}
-use Rattle.eit.specs.Records.{recordSize, numbersOfAll}
+use Rattle.eit.specs.Records.{EventList, recordSize, numbersOfAll}
 use Rattle.eit.specs.declared.Identity.{Identity}
 use Rattle.eit.specs.declared.Record.{Record}
 use Rattle.sections.specs.Section.{Header}
@@ -80,3 +80,7 @@ fill buffer rs answer =
 unfoldable pub read : Sizes → ℕ → List ℕ → List ℕ → Reading
 unfolding checkFile fileRecords
 read sizes base file buffer = fill buffer (fileRecords base file) (checkFile sizes base file)
+
+-- the list that Read returns: the record buffer after it, and the count
+abbrev pub listOf : Reading → EventList
+listOf reading = record { buffer = reading .buffer; count = reading .answer .count }

@@ -1,0 +1,78 @@
+-- An accepted file has at most 16 × 256 sections, and so at most 16 × 256 × 4,096 bytes: table and section_number, read as one
+-- number, rise from each section to the next. By induction over the sections. Assumes nothing.
+use mathlib.Core.Path.{_≡_, sym, ap, _∙_}
+use mathlib.Core.Logic.{⊎-elim}
+use Prim.Native.Nat.{ℕ, _+_, _*_, _≤_, _<_}
+use native.Mathlib.Omega.{arith}
+use mathlib.Core.List.{List, [], _∷_}
+use lib.ListN.{length}
+use Rattle.eit.specs.Sizes.{Sizes}
+use Rattle.eit.specs.Fields.{Bytes}
+use Rattle.eit.specs.declared.Identity.{Identity}
+use Rattle.eit.proofs.Test.{le-or-lt}
+use Rattle.sections.specs.Every.{Every}
+use Rattle.sections.specs.Segment.{tableMost}
+use Rattle.sections.specs.Section.{Header, Section, headersOf}
+use Rattle.sections.specs.Rules.{Numbered, Next, Succeeding, SectionRules, Rules}
+use Rattle.sections.specs.Read.{checkFile}
+use Rattle.sections.proofs.Lengths.{sectionSizes, file-length}
+use Rattle.sections.proofs.Exact.{accepted-follows}
+
+-- a section's place among all that a file could have
+abbrev placeOf : Header → ℕ
+placeOf h = h .tableId * 256 + h .sectionNumber
+
+next-later : (g h : Header) → Numbered g → g .lastSectionNumber < 256 → Next g h → placeOf g < placeOf h
+next-later g h n byte next =
+    ⊎-elim
+    (λ ends. ⊎-elim
+    (λ last. let (table, section) = next .tables (omega (arith, n .segment, n .table)) in omega (arith, n .segment, n .table))
+    (λ inside. let (within, section) = next .table (omega (arith, n .segment)) (omega arith) in omega (arith, within .table))
+    (le-or-lt (g .lastSectionNumber) (g .sectionNumber)))
+    (λ inside. let (within, section, same) = next .segment inside in omega (arith, within .table))
+    (le-or-lt (g .segmentLastSectionNumber) (g .sectionNumber))
+
+module _ (sizes : Sizes) (identity : Identity) (lastTableId : ℕ) (most : lastTableId ≤ tableMost) where
+  behind-few : (s : Section) (ss : List Section)
+      → Every (SectionRules sizes identity lastTableId) (s ∷ ss)
+      → Succeeding (s .header) (headersOf ss)
+      → placeOf (s .header) + length (s ∷ ss) ≤ (tableMost + 1) * 256
+  behind-few s [] rules succeeding =
+      let h = rules .0 .headerRules in
+      omega (arith, h .most, h .byte, h .numbered .segment, h .numbered .table)
+  behind-few s (t ∷ ss) rules succeeding =
+      let h = rules .0 .headerRules in
+      let later : placeOf (s .header) < placeOf (t .header) = next-later (s .header) (t .header) (h .numbered) (h .byte) (succeeding .0) in
+      omega (arith, behind-few t ss (rules .1) (succeeding .1))
+
+  sizes-few : sizes .sectionBytes ≤ 4_096 → (ss : List Section) → Every (SectionRules sizes identity lastTableId) ss
+      → sectionSizes ss ≤ length ss * 4_096
+  sizes-few large [] rules = omega arith
+  sizes-few large (s ∷ ss) rules = omega (arith, rules .0 .size, sizes-few large ss (rules .1))
+
+pub sections-few : (sizes : Sizes) (identity : Identity) (ss : List Section) → Rules sizes identity ss → length ss ≤ 16 * 256
+sections-few sizes identity [] rules = absurd (rules .ordered)
+sections-few sizes identity (s ∷ ss) rules =
+    let first = rules .ordered .0 in
+    omega (
+      arith,
+      first .table,
+      first .section,
+      behind-few sizes identity (rules .lastTableId) (rules .lastTable) s ss (rules .sections) (rules .ordered .1),
+    )
+
+-- an accepted file has at most 16 × 256 × 4,096 bytes
+pub accepted-size : (sizes : Sizes) (base : ℕ) (file : List ℕ)
+    → sizes .sectionBytes ≤ 4_096
+    → Bytes file
+    → checkFile sizes base file .number ≡ 0
+    → length file ≤ 16 * 256 * 4_096
+accepted-size sizes base file large bytes zero =
+    let f = accepted-follows sizes base file bytes zero in
+    let identity : Identity = checkFile sizes base file .identity in
+    let size : length file ≡ sectionSizes (f .sections) = sym (ap length (f .bytes)) ∙ file-length base (f .sections) in
+    omega (
+      arith,
+      sections-few sizes identity (f .sections) (f .rules),
+      sizes-few sizes identity (f .rules .lastTableId) (f .rules .lastTable) large (f .sections) (f .rules .sections),
+    )
