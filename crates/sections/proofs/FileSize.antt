@@ -19,10 +19,11 @@ use Rattle.sections.proofs.Lengths.{sectionSizes, file-length}
 use Rattle.sections.proofs.Exact.{accepted-follows}
 
 -- a section's place among all that a file could have
-abbrev placeOf : Header → ℕ
-placeOf h = h .tableId * 256 + h .sectionNumber
+abbrev pub sectionPlace : Header → ℕ
+sectionPlace h = h .tableId * 256 + h .sectionNumber
 
-next-later : (g h : Header) → Numbered g → g .lastSectionNumber < 256 → Next g h → placeOf g < placeOf h
+-- which rises from a section to the next
+pub next-later : (g h : Header) → Numbered g → g .lastSectionNumber < 256 → Next g h → sectionPlace g < sectionPlace h
 next-later g h n byte next =
     ⊎-elim
     (λ ends. ⊎-elim
@@ -36,13 +37,13 @@ module _ (sizes : Sizes) (identity : Identity) (lastTableId : ℕ) (most : lastT
   behind-few : (s : Section) (ss : List Section)
       → Every (SectionRules sizes identity lastTableId) (s ∷ ss)
       → Succeeding (s .header) (headersOf ss)
-      → placeOf (s .header) + length (s ∷ ss) ≤ (tableMost + 1) * 256
+      → sectionPlace (s .header) + length (s ∷ ss) ≤ (tableMost + 1) * 256
   behind-few s [] rules succeeding =
       let h = rules .0 .headerRules in
       omega (arith, h .most, h .byte, h .numbered .segment, h .numbered .table)
   behind-few s (t ∷ ss) rules succeeding =
       let h = rules .0 .headerRules in
-      let later : placeOf (s .header) < placeOf (t .header) = next-later (s .header) (t .header) (h .numbered) (h .byte) (succeeding .0) in
+      let later : sectionPlace (s .header) < sectionPlace (t .header) = next-later (s .header) (t .header) (h .numbered) (h .byte) (succeeding .0) in
       omega (arith, behind-few t ss (rules .1) (succeeding .1))
 
   sizes-few : sizes .sectionBytes ≤ 4_096 → (ss : List Section) → Every (SectionRules sizes identity lastTableId) ss

@@ -38,5 +38,9 @@ pub mod FileSize
 pub mod Places
 -- and a sound list
 pub mod FileSound
+-- sections and events in a segment: what counting them means
+pub mod Count
+-- and the order in which they stand
+pub mod SegmentOrder
 -- the examples, computed
 pub mod Examples

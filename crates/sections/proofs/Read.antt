@@ -100,17 +100,17 @@ module _ (sizes : Sizes) (base : ℕ) where
       (λ above. let never : _≡_ {A = ℕ} 1 0 = rw (checkFile, lt-leb base baseMost above) at zero in absurd (omega arith))
       (le-or-lt base baseMost)
 
-end-numbers : (size : ℕ) (v : Verdict) → Numbers v → atEnd size v .number ≤ 26
-end-numbers size (refused number offset) numbers = numbers .1
+end-numbers : (size : ℕ) (v : Verdict) → Numbers v → atEnd size v .number < 27
+end-numbers size (refused number offset) numbers = omega (arith, numbers .1)
 end-numbers size (passed p) numbers =
     ⊎-elim (λ t. rw (atEnd, true-is (isComplete (p .before)) t) (omega arith))
     (λ t. rw (atEnd, false-is (isComplete (p .before)) t) (omega arith))
     (test-or (isComplete (p .before)))
 
 -- a call that reads a file without a record buffer never says 27
-pub check-numbers-most : (sizes : Sizes) (base : ℕ) (file : List ℕ) → checkFile sizes base file .number ≤ 26
+pub check-below-27 : (sizes : Sizes) (base : ℕ) (file : List ℕ) → checkFile sizes base file .number < 27
 unfolding checkFile
-check-numbers-most sizes base file =
+check-below-27 sizes base file =
     ⊎-elim
     (λ legal. rw (checkFile, le-leb base baseMost legal) (end-numbers (length file) (walk sizes base atStart (cutFile file)) (walk-numbers sizes base atStart (cutFile file))))
     (λ above. rw (checkFile, lt-leb base baseMost above) (omega arith))
@@ -180,7 +180,7 @@ module _ (sizes : Sizes) (base : ℕ) (file buffer : List ℕ) where
     λ is. ⊎-elim
         (λ same.
         let check-27 : checkFile sizes base file .number ≡ 27 = sym (ap (λ (a : Answer). a .number) same) ∙ is in
-        absurd (omega (arith, check-numbers-most sizes base file)))
+        absurd (omega (arith, check-below-27 sizes base file)))
         (λ c. c)
         read-cases,
     λ c. ap (λ (r : Reading). r .answer .number) (read-short (c .0) (c .1)),

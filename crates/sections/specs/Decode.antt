@@ -1,5 +1,5 @@
 -- The sections that the bytes of a file show, by their length fields alone: fields are read, and nothing is tested (01, "The file of
--- sections"; EN 300 468, 5.2.4). Laws: proofs/EventBytes.antt, proofs/SectionBytes.antt. Assumes nothing.
+-- sections"; EN 300 468, 5.2.4). Laws: proofs/EventBytes.antt, proofs/HeaderBytes.antt, proofs/Exact.antt. Assumes nothing.
 use Prim.Native.Nat.{ℕ, _+_, _-_, _/_, _%_}
 use mathlib.Core.List.{List, map}
 use lib.Dec.{eqb}
@@ -29,6 +29,7 @@ statusField bs = field 10 2 bs
 abbrev pub statedEventSize : List ℕ → ℕ
 statedEventSize bs = eventOverhead + statusField bs % 0x1000
 
+-- the event that some bytes show
 abbrev pub eventIn : ℕ → List ℕ → Event
 eventIn base bs =
     record {
@@ -46,6 +47,7 @@ eventIn base bs =
 abbrev pub statedSectionSize : List ℕ → ℕ
 statedSectionSize bs = 3 + field 1 2 bs % 0x1000
 
+-- the header that some bytes show
 abbrev pub headerIn : List ℕ → Header
 headerIn bs =
     record {
@@ -63,25 +65,28 @@ headerIn bs =
           };
     }
 
--- the bytes between the header and CRC_32, cut into events
+-- the bytes between the header and CRC_32
 abbrev pub eventLoop : List ℕ → List ℕ
 eventLoop bs = bytesAt headerSize (length bs - sectionOverhead) bs
 
+-- the same, cut into events
 unfoldable pub cutEvents : List ℕ → List (List ℕ)
 unfolding cut
 cutEvents bs = cut statedEventSize (eventLoop bs)
 
+-- the section that some bytes show
 unfoldable pub sectionIn : ℕ → List ℕ → Section
 unfolding cutEvents
 sectionIn base bs = record { header = headerIn bs; events = map (eventIn base) (cutEvents bs) }
 
 -- ---- a file
 
--- the bytes of its sections
+-- a file is sections joined: the bytes of each
 unfoldable pub cutFile : List ℕ → List (List ℕ)
 unfolding cut
 cutFile file = cut statedSectionSize file
 
+-- and the sections that they show
 unfoldable pub cutSections : ℕ → List ℕ → List Section
 unfolding cutFile sectionIn
 cutSections base file = map (sectionIn base) (cutFile file)

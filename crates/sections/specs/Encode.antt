@@ -1,5 +1,5 @@
 -- The bytes of an event, of a section and of a file, field by field (01, "The file of sections"; EN 300 468, 5.2.4).
--- Laws: proofs/EventBytes.antt, proofs/SectionBytes.antt. Assumes nothing.
+-- Laws: proofs/EventBytes.antt, proofs/HeaderBytes.antt, proofs/SectionBack.antt. Assumes nothing.
 use Prim.Native.Nat.{ℕ, _+_, _-_, _*_}
 use mathlib.Core.Bool.{Bool, true, false}
 use mathlib.Core.List.{List, _++_, map, flatten}
@@ -15,6 +15,7 @@ use Rattle.sections.specs.Section.{Header, Section, sectionSize}
 abbrev pub runningStatus : Bool → ℕ
 runningStatus offAir = elim offAir [ true ↦ 5 | false ↦ 0 ]
 
+-- a bit: free_CA
 abbrev pub bitOf : Bool → ℕ
 bitOf b = elim b [ true ↦ 1 | false ↦ 0 ]
 
@@ -57,6 +58,7 @@ headerBytes size h =
     ++ bigEndian 1 (h .segmentLastSectionNumber)
     ++ bigEndian 1 (h .lastTableId)
 
+-- the events of a section
 unfoldable pub eventLoopBytes : ℕ → List Event → List ℕ
 unfolding flatten eventBytes
 eventLoopBytes base es = flatten (map (eventBytes base) es)
@@ -66,11 +68,12 @@ unfoldable pub coveredBytes : ℕ → Section → List ℕ
 unfolding headerBytes eventLoopBytes
 coveredBytes base s = headerBytes (sectionSize s) (s .header) ++ eventLoopBytes base (s .events)
 
+-- a section: CRC_32 over it leaves 0 (`closed` of eit)
 unfoldable pub sectionBytes : ℕ → Section → List ℕ
 unfolding coveredBytes
 sectionBytes base s = coveredBytes base s ++ bigEndian 4 (crc32 (coveredBytes base s))
 
--- A file is sections joined
+-- a file is sections joined
 unfoldable pub fileBytes : ℕ → List Section → List ℕ
 unfolding flatten sectionBytes
 fileBytes base ss = flatten (map (sectionBytes base) ss)

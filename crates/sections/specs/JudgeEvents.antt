@@ -1,5 +1,5 @@
 -- What Read asks of a section's events: a test for each of the refusals 24 and 26, on the section's bytes and on the events before it
--- (01, "When a call says no"). Assumes nothing.
+-- (01, "When a call says no"). Laws: proofs/EventBytes.antt, proofs/EventLoop.antt, proofs/Order.antt. Assumes nothing.
 use Prim.Native.Nat.{ℕ, _+_, _/_}
 use mathlib.Core.Bool.{Bool, true, not, _&&_, _||_}
 use mathlib.Core.List.{List, [], _∷_, map}
@@ -29,6 +29,7 @@ isEvent base h bs =
     && ((eqb status 0 || eqb status 5)
     && (isChain (drop eventOverhead bs) && isInSegment h (startOf base (bytesAt 2 5 bs))))))
 
+-- every piece of an event loop is an event of the section
 abbrev pub areEvents : ℕ → Header → List (List ℕ) → Bool
 areEvents base h [] = true
 areEvents base h (bs ∷ rest) = isEvent base h bs && areEvents base h rest
@@ -44,6 +45,7 @@ abbrev pub isNew : List Event → Event → Bool
 isNew [] e = true
 isNew (d ∷ seen) e = follows d e && not (isAmong (e .id) (eventIds (d ∷ seen)))
 
+-- each of some events, one after the other
 abbrev pub areNew : List Event → List Event → Bool
 areNew seen [] = true
 areNew seen (e ∷ es) = isNew seen e && areNew (e ∷ seen) es

@@ -1,5 +1,5 @@
 -- What Read asks of a section before its events: a test for each of the refusals 20 to 23, on the section's bytes and on the header
--- before it (01, "When a call says no"). Assumes nothing.
+-- before it (01, "When a call says no"). Laws: proofs/HeaderBytes.antt, proofs/SameFile.antt, proofs/Numbering.antt. Assumes nothing.
 use Prim.Native.Nat.{ℕ, _+_, _/_, _%_}
 use mathlib.Core.Bool.{Bool, true, false, _&&_, _||_}
 use mathlib.Core.List.{List}
@@ -32,7 +32,7 @@ isClosed bs = eqb (crc32 bs) 0
 abbrev pub hasFixedBits : List ℕ → Bool
 hasFixedBits bs = eqb (field 1 2 bs / 0x1000) 0xF && (eqb (field 5 1 bs / 64) 3 && eqb (field 5 1 bs % 2) 1)
 
--- a section of `table` with this identity would have the identity i
+-- i is the identity that a section of `table` shows in a file with this identity
 abbrev pub isIdentity : ℕ → Identity → Identity → Bool
 isIdentity table identity i =
     eqb (i .«service_id») (identity .«service_id»)

@@ -22,6 +22,7 @@ abbrev pub isComplete : Option Header → Bool
 isComplete none = false
 isComplete (some h) = eqb (h .sectionNumber) (h .lastSectionNumber) && eqb (h .tableId) (h .lastTableId)
 
+-- the identity that a refusal returns
 abbrev pub noIdentity : Identity
 noIdentity = record { «service_id» = 0; «transport_stream_id» = 0; «original_network_id» = 0; version = 0 }
 
@@ -37,6 +38,7 @@ pub record Answer : Type 0 where
   pub identity : Identity
   pub count : ℕ
 
+-- a refusal: its number and what it returns
 abbrev pub refusal : ℕ → ℕ → Answer
 refusal number value = record { number = number; value = value; identity = noIdentity; count = 0 }
 
@@ -77,6 +79,7 @@ fill buffer rs answer =
       ]
     ]
 
+-- Read
 unfoldable pub read : Sizes → ℕ → List ℕ → List ℕ → Reading
 unfolding checkFile fileRecords
 read sizes base file buffer = fill buffer (fileRecords base file) (checkFile sizes base file)

@@ -1,4 +1,4 @@
--- A section as data (01, "The file of sections"). Assumes nothing.
+-- A section as data, and how many bytes it has (01, "The file of sections"). Laws: proofs/Lengths.antt. Assumes nothing.
 use Prim.Native.Nat.{ℕ, _+_}
 use mathlib.Core.List.{List, [], _∷_, map, flatten}
 use lib.ListN.{length}
@@ -15,6 +15,7 @@ pub record Header : Type 0 where
   pub lastTableId : ℕ
   pub identity : Identity
 
+-- a section: its header and its events
 pub record Section : Type 0 where
   pub header : Header
   pub events : List Event
@@ -27,10 +28,11 @@ headerSize = 14
 abbrev pub eventOverhead : ℕ
 eventOverhead = 12
 
--- "That is 12 + length bytes"
+-- that is 12 + length bytes
 abbrev pub eventSize : Event → ℕ
 eventSize e = eventOverhead + length (e .chain)
 
+-- the bytes of some events
 abbrev pub eventSizes : List Event → ℕ
 eventSizes [] = 0
 eventSizes (e ∷ es) = eventSize e + eventSizes es
@@ -47,5 +49,6 @@ unfoldable pub sectionEvents : List Section → List Event
 unfolding flatten
 sectionEvents ss = flatten (map (λ (s : Section). s .events) ss)
 
+-- the ids of some events
 abbrev pub eventIds : List Event → List ℕ
 eventIds es = map (λ (e : Event). e .id) es

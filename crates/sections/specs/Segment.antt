@@ -1,4 +1,4 @@
--- Segments: three hours each, counted from midnight UTC of the base day (01, "The file of sections"). Laws: proofs/Numbering.antt.
+-- Segments: three hours each, counted from midnight UTC of the base day (01, "The file of sections"). Laws: proofs/Count.antt.
 -- Assumes nothing.
 use Prim.Native.Nat.{ℕ, _+_, _-_, _*_, _/_, _%_}
 

@@ -1,5 +1,5 @@
 -- Read's walk over the sections of a file, one after the other (01, "When a call says no": per section 20, 21, 22, 23, 24, 26).
--- Laws: proofs/Walk.antt. Assumes nothing.
+-- Laws: proofs/Walk.antt, proofs/Answers.antt. Assumes nothing.
 use Prim.Native.Nat.{ℕ, _+_}
 use mathlib.Core.Bool.{Bool, true, false}
 use mathlib.Core.List.{List, [], _∷_, _++_, map, reverse}
@@ -51,6 +51,7 @@ step sizes base p bs =
     (check (isEventLoop base (p .seen) bs) 24 (p .offset)
     (check (isWithinLimit sizes (p .seen) bs) 26 (p .offset) (passed (behind base p bs)))))))
 
+-- section after section, until one is refused
 unfoldable pub walk : Sizes → ℕ → Progress → List (List ℕ) → Verdict
 unfolding step
 walk sizes base p [] = passed p

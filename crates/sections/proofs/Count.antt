@@ -1,0 +1,137 @@
+-- Counting in a segment from a file's bytes counts the sections with that segment's table and numbers, and these hold the events
+-- that start in it: the bytes of sections that keep the rules show these sections, and table and first section tell the index.
+-- Assumes nothing.
+use mathlib.Core.Path.{_≡_, refl, sym, ap, ap₂, _∙_}
+use mathlib.Core.Bool.{not, _&&_}
+use mathlib.Core.Logic.{_↔_, ⊎-elim}
+use Prim.Native.Nat.{ℕ, _+_, _≤_, _<_}
+use native.Mathlib.Omega.{arith}
+use mathlib.Core.List.{List, [], _∷_, _++_}
+use borrow.Author.Tests.{eq-eqb, ne-eqb}
+use lib.Dec.{T, eqb, leb, ltb, eqb→eq, leb→le, ltb→lt, le→leb, T-not}
+use lib.ListN.{length}
+use Rattle.eit.specs.Sizes.{Sizes}
+use Rattle.eit.specs.Limits.{baseMost}
+use Rattle.eit.specs.Events.{Event}
+use Rattle.eit.specs.declared.Identity.{Identity}
+use Rattle.eit.proofs.Test.{tests, and-parts, true-is, false-is, test-or, eq-test}
+use Rattle.sections.specs.Every.{Every}
+use Rattle.sections.specs.Segment.{segmentIndex, tableOf, firstSection, firstOf}
+use Rattle.sections.specs.Section.{Header, Section, sectionEvents}
+use Rattle.sections.specs.Encode.{fileBytes}
+use Rattle.sections.specs.Rules.{EventRules, Rules}
+use Rattle.sections.specs.Count.{isInFirst, firstSections, segmentEvents, segmentSections, sectionsCounted, eventsCounted}
+use Rattle.sections.proofs.Exact.{cut-sections-back}
+
+-- ---- arithmetic of indices
+
+-- table and first section tell the index
+pub index-only : (i j : ℕ) → tableOf i ≡ tableOf j → firstSection i ≡ firstSection j → i ≡ j
+index-only i j table first = omega arith
+
+-- what the test of a segment's first k sections says
+module _ (index k : ℕ) (h : Header) where
+  pub in-first : T (isInFirst index k h)
+      → (h .tableId ≡ tableOf index) × (firstSection index ≤ h .sectionNumber) × (h .sectionNumber < firstSection index + k)
+  in-first inside =
+      let S : ℕ = h .sectionNumber in
+      let s0 : ℕ = firstSection index in
+      let (table, numbers) = and-parts (eqb (h .tableId) (tableOf index)) (leb s0 S && ltb S (s0 + k)) inside in
+      let (least, most) = and-parts (leb s0 S) (ltb S (s0 + k)) numbers in
+      (eqb→eq (h .tableId) (tableOf index) table, leb→le s0 S least, ltb→lt S (s0 + k) most)
+
+  pub first-in : h .tableId ≡ tableOf index → firstSection index ≤ h .sectionNumber → h .sectionNumber < firstSection index + k
+      → T (isInFirst index k h)
+  first-in table least most = search (tests, eq-test, le→leb)
+
+-- a section is in a segment exactly if its table and the first section of its segment are that segment's
+pub in-segment : (index : ℕ) (h : Header)
+    → T (isInFirst index 8 h) ↔ ((h .tableId ≡ tableOf index) × (firstOf (h .sectionNumber) ≡ firstSection index))
+in-segment index h = (
+  λ inside. let (table, least, most) = in-first index 8 h inside in (table, omega arith),
+  λ (table, first). first-in index 8 h table (omega arith) (omega arith),
+)
+
+-- ---- counting from bytes is counting sections
+
+module _ (sizes : Sizes) (base : ℕ) (large : sizes .sectionBytes ≤ 4_096) (legal : base ≤ baseMost)
+    (identity : Identity) (ss : List Section) (rules : Rules sizes identity ss) where
+  pub sections-counted : (index : ℕ) → sectionsCounted base (fileBytes base ss) index ≡ length (segmentSections index ss)
+  unfolding sectionsCounted
+  sections-counted index =
+      ap (λ (ts : List Section). length (segmentSections index ts)) (cut-sections-back sizes base large legal identity ss rules)
+
+  pub events-counted : (index k : ℕ)
+      → eventsCounted base (fileBytes base ss) index k ≡ length (sectionEvents (firstSections index k ss))
+  unfolding eventsCounted
+  events-counted index k =
+      ap (λ (ts : List Section). length (sectionEvents (firstSections index k ts)))
+      (cut-sections-back sizes base large legal identity ss rules)
+
+-- ---- a segment's sections, with one section more
+
+module _ (index k : ℕ) (s : Section) (ss : List Section) where
+  pub first-more : T (isInFirst index k (s .header)) → firstSections index k (s ∷ ss) ≡ s ∷ firstSections index k ss
+  first-more inside = rw (firstSections, true-is (isInFirst index k (s .header)) inside)
+
+  pub first-same : T (not (isInFirst index k (s .header))) → firstSections index k (s ∷ ss) ≡ firstSections index k ss
+  first-same outside = rw (firstSections, false-is (isInFirst index k (s .header)) outside)
+
+-- ---- the events that start in a segment
+
+module _ (index : ℕ) (e : Event) (es : List Event) where
+  events-more : segmentIndex (e .start) ≡ index → segmentEvents index (e ∷ es) ≡ e ∷ segmentEvents index es
+  events-more here = rw (segmentEvents, eq-eqb (segmentIndex (e .start)) index here)
+
+  events-same : (segmentIndex (e .start) ≡ index → ⊥) → segmentEvents index (e ∷ es) ≡ segmentEvents index es
+  events-same elsewhere = rw (segmentEvents, ne-eqb (segmentIndex (e .start)) index elsewhere)
+
+events-append : (index : ℕ) (ds es : List Event)
+    → segmentEvents index (ds ++ es) ≡ segmentEvents index ds ++ segmentEvents index es
+events-append index [] es = refl
+events-append index (d ∷ ds) es =
+    ⊎-elim
+    (λ here. rw (segmentEvents, true-is (eqb (segmentIndex (d .start)) index) here)
+    (ap (λ (fs : List Event). d ∷ fs) (events-append index ds es)))
+    (λ elsewhere. rw (segmentEvents, false-is (eqb (segmentIndex (d .start)) index) elsewhere) (events-append index ds es))
+    (test-or (eqb (segmentIndex (d .start)) index))
+
+module _ (index : ℕ) (h : Header) where
+  -- all events of a section in the segment start in it
+  all-start : (es : List Event) → Every (EventRules h) es → T (isInFirst index 8 h) → segmentEvents index es ≡ es
+  all-start [] rules inside = refl
+  all-start (e ∷ es) rules inside =
+      let (table, first) = in-segment index h .0 inside in
+      let here : segmentIndex (e .start) ≡ index =
+      index-only (segmentIndex (e .start)) index (rules .0 .table ∙ table) (rules .0 .segment ∙ first) in
+      events-more index e es here ∙ ap (λ (fs : List Event). e ∷ fs) (all-start es (rules .1) inside)
+
+  -- and none of another section
+  none-start : (es : List Event) → Every (EventRules h) es → T (not (isInFirst index 8 h)) → segmentEvents index es ≡ []
+  none-start [] rules outside = refl
+  none-start (e ∷ es) rules outside =
+      let elsewhere : segmentIndex (e .start) ≡ index → ⊥ =
+      λ here. T-not (isInFirst index 8 h) outside
+      (in-segment index h .1 (sym (rules .0 .table) ∙ ap tableOf here, sym (rules .0 .segment) ∙ ap firstSection here)) in
+      events-same index e es elsewhere ∙ none-start es (rules .1) outside
+
+-- the sections in a segment hold the events that start in it
+pub segment-holds : (index : ℕ) (ss : List Section)
+    → Every (λ (s : Section). Every (EventRules (s .header)) (s .events)) ss
+    → sectionEvents (segmentSections index ss) ≡ segmentEvents index (sectionEvents ss)
+unfolding sectionEvents
+segment-holds index [] rules = refl
+segment-holds index (s ∷ ss) rules =
+    let held : sectionEvents (segmentSections index ss) ≡ segmentEvents index (sectionEvents ss) = segment-holds index ss (rules .1) in
+    let parts = events-append index (s .events) (sectionEvents ss) in
+    ⊎-elim
+    (λ inside.
+    ap sectionEvents (first-more index 8 s ss inside)
+    ∙ ap₂ (λ (ds es : List Event). ds ++ es) (sym (all-start index (s .header) (s .events) (rules .0) inside)) held
+    ∙ sym parts)
+    (λ outside.
+    ap sectionEvents (first-same index 8 s ss outside)
+    ∙ held
+    ∙ ap (λ (ds : List Event). ds ++ segmentEvents index (sectionEvents ss)) (sym (none-start index (s .header) (s .events) (rules .0) outside))
+    ∙ sym parts)
+    (test-or (isInFirst index 8 (s .header)))
