@@ -1,5 +1,5 @@
--- Which refusal Read answers with: the first check that fails (20, 21, 22, 23, 24, 26), at the first section where one does, with
--- that section's offset; and 25 with the file's length where all pass and the file is not complete. By the checks of `step` and
+-- Which refusal Read answers with: the first test that fails (20, 21, 22, 23, 24, 26), at the first section where one does, with
+-- that section's offset; and 25 with the file's length where all pass and the file is not complete. By the tests of `step` and
 -- induction over the sections. Assumes nothing.
 use mathlib.Core.Path.{_≡_, refl, sym, ap, _∙_}
 use mathlib.Core.Bool.{not}
@@ -16,66 +16,56 @@ use Rattle.eit.proofs.Test.{true-is, false-is}
 use Rattle.sections.specs.Decode.{headerIn, cutFile}
 use Rattle.sections.specs.JudgeHeader.{isFramed, isClosed, isHeader, isInPlace}
 use Rattle.sections.specs.JudgeEvents.{isEventLoop, isWithinLimit}
-use Rattle.sections.specs.Walk.{Progress, atStart, behind, refused, step, walk}
+use Rattle.sections.specs.Walk.{Progress, atStart, behind, behindAll, Verdict, passed, refused, require, step, walk}
 use Rattle.sections.specs.Read.{isComplete, refusal, atEnd, checkFile}
-use Rattle.sections.proofs.Walk.{behindAll, AllPass, step-passes, walk-passes}
+use Rattle.sections.proofs.Walk.{Passes, AllPass, step-passes, step-passed, walk-passes}
 
--- ---- one section: the first check that fails
+-- ---- one section: the first test that fails
 
 module _ (sizes : Sizes) (base : ℕ) (p : Progress) (bs : List ℕ) where
+  -- what is left of `step` behind 20 and 21, and behind 22 and 23
+  abbrev fromEvents : Verdict
+  fromEvents =
+      require (isEventLoop base (p .seen) bs) 24 (p .offset)
+      (require (isWithinLimit sizes (p .seen) bs) 26 (p .offset) (passed (behind base p bs)))
+
+  abbrev fromHeader : Verdict
+  fromHeader =
+      require (isHeader (p .before) bs) 22 (p .offset)
+      (require (isInPlace (p .before) (headerIn bs)) 23 (p .offset) fromEvents)
+
   pub step-20 : T (not (isFramed sizes bs)) → step sizes base p bs ≡ refused 20 (p .offset)
   unfolding step
-  step-20 no-frame = rw (step, false-is (isFramed sizes bs) no-frame)
+  step-20 fails = rw (step, false-is (isFramed sizes bs) fails)
 
-  module _ (frame : T (isFramed sizes bs)) where
-    pub step-21 : T (not (isClosed bs)) → step sizes base p bs ≡ refused 21 (p .offset)
+  pub step-21 : T (isFramed sizes bs) → T (not (isClosed bs)) → step sizes base p bs ≡ refused 21 (p .offset)
+  unfolding step
+  step-21 framed fails = rw (step, true-is (isFramed sizes bs) framed, false-is (isClosed bs) fails)
+
+  module _ (framed : T (isFramed sizes bs)) (closed : T (isClosed bs)) where
+    at-header : step sizes base p bs ≡ fromHeader
     unfolding step
-    step-21 wrong = rw (step, true-is (isFramed sizes bs) frame, false-is (isClosed bs) wrong)
+    at-header = rw (step, true-is (isFramed sizes bs) framed, true-is (isClosed bs) closed)
 
-    module _ (closed : T (isClosed bs)) where
-      pub step-22 : T (not (isHeader (p .before) bs)) → step sizes base p bs ≡ refused 22 (p .offset)
-      unfolding step
-      step-22 wrong =
-          rw (step, true-is (isFramed sizes bs) frame, true-is (isClosed bs) closed, false-is (isHeader (p .before) bs) wrong)
+    pub step-22 : T (not (isHeader (p .before) bs)) → step sizes base p bs ≡ refused 22 (p .offset)
+    step-22 fails = at-header ∙ rw (false-is (isHeader (p .before) bs) fails)
 
-      module _ (header : T (isHeader (p .before) bs)) where
-        pub step-23 : T (not (isInPlace (p .before) (headerIn bs))) → step sizes base p bs ≡ refused 23 (p .offset)
-        unfolding step
-        step-23 elsewhere =
-            rw (
-              step,
-              true-is (isFramed sizes bs) frame,
-              true-is (isClosed bs) closed,
-              true-is (isHeader (p .before) bs) header,
-              false-is (isInPlace (p .before) (headerIn bs)) elsewhere,
-            )
+    pub step-23 : T (isHeader (p .before) bs) → T (not (isInPlace (p .before) (headerIn bs)))
+        → step sizes base p bs ≡ refused 23 (p .offset)
+    step-23 header fails =
+        at-header ∙ rw (true-is (isHeader (p .before) bs) header, false-is (isInPlace (p .before) (headerIn bs)) fails)
 
-        module _ (place : T (isInPlace (p .before) (headerIn bs))) where
-          pub step-24 : T (not (isEventLoop base (p .seen) bs)) → step sizes base p bs ≡ refused 24 (p .offset)
-          unfolding step
-          step-24 broken =
-              rw (
-                step,
-                true-is (isFramed sizes bs) frame,
-                true-is (isClosed bs) closed,
-                true-is (isHeader (p .before) bs) header,
-                true-is (isInPlace (p .before) (headerIn bs)) place,
-                false-is (isEventLoop base (p .seen) bs) broken,
-              )
+    module _ (header : T (isHeader (p .before) bs)) (place : T (isInPlace (p .before) (headerIn bs))) where
+      at-events : step sizes base p bs ≡ fromEvents
+      at-events = at-header ∙ rw (true-is (isHeader (p .before) bs) header, true-is (isInPlace (p .before) (headerIn bs)) place)
 
-          pub step-26 : T (isEventLoop base (p .seen) bs) → T (not (isWithinLimit sizes (p .seen) bs))
-              → step sizes base p bs ≡ refused 26 (p .offset)
-          unfolding step
-          step-26 loop many =
-              rw (
-                step,
-                true-is (isFramed sizes bs) frame,
-                true-is (isClosed bs) closed,
-                true-is (isHeader (p .before) bs) header,
-                true-is (isInPlace (p .before) (headerIn bs)) place,
-                true-is (isEventLoop base (p .seen) bs) loop,
-                false-is (isWithinLimit sizes (p .seen) bs) many,
-              )
+      pub step-24 : T (not (isEventLoop base (p .seen) bs)) → step sizes base p bs ≡ refused 24 (p .offset)
+      step-24 fails = at-events ∙ rw (false-is (isEventLoop base (p .seen) bs) fails)
+
+      pub step-26 : T (isEventLoop base (p .seen) bs) → T (not (isWithinLimit sizes (p .seen) bs))
+          → step sizes base p bs ≡ refused 26 (p .offset)
+      step-26 loop fails =
+          at-events ∙ rw (true-is (isEventLoop base (p .seen) bs) loop, false-is (isWithinLimit sizes (p .seen) bs) fails)
 
 -- ---- the first section where one fails
 
@@ -101,6 +91,47 @@ module _ (sizes : Sizes) (base : ℕ) where
       → walk sizes base p (bs ∷ rest) ≡ refused number offset
   unfolding walk
   walk-refused p bs rest number offset e = rw (walk, e)
+
+  -- where a refusal comes from: behind sections that all pass, at one that does not
+  pub record RefusedAt (p : Progress) (xs : List (List ℕ)) (number offset : ℕ) : Type 0 where
+    pub before : List (List ℕ)
+    pub section : List ℕ
+    pub rest : List (List ℕ)
+    pub split : xs ≡ before ++ section ∷ rest
+    pub pass : AllPass sizes base p before
+    pub refuses : step sizes base (behindAll base p before) section ≡ refused number offset
+
+  refused-behind : (p : Progress) (bs : List ℕ) (xs : List (List ℕ)) (number offset : ℕ) → Passes sizes base p bs
+      → RefusedAt (behind base p bs) xs number offset
+      → RefusedAt p (bs ∷ xs) number offset
+  refused-behind p bs xs number offset passes r =
+      record {
+        before = bs ∷ r .before;
+        section = r .section;
+        rest = r .rest;
+        split = λ i. bs ∷ r .split i;
+        pass = (passes, r .pass);
+        refuses = r .refuses;
+      }
+
+  refused-first : (p : Progress) (bs : List ℕ) (xs : List (List ℕ)) (number offset : ℕ) (v : Verdict) → step sizes base p bs ≡ v
+      → walk sizes base p (bs ∷ xs) ≡ refused number offset
+      → (walk sizes base (behind base p bs) xs ≡ refused number offset → RefusedAt (behind base p bs) xs number offset)
+      → RefusedAt p (bs ∷ xs) number offset
+  unfolding walk
+  refused-first p bs xs number offset (passed next) is e later =
+      let (passes, same) = step-passed sizes base p next bs is in
+      let walked : walk sizes base next xs ≡ refused number offset = rw (walk, is) at e in
+      refused-behind p bs xs number offset passes (later (rw same walked))
+  refused-first p bs xs number offset (refused n o) is e later =
+      record { before = []; section = bs; rest = xs; split = refl; pass = tt; refuses = is ∙ rw (walk, is) at e }
+
+  pub refused-only : (p : Progress) (xs : List (List ℕ)) (number offset : ℕ) → walk sizes base p xs ≡ refused number offset
+      → RefusedAt p xs number offset
+  unfolding walk
+  refused-only p [] number offset e = let never : _≡_ {A = ℕ} 0 1 = cc in absurd (omega arith)
+  refused-only p (bs ∷ xs) number offset e =
+      refused-first p bs xs number offset (step sizes base p bs) refl e (refused-only (behind base p bs) xs number offset)
 
   module _ (file : List ℕ) (legal : base ≤ baseMost) where
     -- a refusal of a section is Read's answer, and nothing behind that section is looked at

@@ -17,12 +17,12 @@ use Rattle.sections.specs.Encode.{sectionBytes}
 use Rattle.sections.specs.Rules.{Succeeding, Ordered, IdentityRules, SectionRules}
 use Rattle.sections.specs.JudgeHeader.{isSameFile, isNext}
 use Rattle.sections.specs.JudgeEvents.{areNew}
-use Rattle.sections.specs.Walk.{Progress, atStart}
+use Rattle.sections.specs.Walk.{Progress, atStart, behindAll}
 use Rattle.sections.specs.Read.{isComplete, identityOf}
 use Rattle.sections.proofs.SameFile.{file-same}
 use Rattle.sections.proofs.Numbering.{first-is, next-is, last-is}
 use Rattle.sections.proofs.Order.{seen-length, new-parts}
-use Rattle.sections.proofs.Walk.{behindAll, AllPass}
+use Rattle.sections.proofs.Walk.{AllPass}
 use Rattle.sections.proofs.SectionBack.{section-passes, section-behind}
 
 -- every section passes from p on, and behind them the file is complete and has the identity
@@ -35,8 +35,9 @@ module _ (sizes : Sizes) (base : ℕ) (large : sizes .sectionBytes ≤ 4_096) (l
     (identity : Identity) (lastTableId : ℕ) (known : IdentityRules identity) (most : lastTableId ≤ tableMost)
   where
     -- what is known behind a section that keeps the rules
-    abbrev beyond : Progress → Section → Progress
-    beyond p s = record { offset = p .offset + sectionSize s; before = some (s .header); seen = reverse (s .events) ++ p .seen }
+    abbrev knownBehind : Progress → Section → Progress
+    knownBehind p s =
+        record { offset = p .offset + sectionSize s; before = some (s .header); seen = reverse (s .events) ++ p .seen }
 
     -- one section, before some that are accepted
     accepts-one : (p : Progress) (s : Section) (xs : List (List ℕ))
@@ -45,7 +46,7 @@ module _ (sizes : Sizes) (base : ℕ) (large : sizes .sectionBytes ≤ 4_096) (l
         → T (isNext (p .before) (s .header))
         → T (areNew (p .seen) (s .events))
         → length (p .seen) + length (s .events) ≤ sizes .eventLimit
-        → Accepts sizes base identity (beyond p s) xs
+        → Accepts sizes base identity (knownBehind p s) xs
         → Accepts sizes base identity p (sectionBytes base s ∷ xs)
     accepts-one p s xs rules same next new few rest =
         let passes = section-passes sizes base large legal identity lastTableId known most s rules p same next new few in
@@ -72,10 +73,13 @@ module _ (sizes : Sizes) (base : ℕ) (large : sizes .sectionBytes ≤ 4_096) (l
         let that = rules .1 .0 .headerRules in
         let (first, others) = new-parts (p .seen) (s .events) (sectionEvents (t ∷ ss)) new in
         let count = length-append (s .events) (sectionEvents (t ∷ ss)) in
-        let file = file-same (s .header) (t .header) (that .sameIdentity ∙ sym (this .sameIdentity)) (that .sameLastTable ∙ sym (this .sameLastTable)) in
+        let file =
+        file-same (s .header) (t .header) (that .sameIdentity ∙ sym (this .sameIdentity))
+        (that .sameLastTable ∙ sym (this .sameLastTable)) in
         let behind = next-is (s .header) (t .header) (this .numbered) (succeeding .0) in
         accepts-one p s (map (sectionBytes base) (t ∷ ss)) (rules .0) same next first (omega arith)
-        (accepts ss (beyond p s) t (rules .1) file behind (succeeding .1) others (omega (arith, seen-length (s .events) (p .seen))))
+        (accepts ss (knownBehind p s) t (rules .1) file behind (succeeding .1) others
+        (omega (arith, seen-length (s .events) (p .seen))))
 
     -- all of them
     pub all-back : (ss : List Section)

@@ -4,21 +4,22 @@
 use mathlib.Core.Path.{_≡_, refl, sym, ap, ap₂, _∙_}
 use mathlib.Core.Bool.{not, _&&_}
 use mathlib.Core.Logic.{_↔_, ⊎-elim}
-use Prim.Native.Nat.{ℕ, _+_, _≤_, _<_}
+use Prim.Native.Nat.{ℕ, suc, _+_, _*_, _≤_, _<_}
 use native.Mathlib.Omega.{arith}
-use mathlib.Core.List.{List, [], _∷_, _++_}
+use mathlib.Core.List.{List, [], _∷_, _++_, map}
 use borrow.Author.Tests.{eq-eqb, ne-eqb}
 use lib.Dec.{T, eqb, leb, ltb, eqb→eq, leb→le, ltb→lt, le→leb, T-not}
-use lib.ListN.{length}
+use lib.ListN.{length, length-append, length-map}
 use Rattle.eit.specs.Sizes.{Sizes}
 use Rattle.eit.specs.Limits.{baseMost}
 use Rattle.eit.specs.Events.{Event}
 use Rattle.eit.specs.declared.Identity.{Identity}
 use Rattle.eit.proofs.Test.{tests, and-parts, true-is, false-is, test-or, eq-test}
 use Rattle.sections.specs.Every.{Every}
-use Rattle.sections.specs.Segment.{segmentIndex, tableOf, firstSection, firstOf}
+use Rattle.sections.specs.Segment.{tableLeast, segmentIndex, tableOf, segmentOf, firstSection, firstOf}
 use Rattle.sections.specs.Section.{Header, Section, sectionEvents}
 use Rattle.sections.specs.Encode.{fileBytes}
+use Rattle.sections.specs.Decode.{headerIn, cutEvents, sectionIn, cutFile}
 use Rattle.sections.specs.Rules.{EventRules, Rules}
 use Rattle.sections.specs.Count.{isInFirst, firstSections, segmentEvents, segmentSections, sectionsCounted, eventsCounted}
 use Rattle.sections.proofs.Exact.{cut-sections-back}
@@ -28,6 +29,14 @@ use Rattle.sections.proofs.Exact.{cut-sections-back}
 -- table and first section tell the index
 pub index-only : (i j : ℕ) → tableOf i ≡ tableOf j → firstSection i ≡ firstSection j → i ≡ j
 index-only i j table first = omega arith
+
+-- table 0x50 + t and segment g have the index 32 × t + g
+pub index-of : (t g : ℕ) → g < 32 → (tableOf (t * 32 + g) ≡ tableLeast + t) × (segmentOf (t * 32 + g) ≡ g)
+index-of t g few = (omega arith, omega arith)
+
+-- the eight section numbers of a segment have its s0
+pub first-of : (index k : ℕ) → k < 8 → firstOf (firstSection index + k) ≡ firstSection index
+first-of index k few = omega arith
 
 -- what the test of a segment's first k sections says
 module _ (index k : ℕ) (h : Header) where
@@ -77,6 +86,42 @@ module _ (index k : ℕ) (s : Section) (ss : List Section) where
   pub first-same : T (not (isInFirst index k (s .header))) → firstSections index k (s ∷ ss) ≡ firstSections index k ss
   first-same outside = rw (firstSections, false-is (isInFirst index k (s .header)) outside)
 
+-- ---- no count depends on the base day: headers and the cuts between events are read without it
+
+module _ (base other index k : ℕ) where
+  same-sections : (xs : List (List ℕ))
+      → length (firstSections index k (map (sectionIn base) xs)) ≡ length (firstSections index k (map (sectionIn other) xs))
+  unfolding sectionIn
+  same-sections [] = refl
+  same-sections (x ∷ xs) =
+      ⊎-elim
+      (λ inside. rw (firstSections, true-is (isInFirst index k (headerIn x)) inside) (ap suc (same-sections xs)))
+      (λ outside. rw (firstSections, false-is (isInFirst index k (headerIn x)) outside) (same-sections xs))
+      (test-or (isInFirst index k (headerIn x)))
+
+  same-events : (xs : List (List ℕ))
+      → length (sectionEvents (firstSections index k (map (sectionIn base) xs)))
+      ≡ length (sectionEvents (firstSections index k (map (sectionIn other) xs)))
+  unfolding sectionIn sectionEvents
+  same-events [] = refl
+  same-events (x ∷ xs) =
+      ⊎-elim
+      (λ inside.
+      rw (firstSections, true-is (isInFirst index k (headerIn x)) inside)
+      (simp (length-append, length-map) (ap (λ (n : ℕ). length (cutEvents x) + n) (same-events xs))))
+      (λ outside. rw (firstSections, false-is (isInFirst index k (headerIn x)) outside) (same-events xs))
+      (test-or (isInFirst index k (headerIn x)))
+
+pub sections-any-base : (base other : ℕ) (file : List ℕ) (index : ℕ)
+    → sectionsCounted base file index ≡ sectionsCounted other file index
+unfolding sectionsCounted
+sections-any-base base other file index = same-sections base other index 8 (cutFile file)
+
+pub events-any-base : (base other : ℕ) (file : List ℕ) (index k : ℕ)
+    → eventsCounted base file index k ≡ eventsCounted other file index k
+unfolding eventsCounted
+events-any-base base other file index k = same-events base other index k (cutFile file)
+
 -- ---- the events that start in a segment
 
 module _ (index : ℕ) (e : Event) (es : List Event) where
@@ -122,7 +167,8 @@ pub segment-holds : (index : ℕ) (ss : List Section)
 unfolding sectionEvents
 segment-holds index [] rules = refl
 segment-holds index (s ∷ ss) rules =
-    let held : sectionEvents (segmentSections index ss) ≡ segmentEvents index (sectionEvents ss) = segment-holds index ss (rules .1) in
+    let held : sectionEvents (segmentSections index ss) ≡ segmentEvents index (sectionEvents ss) =
+    segment-holds index ss (rules .1) in
     let parts = events-append index (s .events) (sectionEvents ss) in
     ⊎-elim
     (λ inside.
@@ -132,6 +178,7 @@ segment-holds index (s ∷ ss) rules =
     (λ outside.
     ap sectionEvents (first-same index 8 s ss outside)
     ∙ held
-    ∙ ap (λ (ds : List Event). ds ++ segmentEvents index (sectionEvents ss)) (sym (none-start index (s .header) (s .events) (rules .0) outside))
+    ∙ ap (λ (ds : List Event). ds ++ segmentEvents index (sectionEvents ss))
+    (sym (none-start index (s .header) (s .events) (rules .0) outside))
     ∙ sym parts)
     (test-or (isInFirst index 8 (s .header)))

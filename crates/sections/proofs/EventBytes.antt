@@ -188,7 +188,8 @@ event-forth base h bs bytes t =
     let (table, segment) =
     and-parts (eqb (tableOf (segmentIndex start)) (h .tableId))
     (eqb (firstSection (segmentIndex start)) (firstOf (h .sectionNumber))) inside in
-    let (same-start, soon) = start-only base (bytesAt 2 5 bs) (field-length bs 2 5 (omega arith)) (field-bytes bs bytes 2 5) starts in
+    let (same-start, soon) =
+    start-only base (bytesAt 2 5 bs) (field-length bs 2 5 (omega arith)) (field-bytes bs bytes 2 5) starts in
     let (same-duration, least, most) = duration-only (bytesAt 7 3 bs) (field-length bs 7 3 (omega arith)) lasts in
     let rest : length (drop eventOverhead bs) ≡ w % 0x1000 = length-drop eventOverhead bs ∙ omega arith in
     let same-word : statusWord (eventIn base bs) ≡ w =

@@ -33,7 +33,8 @@ all-stated base [] short = tt
 all-stated base (e ∷ es) short = (event-stated base e (short .0), all-stated base es (short .1))
 
 -- the bytes of events are cut into those of each
-pub loop-cut : (base : ℕ) (es : List Event) → Every Short es → cut statedEventSize (eventLoopBytes base es) ≡ map (eventBytes base) es
+pub loop-cut : (base : ℕ) (es : List Event) → Every Short es
+    → cut statedEventSize (eventLoopBytes base es) ≡ map (eventBytes base) es
 unfolding eventLoopBytes
 loop-cut base es short = cut-back statedEventSize (map (eventBytes base) es) (all-stated base es short)
 

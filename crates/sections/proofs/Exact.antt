@@ -23,15 +23,14 @@ use Rattle.sections.specs.Encode.{sectionBytes, fileBytes}
 use Rattle.sections.specs.Decode.{statedSectionSize, sectionIn, cutFile, cutSections}
 use Rattle.sections.specs.Rules.{IdentityRules, SectionRules, Rules}
 use Rattle.sections.specs.JudgeEvents.{areNew}
-use Rattle.sections.specs.Walk.{atStart}
+use Rattle.sections.specs.Walk.{atStart, behindAll}
 use Rattle.sections.specs.Read.{identityOf, Answer, success, checkFile, Reading, fileRecords, read, listOf}
 use Rattle.sections.specs.Places.{recordsFrom}
 use Rattle.sections.specs.Exact.{FollowsRules, readingOf}
 use Rattle.sections.proofs.Cut.{Stated, cut-joined, cut-back}
 use Rattle.sections.proofs.Order.{InOrder, seen-length, new-order, order-new}
-use Rattle.sections.proofs.Walk.{behindAll}
 use Rattle.sections.proofs.SectionBack.{section-back, section-stated}
-use Rattle.sections.proofs.Read.{accepted, check-succeeds, check-succeeded, read-short, read-succeeds, read-agrees}
+use Rattle.sections.proofs.Read.{successOf, check-succeeds, check-succeeded, read-short, read-succeeds, read-agrees}
 use Rattle.sections.proofs.Forth.{shown-seen, shown-new, shown-few, All, all-forth}
 use Rattle.sections.proofs.Back.{Accepts, all-back}
 use Rattle.sections.proofs.Places.{records-count}
@@ -42,7 +41,7 @@ pub file-joined : (file : List ℕ) → flatten (cutFile file) ≡ file
 unfolding cutFile
 file-joined file = cut-joined statedSectionSize (λ bs. omega arith) file
 
-sections-are : (base : ℕ) (file : List ℕ) → cutSections base file ≡ map (sectionIn base) (cutFile file)
+pub sections-are : (base : ℕ) (file : List ℕ) → cutSections base file ≡ map (sectionIn base) (cutFile file)
 unfolding cutSections
 sections-are base file = refl
 
@@ -50,7 +49,7 @@ bytes-are : (base : ℕ) (ss : List Section) → fileBytes base ss ≡ flatten (
 unfolding fileBytes
 bytes-are base ss = refl
 
-records-are : (base : ℕ) (file : List ℕ) → fileRecords base file ≡ recordsFrom 0 (cutSections base file)
+pub records-are : (base : ℕ) (file : List ℕ) → fileRecords base file ≡ recordsFrom 0 (cutSections base file)
 unfolding fileRecords
 records-are base file = refl
 
@@ -60,7 +59,13 @@ seen-count base file =
     let ss : List Section = map (sectionIn base) (cutFile file) in
     ap length (shown-seen base atStart (cutFile file))
     ∙ seen-length (sectionEvents ss) []
-    ∙ omega (arith, records-count 0 ss, ap length (records-are base file), ap (λ (ts : List Section). length (recordsFrom 0 ts)) (sections-are base file))
+    ∙ omega (
+      arith,
+      records-count 0 ss,
+      ap length (records-are base file),
+      ap (λ (ts : List Section). length (recordsFrom 0 ts))
+          (sections-are base file),
+    )
 
 -- ---- forth
 
@@ -70,55 +75,69 @@ module _ (sizes : Sizes) (base : ℕ) (file : List ℕ) where
       → checkFile sizes base file ≡ success (checkFile sizes base file .identity) (length (fileRecords base file))
   accepted-answer zero =
       let (legal, all, complete) = check-succeeded sizes base file zero in
-      let is : checkFile sizes base file ≡ accepted sizes base file = check-succeeds sizes base file legal all complete in
+      let is : checkFile sizes base file ≡ successOf sizes base file = check-succeeds sizes base file legal all complete in
       is ∙ ap₂ success (sym (ap (λ (a : Answer). a .identity) is)) (seen-count base file)
 
-  pub accepted-follows : Bytes file → checkFile sizes base file .number ≡ 0
-      → FollowsRules sizes base file (checkFile sizes base file .identity) (fileRecords base file)
-  accepted-follows bytes zero =
+  -- they are within the limit
+  pub accepted-few : checkFile sizes base file .number ≡ 0 → length (fileRecords base file) ≤ sizes .eventLimit
+  accepted-few zero =
+      let (legal, all, complete) = check-succeeded sizes base file zero in
+      let count : length (fileRecords base file) ≡ length (sectionEvents (map (sectionIn base) (cutFile file))) =
+      ap length (records-are base file ∙ ap (recordsFrom 0) (sections-are base file))
+      ∙ records-count 0 (map (sectionIn base) (cutFile file)) in
+      omega (arith, shown-few sizes base atStart (cutFile file) (omega arith) all)
+
+  -- the sections that the bytes show keep the rules, and their joined bytes are the file
+  pub accepted-rules : Bytes file → checkFile sizes base file .number ≡ 0
+      → Rules sizes (checkFile sizes base file .identity) (cutSections base file)
+      × (fileBytes base (cutSections base file) ≡ file)
+  accepted-rules bytes zero =
       let xs : List (List ℕ) = cutFile file in
       let ss : List Section = map (sectionIn base) xs in
       let (legal, all, complete) = check-succeeded sizes base file zero in
-      let is : checkFile sizes base file ≡ accepted sizes base file = check-succeeds sizes base file legal all complete in
-      let same : checkFile sizes base file .identity ≡ identityOf (behindAll base atStart xs .before) = ap (λ (a : Answer). a .identity) is in
+      let is : checkFile sizes base file ≡ successOf sizes base file = check-succeeds sizes base file legal all complete in
+      let same : checkFile sizes base file .identity ≡ identityOf (behindAll base atStart xs .before) =
+      ap (λ (a : Answer). a .identity) is in
       let every : All sizes base xs (identityOf (behindAll base atStart xs .before)) =
       all-forth sizes base xs (rw (file-joined file) bytes) all complete in
       let order : InOrder (sectionEvents ss) =
       new-order [] (sectionEvents ss) (record { rises = tt; differ = tt }) (shown-new sizes base atStart xs all) in
-      rw same (record {
-        sections = ss;
-        rules =
-            record {
-              identityRules = every .identityRules;
-              lastTableId = every .lastTableId;
-              lastTable = every .lastTable;
-              sections = every .rules;
-              ordered = every .ordered;
-              rises = order .rises;
-              differ = order .differ;
-              few = omega (arith, shown-few sizes base atStart xs (omega arith) all);
-            };
-        bytes = bytes-are base ss ∙ ap flatten (every .bytes) ∙ file-joined file;
-        records = sym (records-are base file ∙ ap (recordsFrom 0) (sections-are base file));
-      })
+      let rules : Rules sizes (identityOf (behindAll base atStart xs .before)) ss =
+      record {
+        identityRules = every .identityRules;
+        lastTableId = every .lastTableId;
+        lastTable = every .lastTable;
+        sections = every .rules;
+        ordered = every .ordered;
+        rises = order .rises;
+        differ = order .differ;
+        few = omega (arith, shown-few sizes base atStart xs (omega arith) all);
+      } in
+      rw (same, sections-are base file) (rules, bytes-are base ss ∙ ap flatten (every .bytes) ∙ file-joined file)
+
+  pub accepted-follows : Bytes file → checkFile sizes base file .number ≡ 0
+      → FollowsRules sizes base file (checkFile sizes base file .identity) (fileRecords base file)
+  accepted-follows bytes zero =
+      let (rules, joined) = accepted-rules bytes zero in
+      record { sections = cutSections base file; rules = rules; bytes = joined; records = sym (records-are base file) }
 
 -- ---- back
 
 module _ (sizes : Sizes) (base : ℕ) (large : sizes .sectionBytes ≤ 4_096) (legal : base ≤ baseMost)
     (identity : Identity) (lastTableId : ℕ) (known : IdentityRules identity) (most : lastTableId ≤ tableMost)
   where
-    all-stated : (ss : List Section) → Every (SectionRules sizes identity lastTableId) ss
+    sections-stated : (ss : List Section) → Every (SectionRules sizes identity lastTableId) ss
         → Every (Stated statedSectionSize) (map (sectionBytes base) ss)
-    all-stated [] rules = tt
-    all-stated (s ∷ ss) rules =
-        (section-stated sizes base large legal identity lastTableId known most s (rules .0), all-stated ss (rules .1))
+    sections-stated [] rules = tt
+    sections-stated (s ∷ ss) rules =
+        (section-stated sizes base large legal identity lastTableId known most s (rules .0), sections-stated ss (rules .1))
 
-    all-shown : (ss : List Section) → Every (SectionRules sizes identity lastTableId) ss
+    sections-shown : (ss : List Section) → Every (SectionRules sizes identity lastTableId) ss
         → map (sectionIn base) (map (sectionBytes base) ss) ≡ ss
-    all-shown [] rules = refl
-    all-shown (s ∷ ss) rules =
+    sections-shown [] rules = refl
+    sections-shown (s ∷ ss) rules =
         ap₂ (λ (t : Section) (ts : List Section). t ∷ ts)
-        (section-back sizes base large legal identity lastTableId known most s (rules .0)) (all-shown ss (rules .1))
+        (section-back sizes base large legal identity lastTableId known most s (rules .0)) (sections-shown ss (rules .1))
 
 module _ (sizes : Sizes) (base : ℕ) (large : sizes .sectionBytes ≤ 4_096) (legal : base ≤ baseMost)
     (identity : Identity) (ss : List Section) (rules : Rules sizes identity ss)
@@ -128,33 +147,36 @@ module _ (sizes : Sizes) (base : ℕ) (large : sizes .sectionBytes ≤ 4_096) (l
     cut-file-back =
         ap cutFile (bytes-are base ss)
         ∙ cut-back statedSectionSize (map (sectionBytes base) ss)
-        (all-stated sizes base large legal identity (rules .lastTableId) (rules .identityRules) (rules .lastTable) ss (rules .sections))
+        (sections-stated sizes base large legal identity (rules .lastTableId) (rules .identityRules) (rules .lastTable) ss
+        (rules .sections))
 
     -- cutting the joined bytes of sections that keep the rules gives them back
     pub cut-sections-back : cutSections base (fileBytes base ss) ≡ ss
     cut-sections-back =
         sections-are base (fileBytes base ss)
         ∙ ap (map (sectionIn base)) cut-file-back
-        ∙ all-shown sizes base large legal identity (rules .lastTableId) (rules .identityRules) (rules .lastTable) ss (rules .sections)
+        ∙ sections-shown sizes base large legal identity (rules .lastTableId) (rules .identityRules) (rules .lastTable) ss
+        (rules .sections)
 
     pub follows-records : fileRecords base (fileBytes base ss) ≡ recordsFrom 0 ss
     follows-records = records-are base (fileBytes base ss) ∙ ap (recordsFrom 0) cut-sections-back
 
     pub follows-accepted : checkFile sizes base (fileBytes base ss) ≡ success identity (length (recordsFrom 0 ss))
     follows-accepted =
-        let new : T (areNew [] (sectionEvents ss)) = order-new [] (sectionEvents ss) (record { rises = rules .rises; differ = rules .differ }) in
+        let new : T (areNew [] (sectionEvents ss)) =
+        order-new [] (sectionEvents ss) (record { rises = rules .rises; differ = rules .differ }) in
         let accepts : Accepts sizes base identity atStart (cutFile (fileBytes base ss)) =
-        rw cut-file-back (all-back sizes base large legal identity (rules .lastTableId) (rules .identityRules) (rules .lastTable) ss (rules .sections) (rules .ordered) new (rules .few)) in
+        rw cut-file-back (all-back sizes base large legal identity (rules .lastTableId) (rules .identityRules)
+        (rules .lastTable) ss (rules .sections) (rules .ordered) new (rules .few)) in
         check-succeeds sizes base (fileBytes base ss) legal (accepts .all) (accepts .complete)
         ∙ ap₂ success (accepts .same) (seen-count base (fileBytes base ss) ∙ ap length follows-records)
 
-    pub follows-read : (buffer : List ℕ) → sizes .eventLimit * recordSize ≤ length buffer
+    pub follows-read : (buffer : List ℕ) → length (recordsFrom 0 ss) * recordSize ≤ length buffer
         → read sizes base (fileBytes base ss) buffer ≡ readingOf buffer identity (recordsFrom 0 ss)
-    follows-read buffer enough =
-        let count : checkFile sizes base (fileBytes base ss) .count ≡ length (recordsFrom 0 ss) = ap (λ (a : Answer). a .count) follows-accepted in
-        let fits : checkFile sizes base (fileBytes base ss) .count * recordSize ≤ length buffer =
-        omega (arith, records-count 0 ss, rules .few) in
-        read-succeeds sizes base (fileBytes base ss) buffer (ap (λ (a : Answer). a .number) follows-accepted) fits
+    follows-read buffer fits =
+        let count : checkFile sizes base (fileBytes base ss) .count ≡ length (recordsFrom 0 ss) =
+        ap (λ (a : Answer). a .count) follows-accepted in
+        read-succeeds sizes base (fileBytes base ss) buffer (ap (λ (a : Answer). a .number) follows-accepted) (omega arith)
         ∙ (λ i. record { answer = follows-accepted i; buffer = overwrite buffer 0 (numbersOfAll (follows-records i)) })
 
 -- ---- Read is exact
@@ -196,21 +218,29 @@ module _ (sizes : Sizes) (base : ℕ) (file buffer : List ℕ) where
       )
 
   module _ (identity : Identity) (rs : List Record) where
-    read-follows : Bytes file → read sizes base file buffer ≡ readingOf buffer identity rs → FollowsRules sizes base file identity rs
+    read-follows : Bytes file → read sizes base file buffer ≡ readingOf buffer identity rs
+        → FollowsRules sizes base file identity rs × (length rs * recordSize ≤ length buffer)
     read-follows bytes e =
         let (zero, is, fits) = read-accepted (ap (λ (r : Reading). r .answer .number) e) in
         let (same, records) = reading-shows buffer _ identity _ rs (sym is ∙ e) in
-        subst (λ (qs : List Record). FollowsRules sizes base file identity qs) records
-        (subst (λ (i : Identity). FollowsRules sizes base file i (fileRecords base file)) same
-        (accepted-follows sizes base file bytes zero))
+        let follows : FollowsRules sizes base file identity (fileRecords base file) =
+        subst (λ (i : Identity). FollowsRules sizes base file i (fileRecords base file)) same
+        (accepted-follows sizes base file bytes zero) in
+        subst (λ (qs : List Record). FollowsRules sizes base file identity qs × (length qs * recordSize ≤ length buffer)) records
+        (follows, fits)
 
-    -- demand 2: for every legal base day and every file of bytes, with a record buffer that the largest list fits in
+    follows-reads : sizes .sectionBytes ≤ 4_096 → base ≤ baseMost → FollowsRules sizes base file identity rs
+        → length rs * recordSize ≤ length buffer
+        → read sizes base file buffer ≡ readingOf buffer identity rs
+    follows-reads large legal f fits =
+        rw (← f .bytes, ← f .records)
+        (follows-read sizes base large legal identity (f .sections) (f .rules) buffer (rw (f .records) fits))
+
+    -- demand 2: for every legal base day, every file of bytes and every record buffer, Read succeeds with an identity and records
+    -- exactly if the file follows the rules with these, and the records fit the buffer
     pub read-exact : sizes .sectionBytes ≤ 4_096
         → base ≤ baseMost
         → Bytes file
-        → sizes .eventLimit * recordSize ≤ length buffer
-        → (read sizes base file buffer ≡ readingOf buffer identity rs) ↔ FollowsRules sizes base file identity rs
-    read-exact large legal bytes enough = (
-      read-follows bytes,
-      λ f. rw (← f .bytes, ← f .records) (follows-read sizes base large legal identity (f .sections) (f .rules) buffer enough),
-    )
+        → (read sizes base file buffer ≡ readingOf buffer identity rs)
+        ↔ (FollowsRules sizes base file identity rs × (length rs * recordSize ≤ length buffer))
+    read-exact large legal bytes = (read-follows bytes, λ (f, fits). follows-reads large legal f fits)

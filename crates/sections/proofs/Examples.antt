@@ -3,7 +3,7 @@ use mathlib.Core.Path.{refl}
 use Rattle.eit.specs.Crc.{crc32}
 use Rattle.eit.specs.Chain.{isChain}
 use Rattle.eit.specs.Events.{follows}
-use Rattle.sections.specs.Encode.{fileBytes}
+use Rattle.sections.specs.Encode.{versionOf, fileBytes}
 use Rattle.sections.specs.JudgeHeader.{isFramed, isClosed, isHeader, isInPlace}
 use Rattle.sections.specs.JudgeEvents.{isEvent, isEventLoop, isWithinLimit}
 use Rattle.sections.specs.Count.{sectionsCounted, eventsCounted}
@@ -13,20 +13,26 @@ use Rattle.sections.specs.Refusals.{Refusals}
 use Rattle.sections.specs.EventRefusals.{EventRefusals}
 
 pub examples : Examples
-unfolding read isFramed isClosed isHeader isInPlace isEvent isEventLoop isWithinLimit crc32 isChain follows fileBytes sectionsCounted eventsCounted
+unfolding read versionOf isFramed isClosed isHeader isInPlace isEvent isEventLoop isWithinLimit crc32 isChain follows fileBytes sectionsCounted eventsCounted
 examples =
     record {
+      places = (refl, refl, refl, refl, refl, refl);
+      tables = (refl, refl);
+      firsts = (refl, refl, refl);
       event-bytes = refl;
       section-bytes = refl;
       one-event = refl;
+      answered = refl;
+      refused = refl;
+      full-accepted = refl;
       marks-and-chain = refl;
       rival-accepted = refl;
-      counted = (refl, refl, refl, refl);
-      held = (refl, refl, refl, refl);
+      counted = (refl, refl, refl);
+      held = (refl, refl);
     }
 
 pub refusals : Refusals
-unfolding read isFramed isClosed isHeader isInPlace isEvent isEventLoop isWithinLimit crc32 isChain follows
+unfolding read versionOf isFramed isClosed isHeader isInPlace isEvent isEventLoop isWithinLimit crc32 isChain follows
 refusals =
     record {
       base = refl;
@@ -72,7 +78,7 @@ refusals =
     }
 
 pub event-refusals : EventRefusals
-unfolding read isFramed isClosed isHeader isInPlace isEvent isEventLoop isWithinLimit crc32 isChain follows
+unfolding read versionOf isFramed isClosed isHeader isInPlace isEvent isEventLoop isWithinLimit crc32 isChain follows
 event-refusals =
     record {
       event-kept = refl;

@@ -12,11 +12,12 @@ use Rattle.eit.specs.declared.Identity.{Identity}
 use Rattle.eit.proofs.Test.{le-or-lt}
 use Rattle.sections.specs.Every.{Every}
 use Rattle.sections.specs.Segment.{tableMost}
-use Rattle.sections.specs.Section.{Header, Section, headersOf}
+use Rattle.sections.specs.Section.{Header, Section, sectionSizes, headersOf}
+use Rattle.sections.specs.Decode.{cutSections}
 use Rattle.sections.specs.Rules.{Numbered, Next, Succeeding, SectionRules, Rules}
 use Rattle.sections.specs.Read.{checkFile}
-use Rattle.sections.proofs.Lengths.{sectionSizes, file-length}
-use Rattle.sections.proofs.Exact.{accepted-follows}
+use Rattle.sections.proofs.Lengths.{file-length}
+use Rattle.sections.proofs.Exact.{accepted-rules}
 
 -- a section's place among all that a file could have
 abbrev pub sectionPlace : Header → ℕ
@@ -43,7 +44,8 @@ module _ (sizes : Sizes) (identity : Identity) (lastTableId : ℕ) (most : lastT
       omega (arith, h .most, h .byte, h .numbered .segment, h .numbered .table)
   behind-few s (t ∷ ss) rules succeeding =
       let h = rules .0 .headerRules in
-      let later : sectionPlace (s .header) < sectionPlace (t .header) = next-later (s .header) (t .header) (h .numbered) (h .byte) (succeeding .0) in
+      let later : sectionPlace (s .header) < sectionPlace (t .header) =
+      next-later (s .header) (t .header) (h .numbered) (h .byte) (succeeding .0) in
       omega (arith, behind-few t ss (rules .1) (succeeding .1))
 
   sizes-few : sizes .sectionBytes ≤ 4_096 → (ss : List Section) → Every (SectionRules sizes identity lastTableId) ss
@@ -69,11 +71,12 @@ pub accepted-size : (sizes : Sizes) (base : ℕ) (file : List ℕ)
     → checkFile sizes base file .number ≡ 0
     → length file ≤ 16 * 256 * 4_096
 accepted-size sizes base file large bytes zero =
-    let f = accepted-follows sizes base file bytes zero in
+    let ss : List Section = cutSections base file in
     let identity : Identity = checkFile sizes base file .identity in
-    let size : length file ≡ sectionSizes (f .sections) = sym (ap length (f .bytes)) ∙ file-length base (f .sections) in
+    let (rules, joined) = accepted-rules sizes base file bytes zero in
+    let size : length file ≡ sectionSizes ss = sym (ap length joined) ∙ file-length base ss in
     omega (
       arith,
-      sections-few sizes identity (f .sections) (f .rules),
-      sizes-few sizes identity (f .rules .lastTableId) (f .rules .lastTable) large (f .sections) (f .rules .sections),
+      sections-few sizes identity ss rules,
+      sizes-few sizes identity (rules .lastTableId) (rules .lastTable) large ss (rules .sections),
     )

@@ -7,7 +7,6 @@ use mathlib.Core.List.{List, [], _∷_, append-nil}
 use lib.Dec.{T}
 use lib.ListN.{length}
 use Rattle.eit.specs.Sizes.{Sizes}
-use Rattle.eit.specs.Limits.{baseMost}
 use Rattle.eit.specs.Fields.{Bytes}
 use Rattle.eit.specs.Overwrite.{overwrite}
 use Rattle.eit.specs.Records.{EventList, recordSize, numbersOfAll}
@@ -24,10 +23,9 @@ use Rattle.sections.specs.Encode.{fileBytes}
 use Rattle.sections.specs.Decode.{cutSections}
 use Rattle.sections.specs.Rules.{EventRules, SectionRules, Rules}
 use Rattle.sections.specs.Places.{recordsFrom, filePools}
-use Rattle.sections.specs.Read.{Reading, read, listOf}
-use Rattle.sections.specs.Exact.{FollowsRules, readingOf}
-use Rattle.sections.proofs.Read.{check-succeeded}
-use Rattle.sections.proofs.Exact.{accepted-follows, cut-sections-back, read-accepted}
+use Rattle.sections.specs.Read.{checkFile, Reading, read, listOf}
+use Rattle.sections.specs.Exact.{readingOf}
+use Rattle.sections.proofs.Exact.{records-are, accepted-rules, read-accepted}
 use Rattle.sections.proofs.Places.{records-count, records-ids, records-events, records-valid}
 
 -- the laws of Places, for sections with nothing around them
@@ -79,33 +77,31 @@ file-sound sizes base identity ss series buffer rules fits =
 -- ---- what Read returns
 
 module _ (sizes : Sizes) (base : ℕ) (file buffer series : List ℕ) where
-  reading-sound : (identity : Identity) (rs : List Record) → FollowsRules sizes base file identity rs → length rs * recordSize ≤ length buffer
-      → T (sound sizes (filePools file series) (listOf (readingOf buffer identity rs)))
-  reading-sound identity rs f fits =
-      rw (← f .bytes, ← f .records)
-      (file-sound sizes base identity (f .sections) series buffer (f .rules) (rw (f .records) fits))
+  -- of sections that keep the rules and whose joined bytes are the file
+  reading-sound : (identity : Identity) (ss : List Section) → Rules sizes identity ss → fileBytes base ss ≡ file
+      → length (recordsFrom 0 ss) * recordSize ≤ length buffer
+      → T (sound sizes (filePools file series) (listOf (readingOf buffer identity (recordsFrom 0 ss))))
+  reading-sound identity ss rules joined fits = rw (← joined) (file-sound sizes base identity ss series buffer rules fits)
 
-  reading-events : (identity : Identity) (rs : List Record) (f : FollowsRules sizes base file identity rs)
-      → eventsOf (filePools file series) (listOf (readingOf buffer identity rs)) ≡ sectionEvents (f .sections)
-  reading-events identity rs f = rw (← f .bytes, ← f .records) (file-events base (f .sections) series buffer)
+  reading-events : (identity : Identity) (ss : List Section) → fileBytes base ss ≡ file
+      → eventsOf (filePools file series) (listOf (readingOf buffer identity (recordsFrom 0 ss))) ≡ sectionEvents ss
+  reading-events identity ss joined = rw (← joined) (file-events base ss series buffer)
 
   module _ (bytes : Bytes file) (zero : read sizes base file buffer .answer .number ≡ 0) where
     -- the records of an accepted file are a sound list with the file as day pool
     pub accepted-sound : T (sound sizes (filePools file series) (listOf (read sizes base file buffer)))
     accepted-sound =
         let (accepted, is, fits) = read-accepted sizes base file buffer zero in
-        subst (λ (r : Reading). T (sound sizes (filePools file series) (listOf r))) (sym is)
-        (reading-sound _ _ (accepted-follows sizes base file bytes accepted) fits)
+        let (rules, joined) = accepted-rules sizes base file bytes accepted in
+        subst (λ (r : Reading). T (sound sizes (filePools file series) (listOf r)))
+        (sym (is ∙ ap (readingOf buffer _) (records-are base file)))
+        (reading-sound _ (cutSections base file) rules joined (rw (records-are base file) at fits))
 
     -- and its events are those of the sections that its bytes show
-    pub accepted-events : sizes .sectionBytes ≤ 4_096
-        → eventsOf (filePools file series) (listOf (read sizes base file buffer)) ≡ sectionEvents (cutSections base file)
-    accepted-events large =
+    pub accepted-events : eventsOf (filePools file series) (listOf (read sizes base file buffer))
+        ≡ sectionEvents (cutSections base file)
+    accepted-events =
         let (accepted, is, fits) = read-accepted sizes base file buffer zero in
-        let legal : base ≤ baseMost = check-succeeded sizes base file accepted .0 in
-        let f = accepted-follows sizes base file bytes accepted in
-        let cuts : cutSections base file ≡ f .sections =
-        ap (cutSections base) (sym (f .bytes)) ∙ cut-sections-back sizes base large legal _ (f .sections) (f .rules) in
-        ap (λ (r : Reading). eventsOf (filePools file series) (listOf r)) is
-        ∙ reading-events _ _ f
-        ∙ ap sectionEvents (sym cuts)
+        let (rules, joined) = accepted-rules sizes base file bytes accepted in
+        ap (λ (r : Reading). eventsOf (filePools file series) (listOf r)) (is ∙ ap (readingOf buffer _) (records-are base file))
+        ∙ reading-events (checkFile sizes base file .identity) (cutSections base file) joined

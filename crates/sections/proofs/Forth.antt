@@ -21,12 +21,12 @@ use Rattle.sections.specs.Decode.{headerIn, eventIn, cutEvents, sectionI
 use Rattle.sections.specs.Rules.{Numbered, Next, Succeeding, Ordered, IdentityRules, SectionRules}
 use Rattle.sections.specs.JudgeHeader.{isHeader, isInPlace}
 use Rattle.sections.specs.JudgeEvents.{areNew, isEventLoop, isWithinLimit}
-use Rattle.sections.specs.Walk.{Progress, atStart, behind}
+use Rattle.sections.specs.Walk.{Progress, atStart, behind, behindAll}
 use Rattle.sections.specs.Read.{isComplete, identityOf}
 use Rattle.sections.proofs.SameFile.{same-file}
 use Rattle.sections.proofs.Numbering.{is-first, is-next, is-last}
 use Rattle.sections.proofs.Order.{seen-length, new-append}
-use Rattle.sections.proofs.Walk.{behindAll, AllPass}
+use Rattle.sections.proofs.Walk.{AllPass}
 use Rattle.sections.proofs.SectionForth.{Shown, section-forth}
 
 -- the sections that pieces show
@@ -47,7 +47,8 @@ shown-seen base p (bs ∷ rest) =
     ∙ ap (λ (l : List Event). l ++ p .seen) (sym (reverse-append es fs))
 
 module _ (sizes : Sizes) (base : ℕ) where
-  pub shown-new : (p : Progress) (xs : List (List ℕ)) → AllPass sizes base p xs → T (areNew (p .seen) (sectionEvents (shown base xs)))
+  pub shown-new : (p : Progress) (xs : List (List ℕ)) → AllPass sizes base p xs
+      → T (areNew (p .seen) (sectionEvents (shown base xs)))
   unfolding sectionEvents sectionIn isEventLoop
   shown-new p [] all = tt
   shown-new p (bs ∷ rest) all =
@@ -69,12 +70,14 @@ module _ (sizes : Sizes) (base : ℕ) where
 
   -- ---- the sections
 
-  same-rules : {i j : Identity} {m n : ℕ} (ss : List Section) → i ≡ j → m ≡ n → Every (SectionRules sizes i m) ss → Every (SectionRules sizes j n) ss
+  same-rules : {i j : Identity} {m n : ℕ} (ss : List Section) → i ≡ j → m ≡ n → Every (SectionRules sizes i m) ss
+      → Every (SectionRules sizes j n) ss
   same-rules {j = j} {m = m} ss same last rules =
-      subst (λ (k : ℕ). Every (SectionRules sizes j k) ss) last (subst (λ (k : Identity). Every (SectionRules sizes k m) ss) same rules)
+      subst (λ (k : ℕ). Every (SectionRules sizes j k) ss) last
+      (subst (λ (k : Identity). Every (SectionRules sizes k m) ss) same rules)
 
   -- those behind a section g
-  pub record Behind (g : Header) (xs : List (List ℕ)) : Type 0 where
+  pub record RulesBehind (g : Header) (xs : List (List ℕ)) : Type 0 where
     pub bytes : map (sectionBytes base) (shown base xs) ≡ xs
     pub rules : Every (SectionRules sizes (g .identity) (g .lastTableId)) (shown base xs)
     pub succeeding : Succeeding g (headersOf (shown base xs))
@@ -84,7 +87,8 @@ module _ (sizes : Sizes) (base : ℕ) where
       → Numbered g
       → AllPass sizes base (record { offset = offset; before = some g; seen = seen }) xs
       → T (isComplete (behindAll base (record { offset = offset; before = some g; seen = seen }) xs .before))
-      → Behind g xs × (identityOf (behindAll base (record { offset = offset; before = some g; seen = seen }) xs .before) ≡ g .identity)
+      → RulesBehind g xs ×
+      (identityOf (behindAll base (record { offset = offset; before = some g; seen = seen }) xs .before) ≡ g .identity)
   unfolding flatten isHeader isInPlace sectionIn
   behind-forth offset g seen [] bytes numbered all complete =
       (record { bytes = refl; rules = tt; succeeding = is-last g complete }, refl)
@@ -98,11 +102,12 @@ module _ (sizes : Sizes) (base : ℕ) where
       let (sameIdentity, sameLast) = same-file g h (search tests) in
       let next : Next g h = is-next g h numbered (search tests) in
       let q : Progress = behind base p bs in
-      let (behind, identity) = behind-forth (q .offset) h (q .seen) rest others (this .rules .headerRules .numbered) (all .1) complete in (
+      let (others-kept, identity) =
+      behind-forth (q .offset) h (q .seen) rest others (this .rules .headerRules .numbered) (all .1) complete in (
         record {
-          bytes = λ i. this .bytes i ∷ behind .bytes i;
-          rules = same-rules (shown base (bs ∷ rest)) sameIdentity sameLast (this .rules, behind .rules);
-          succeeding = (next, behind .succeeding);
+          bytes = λ i. this .bytes i ∷ others-kept .bytes i;
+          rules = same-rules (shown base (bs ∷ rest)) sameIdentity sameLast (this .rules, others-kept .rules);
+          succeeding = (next, others-kept .succeeding);
         },
         identity ∙ sameIdentity,
       )
@@ -116,7 +121,8 @@ module _ (sizes : Sizes) (base : ℕ) where
     pub rules : Every (SectionRules sizes identity lastTableId) (shown base xs)
     pub ordered : Ordered (headersOf (shown base xs))
 
-  pub all-forth : (xs : List (List ℕ)) → Bytes (flatten xs) → AllPass sizes base atStart xs → T (isComplete (behindAll base atStart xs .before))
+  pub all-forth : (xs : List (List ℕ)) → Bytes (flatten xs) → AllPass sizes base atStart xs
+      → T (isComplete (behindAll base atStart xs .before))
       → All xs (identityOf (behindAll base atStart xs .before))
   unfolding flatten isInPlace sectionIn
   all-forth [] bytes all complete = absurd complete
@@ -126,12 +132,13 @@ module _ (sizes : Sizes) (base : ℕ) where
       let this : Shown sizes base bs = section-forth sizes base atStart bs first (all .0) in
       let place = all .0 .place in
       let q : Progress = behind base atStart bs in
-      let (behind, identity) = behind-forth (q .offset) h (q .seen) rest others (this .rules .headerRules .numbered) (all .1) complete in
+      let (others-kept, identity) =
+      behind-forth (q .offset) h (q .seen) rest others (this .rules .headerRules .numbered) (all .1) complete in
       rw identity (record {
-        bytes = λ i. this .bytes i ∷ behind .bytes i;
+        bytes = λ i. this .bytes i ∷ others-kept .bytes i;
         identityRules = this .identityRules;
         lastTableId = h .lastTableId;
         lastTable = this .lastTable;
-        rules = (this .rules, behind .rules);
-        ordered = (is-first h (search tests), behind .succeeding);
+        rules = (this .rules, others-kept .rules);
+        ordered = (is-first h (search tests), others-kept .succeeding);
       })

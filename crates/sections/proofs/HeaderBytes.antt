@@ -36,6 +36,7 @@ pub record HeaderFits (h : Header) : Type 0 where
 
 -- versions do not differ between tables
 pub version-of : (identity : Identity) (table : ℕ) → versionOf identity table ≡ identity .version
+unfolding versionOf
 version-of identity table = refl
 
 -- a header that keeps the rules fits
@@ -110,10 +111,11 @@ unfolding headerBytes
 header-back size h rest fits =
     let i = h .identity in
     let rules = fits .identityRules in
-    let v : ℕ = i .version in
-    let byte : valueOf (bigEndian 1 (versionByte v)) ≡ versionByte v =
-    byte-back (versionByte v) (version-byte v (rules .version)) in
-    let version : valueOf (bigEndian 1 (versionByte v)) / 2 % 32 ≡ v = rw byte (version-back v (rules .version)) in
+    let v : ℕ = versionOf i (h .tableId) in
+    let same : v ≡ i .version = version-of i (h .tableId) in
+    let most : v ≤ versionMost = rw same (rules .version) in
+    let byte : valueOf (bigEndian 1 (versionByte v)) ≡ versionByte v = byte-back (versionByte v) (version-byte v most) in
+    let version : valueOf (bigEndian 1 (versionByte v)) / 2 % 32 ≡ i .version = rw byte (version-back v most ∙ same) in
     λ k. record {
       tableId = byte-back (h .tableId) (fits .table) k;
       sectionNumber = byte-back (h .sectionNumber) (fits .number) k;
@@ -151,11 +153,12 @@ pub header-fixed : (size : ℕ) (h : Header) (rest : List ℕ)
     → T (hasFixedBits (headerBytes size h ++ rest))
 unfolding headerBytes
 header-fixed size h rest least most known =
-    let v : ℕ = h .identity .version in
+    let v : ℕ = versionOf (h .identity) (h .tableId) in
+    let few-versions : v ≤ versionMost = rw (version-of (h .identity) (h .tableId)) known in
     let few : size - 3 < 0x1000 = omega arith in
     let word : valueOf (bigEndian 2 (lengthWord size)) ≡ lengthWord size = length-back size few in
-    let byte : valueOf (bigEndian 1 (versionByte v)) ≡ versionByte v = byte-back (versionByte v) (version-byte v known) in
-    let (high, low) = version-fixed v known in
+    let byte : valueOf (bigEndian 1 (versionByte v)) ≡ versionByte v = byte-back (versionByte v) (version-byte v few-versions) in
+    let (high, low) = version-fixed v few-versions in
     fixed-bits (valueOf (bigEndian 2 (lengthWord size))) (valueOf (bigEndian 1 (versionByte v)))
     (rw word (length-word (size - 3) few .1))
     (rw byte high)
@@ -192,8 +195,10 @@ module _ (bs : List ℕ) (bytes : Bytes bs) (enough : 14 ≤ length bs) where
   length-forth fixed = ap (bigEndian 2) (length-word-only (field 1 2 bs) fixed) ∙ forth 1 2 (omega arith)
 
   version-forth : field 5 1 bs / 64 ≡ 3 → field 5 1 bs % 2 ≡ 1
-      → bigEndian 1 (versionByte (field 5 1 bs / 2 % 32)) ≡ bytesAt 5 1 bs
-  version-forth high low = ap (bigEndian 1) (version-only (field 5 1 bs) high low) ∙ forth 5 1 (omega arith)
+      → bigEndian 1 (versionByte (versionOf (headerIn bs .identity) (headerIn bs .tableId))) ≡ bytesAt 5 1 bs
+  version-forth high low =
+      ap (λ (v : ℕ). bigEndian 1 (versionByte v)) (version-of (headerIn bs .identity) (headerIn bs .tableId))
+      ∙ ap (bigEndian 1) (version-only (field 5 1 bs) high low) ∙ forth 5 1 (omega arith)
 
   -- 14 bytes with the fixed bits are those of the header that they show
   pub header-forth : T (hasFixedBits bs) → headerBytes (statedSectionSize bs) (headerIn bs) ≡ take 14 bs

@@ -7,7 +7,7 @@ use lib.ListN.{length, length-append}
 use Rattle.eit.specs.Crc.{crc32}
 use Rattle.eit.specs.Fields.{bigEndian}
 use Rattle.eit.specs.Events.{Event}
-use Rattle.sections.specs.Section.{Header, Section, eventSize, headerSize, eventSizes, sectionSize}
+use Rattle.sections.specs.Section.{Header, Section, eventSize, headerSize, eventSizes, sectionSize, sectionSizes}
 use Rattle.sections.specs.Encode.{eventBytes, headerBytes, eventLoopBytes, coveredBytes, sectionBytes, fileBytes}
 
 pub event-length : (base : ℕ) (e : Event) → length (eventBytes base e) ≡ eventSize e
@@ -35,11 +35,6 @@ pub section-length : (base : ℕ) (s : Section) → length (sectionBytes base s)
 unfolding sectionBytes
 section-length base s =
     length-append (coveredBytes base s) (bigEndian 4 (crc32 (coveredBytes base s))) ∙ omega (arith, covered-length base s)
-
--- the bytes of some sections, without making them
-abbrev pub sectionSizes : List Section → ℕ
-sectionSizes [] = 0
-sectionSizes (s ∷ ss) = sectionSize s + sectionSizes ss
 
 pub file-length : (base : ℕ) (ss : List Section) → length (fileBytes base ss) ≡ sectionSizes ss
 unfolding fileBytes

@@ -32,6 +32,10 @@ pub mod Forth
 pub mod Back
 -- Read is exact
 pub mod Exact
+-- accepted files are those that follow the rules
+pub mod Accepted
+-- what Read leaves of the record buffer
+pub mod Frame
 -- how large an accepted file can be
 pub mod FileSize
 -- a file's records are its sections' events

@@ -20,8 +20,10 @@ use Rattle.eit.proofs.Test.{tests}
 use Rattle.eit.proofs.Pools.{part-inside, choose-part}
 use Rattle.eit.proofs.Sound.{facts-range, facts-chain}
 use Rattle.sections.specs.Every.{Every}
-use Rattle.sections.specs.Section.{Header, Section, headerSize, eventOverhead, eventSize, sectionSize, sectionEvents, eventIds}
-use Rattle.sections.specs.Encode.{bitOf, statusWord, eventBytes, headerBytes, eventLoopBytes, coveredBytes, sectionBytes, fileBytes}
+use Rattle.sections.specs.Section.{Header, Section, headerSize, eventOverhead}
+use Rattle.sections.specs.Section.{eventSize, sectionSize, sectionEvents, eventIds}
+use Rattle.sections.specs.Encode.{bitOf, statusWord, eventBytes, headerBytes}
+use Rattle.sections.specs.Encode.{eventLoopBytes, coveredBytes, sectionBytes, fileBytes}
 use Rattle.sections.specs.Rules.{EventRules}
 use Rattle.sections.specs.Places.{recordAt, recordsAt, recordsFrom, filePools}
 use Rattle.sections.proofs.Lengths.{event-length, header-length, section-length}
@@ -131,7 +133,8 @@ module _ (file series : List ℕ) (base at : ℕ) (e : Event) (h : Stands file a
   chain-chosen : choose (filePools file series) (recordAt at e .marks) (at + eventOverhead) (length (e .chain)) ≡ e .chain
   chain-chosen =
       choose-part (filePools file series) (recordAt at e .marks) (at + eventOverhead) (length (e .chain))
-      ∙ rw (marks-day (filePools file series) (e .freeCa) (e .offAir)) (stands-part file (at + eventOverhead) (e .chain) chain-stands)
+      ∙ rw (marks-day (filePools file series) (e .freeCa) (e .offAir))
+      (stands-part file (at + eventOverhead) (e .chain) chain-stands)
 
   event-is : eventOf (filePools file series) (recordAt at e) ≡ e
   event-is =
@@ -158,7 +161,8 @@ module _ (file series : List ℕ) (base at : ℕ) (e : Event) (h : Stands file a
   event-chain : (header : Header) → EventRules header e → T (hasChain (filePools file series) (recordAt at e))
   event-chain header r =
       facts-chain (filePools file series) (recordAt at e)
-      (rw (marks-day (filePools file series) (e .freeCa) (e .offAir)) (stands-inside file (at + eventOverhead) (e .chain) chain-stands))
+      (rw (marks-day (filePools file series) (e .freeCa) (e .offAir))
+      (stands-inside file (at + eventOverhead) (e .chain) chain-stands))
       (rw chain-chosen (r .chain))
 
 valid-append : (pools : Pools) (rs qs : List Record) → T (allValid pools rs) → T (allValid pools qs) → T (allValid pools (rs ++ qs))

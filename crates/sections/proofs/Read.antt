@@ -18,9 +18,10 @@ use Rattle.eit.specs.declared.Record.{Record}
 use Rattle.sections.specs.Decode.{headerIn, cutFile}
 use Rattle.sections.specs.JudgeHeader.{isFramed, isClosed, isHeader, isInPlace}
 use Rattle.sections.specs.JudgeEvents.{isEventLoop, isWithinLimit}
-use Rattle.sections.specs.Walk.{Progress, atStart, Verdict, passed, refused, check, step, walk}
-use Rattle.sections.specs.Read.{isComplete, identityOf, Answer, success, refusal, atEnd, checkFile, Reading, fileRecords, fill, read}
-use Rattle.sections.proofs.Walk.{behindAll, AllPass, walk-passes, walk-passed}
+use Rattle.sections.specs.Walk.{Progress, atStart, behindAll, Verdict, passed, refused, require, step, walk}
+use Rattle.sections.specs.Read.{isComplete, identityOf, Answer, success, refusal}
+use Rattle.sections.specs.Read.{atEnd, checkFile, Reading, fileRecords, fill, read}
+use Rattle.sections.proofs.Walk.{AllPass, walk-passes, walk-passed}
 
 -- ---- the numbers of a walk
 
@@ -29,20 +30,21 @@ abbrev Numbers : Verdict → Type 0
 Numbers (passed p) = Unit {0}
 Numbers (refused number offset) = (20 ≤ number) × (number ≤ 26)
 
-check-numbers : (b : Bool) (number offset : ℕ) (next : Verdict) → 20 ≤ number → number ≤ 26 → Numbers next → Numbers (check b number offset next)
-check-numbers true number offset next low high rest = rest
-check-numbers false number offset next low high rest = (low, high)
+require-numbers : (b : Bool) (number offset : ℕ) (next : Verdict) → 20 ≤ number → number ≤ 26 → Numbers next
+    → Numbers (require b number offset next)
+require-numbers true number offset next low high rest = rest
+require-numbers false number offset next low high rest = (low, high)
 
 module _ (sizes : Sizes) (base : ℕ) where
   step-numbers : (p : Progress) (bs : List ℕ) → Numbers (step sizes base p bs)
   unfolding step
   step-numbers p bs =
-      check-numbers (isFramed sizes bs) 20 (p .offset) _ (omega arith) (omega arith)
-      (check-numbers (isClosed bs) 21 (p .offset) _ (omega arith) (omega arith)
-      (check-numbers (isHeader (p .before) bs) 22 (p .offset) _ (omega arith) (omega arith)
-      (check-numbers (isInPlace (p .before) (headerIn bs)) 23 (p .offset) _ (omega arith) (omega arith)
-      (check-numbers (isEventLoop base (p .seen) bs) 24 (p .offset) _ (omega arith) (omega arith)
-      (check-numbers (isWithinLimit sizes (p .seen) bs) 26 (p .offset) _ (omega arith) (omega arith) tt)))))
+      require-numbers (isFramed sizes bs) 20 (p .offset) _ (omega arith) (omega arith)
+      (require-numbers (isClosed bs) 21 (p .offset) _ (omega arith) (omega arith)
+      (require-numbers (isHeader (p .before) bs) 22 (p .offset) _ (omega arith) (omega arith)
+      (require-numbers (isInPlace (p .before) (headerIn bs)) 23 (p .offset) _ (omega arith) (omega arith)
+      (require-numbers (isEventLoop base (p .seen) bs) 24 (p .offset) _ (omega arith) (omega arith)
+      (require-numbers (isWithinLimit sizes (p .seen) bs) 26 (p .offset) _ (omega arith) (omega arith) tt)))))
 
   after-numbers : (v : Verdict) (rest : List (List ℕ)) → Numbers v → ((q : Progress) → Numbers (walk sizes base q rest))
       → Numbers (elim v [ passed next ↦ walk sizes base next rest | refused number offset ↦ refused number offset ])
@@ -74,13 +76,13 @@ module _ (sizes : Sizes) (base : ℕ) where
   Complete file = T (isComplete (behindAll base atStart (cutFile file) .before))
 
   -- what check returns of a file that it accepts
-  abbrev pub accepted : List ℕ → Answer
-  accepted file =
+  abbrev pub successOf : List ℕ → Answer
+  successOf file =
       let end = behindAll base atStart (cutFile file) in
       success (identityOf (end .before)) (length (end .seen))
 
   pub check-succeeds : (file : List ℕ) → base ≤ baseMost → AllPass sizes base atStart (cutFile file) → Complete file
-      → checkFile sizes base file ≡ accepted file
+      → checkFile sizes base file ≡ successOf file
   unfolding checkFile
   check-succeeds file legal all complete =
       rw (checkFile, le-leb base baseMost legal)
@@ -93,8 +95,10 @@ module _ (sizes : Sizes) (base : ℕ) where
   check-succeeded file zero =
       ⊎-elim
       (λ legal.
-      let ended : atEnd (length file) (walk sizes base atStart (cutFile file)) .number ≡ 0 = rw (checkFile, le-leb base baseMost legal) at zero in
-      let (p, is, complete) = end-succeeded (length file) (walk sizes base atStart (cutFile file)) (walk-numbers sizes base atStart (cutFile file)) ended in
+      let ended : atEnd (length file) (walk sizes base atStart (cutFile file)) .number ≡ 0 =
+      rw (checkFile, le-leb base baseMost legal) at zero in
+      let (p, is, complete) =
+      end-succeeded (length file) (walk sizes base atStart (cutFile file)) (walk-numbers sizes base atStart (cutFile file)) ended in
       let (all, end) = walk-passed sizes base atStart p (cutFile file) is in
       (legal, all, rw end complete))
       (λ above. let never : _≡_ {A = ℕ} 1 0 = rw (checkFile, lt-leb base baseMost above) at zero in absurd (omega arith))
@@ -112,7 +116,8 @@ pub check-below-27 : (sizes : Sizes) (base : ℕ) (file : List ℕ) → checkFil
 unfolding checkFile
 check-below-27 sizes base file =
     ⊎-elim
-    (λ legal. rw (checkFile, le-leb base baseMost legal) (end-numbers (length file) (walk sizes base atStart (cutFile file)) (walk-numbers sizes base atStart (cutFile file))))
+    (λ legal. rw (checkFile, le-leb base baseMost legal)
+    (end-numbers (length file) (walk sizes base atStart (cutFile file)) (walk-numbers sizes base atStart (cutFile file))))
     (λ above. rw (checkFile, lt-leb base baseMost above) (omega arith))
     (le-or-lt base baseMost)
 
@@ -163,11 +168,14 @@ module _ (sizes : Sizes) (base : ℕ) (file buffer : List ℕ) where
       let zero : checkFile sizes base file .number ≡ 0 = eqb→eq (checkFile sizes base file .number) 0 t in
       ⊎-elim (λ fits. inl (ap (λ (r : Reading). r .answer) (read-succeeds zero fits))) (λ short. inr (zero, short))
       (le-or-lt (checkFile sizes base file .count * recordSize) (length buffer)))
-      (λ t. inl (ap (λ (r : Reading). r .answer) (read-refused (λ zero. T-not (eqb (checkFile sizes base file .number) 0) t (eq-test (checkFile sizes base file .number) 0 zero)))))
+      (λ t. inl (ap (λ (r : Reading). r .answer)
+      (read-refused (λ zero. T-not (eqb (checkFile sizes base file .number) 0) t
+      (eq-test (checkFile sizes base file .number) 0 zero)))))
       (test-or (eqb (checkFile sizes base file .number) 0))
 
   -- check and Read agree in all but 27
-  pub read-agrees : (read sizes base file buffer .answer .number ≡ 27 → ⊥) → read sizes base file buffer .answer ≡ checkFile sizes base file
+  pub read-agrees : (read sizes base file buffer .answer .number ≡ 27 → ⊥)
+      → read sizes base file buffer .answer ≡ checkFile sizes base file
   read-agrees other =
       ⊎-elim (λ same. same)
       (λ c. absurd (other (ap (λ (r : Reading). r .answer .number) (read-short (c .0) (c .1)))))

@@ -25,7 +25,8 @@ use Rattle.sections.specs.Cut.{cut}
 use Rattle.sections.specs.Encode.{eventBytes, headerBytes, eventLoopBytes, coveredBytes, sectionBytes}
 use Rattle.sections.specs.Decode.{statedEventSize, eventIn, statedSectionSize, headerIn, eventLoop, cutEvents, sectionIn}
 use Rattle.sections.specs.Rules.{Alone, IdentityRules, EventRules, SectionRules}
-use Rattle.sections.specs.JudgeHeader.{isTable, isFramed, isClosed, hasFixedBits, isSameFile, isHeader, isNumbered, isNext, isInPlace}
+use Rattle.sections.specs.JudgeHeader.{isTable, isFramed, isClosed, hasFixedBits}
+use Rattle.sections.specs.JudgeHeader.{isSameFile, isHeader, isNumbered, isNext, isInPlace}
 use Rattle.sections.specs.JudgeEvents.{isFilledOrAlone, areEvents, areNew, isEventLoop, isWithinLimit}
 use Rattle.sections.specs.Walk.{Progress, behind}
 use Rattle.sections.proofs.Lengths.{loop-length, header-length, section-length}
@@ -36,12 +37,12 @@ use Rattle.sections.proofs.HeaderBytes.{HeaderFits, rules-fit, header-b
 use Rattle.sections.proofs.Numbering.{numbered-is, alone-is}
 use Rattle.sections.proofs.Walk.{Passes}
 
--- the four bytes behind the event loop
-abbrev closing : ℕ → Section → List ℕ
-closing base s = bigEndian 4 (crc32 (coveredBytes base s))
+-- the four bytes behind the event loop, by CRC_32
+abbrev crcBytes : ℕ → Section → List ℕ
+crcBytes base s = bigEndian 4 (crc32 (coveredBytes base s))
 
 -- a section in its two and in its three parts
-section-is : (base : ℕ) (s : Section) → sectionBytes base s ≡ coveredBytes base s ++ closing base s
+section-is : (base : ℕ) (s : Section) → sectionBytes base s ≡ coveredBytes base s ++ crcBytes base s
 unfolding sectionBytes
 section-is base s = refl
 
@@ -51,11 +52,11 @@ unfolding coveredBytes
 covered-is base s = refl
 
 section-parts : (base : ℕ) (s : Section)
-    → sectionBytes base s ≡ headerBytes (sectionSize s) (s .header) ++ (eventLoopBytes base (s .events) ++ closing base s)
+    → sectionBytes base s ≡ headerBytes (sectionSize s) (s .header) ++ (eventLoopBytes base (s .events) ++ crcBytes base s)
 section-parts base s =
     section-is base s
-    ∙ ap (λ (ds : List ℕ). ds ++ closing base s) (covered-is base s)
-    ∙ append-assoc (headerBytes (sectionSize s) (s .header)) (eventLoopBytes base (s .events)) (closing base s)
+    ∙ ap (λ (ds : List ℕ). ds ++ crcBytes base s) (covered-is base s)
+    ∙ append-assoc (headerBytes (sectionSize s) (s .header)) (eventLoopBytes base (s .events)) (crcBytes base s)
 
 chains-bytes : (h : Header) (es : List Event) → Every (EventRules h) es → Every (λ (e : Event). Bytes (e .chain)) es
 chains-bytes h [] rules = tt
@@ -85,9 +86,9 @@ module _ (sizes : Sizes) (base : ℕ) (large : sizes .sectionBytes ≤ 4_096) (l
         ap (λ (n : ℕ). take n (drop headerSize (sectionBytes base s))) size
         ∙ ap (take (eventSizes (s .events)))
         (ap (drop headerSize) (section-parts base s)
-        ∙ drop-at (headerBytes (sectionSize s) (s .header)) (eventLoopBytes base (s .events) ++ closing base s) headerSize
+        ∙ drop-at (headerBytes (sectionSize s) (s .header)) (eventLoopBytes base (s .events) ++ crcBytes base s) headerSize
         (header-length (sectionSize s) (s .header)))
-        ∙ take-at (eventLoopBytes base (s .events)) (closing base s) (eventSizes (s .events)) (loop-length base (s .events))
+        ∙ take-at (eventLoopBytes base (s .events)) (crcBytes base s) (eventSizes (s .events)) (loop-length base (s .events))
 
     cut-events : cutEvents (sectionBytes base s) ≡ map (eventBytes base) (s .events)
     unfolding cutEvents
@@ -111,7 +112,7 @@ module _ (sizes : Sizes) (base : ℕ) (large : sizes .sectionBytes ≤ 4_096) (l
               λ rest.
               ap statedSectionSize
               (ap (λ (ds : List ℕ). ds ++ rest) (section-parts base s)
-              ∙ append-assoc (headerBytes (sectionSize s) (s .header)) (eventLoopBytes base (s .events) ++ closing base s) rest)
+              ∙ append-assoc (headerBytes (sectionSize s) (s .header)) (eventLoopBytes base (s .events) ++ crcBytes base s) rest)
               ∙ header-stated (sectionSize s) (s .header) _ (omega arith) (omega (arith, rules .size))
               ∙ sym size;
         }
@@ -127,9 +128,12 @@ module _ (sizes : Sizes) (base : ℕ) (large : sizes .sectionBytes ≤ 4_096) (l
         let table : headerIn bs .tableId ≡ s .header .tableId = ap (λ (h : Header). h .tableId) section-header in
         let whole : T (eqb (length bs) (statedSectionSize bs)) = eq-test _ _ (sym stated) in
         let least : T (leb sectionOverhead (length bs)) = le→leb sectionOverhead (length bs) (omega arith) in
-        let most-bytes : T (leb (length bs) (sizes .sectionBytes)) = le→leb (length bs) (sizes .sectionBytes) (omega (arith, rules .size)) in
-        let low : T (leb tableLeast (headerIn bs .tableId)) = le→leb tableLeast (headerIn bs .tableId) (omega (arith, rules .headerRules .least)) in
-        let high : T (leb (headerIn bs .tableId) tableMost) = le→leb (headerIn bs .tableId) tableMost (omega (arith, rules .headerRules .most)) in
+        let most-bytes : T (leb (length bs) (sizes .sectionBytes)) =
+        le→leb (length bs) (sizes .sectionBytes) (omega (arith, rules .size)) in
+        let low : T (leb tableLeast (headerIn bs .tableId)) =
+        le→leb tableLeast (headerIn bs .tableId) (omega (arith, rules .headerRules .least)) in
+        let high : T (leb (headerIn bs .tableId) tableMost) =
+        le→leb (headerIn bs .tableId) tableMost (omega (arith, rules .headerRules .most)) in
         search tests
 
     closes : T (isClosed (sectionBytes base s))
@@ -143,14 +147,17 @@ module _ (sizes : Sizes) (base : ℕ) (large : sizes .sectionBytes ≤ 4_096) (l
         eq-test (crc32 (sectionBytes base s)) 0 (ap crc32 (section-is base s) ∙ closed (coveredBytes base s) covered)
 
     fixed : T (hasFixedBits (sectionBytes base s))
-    fixed = rw (section-parts base s) (header-fixed (sectionSize s) (s .header) _ (omega arith) (omega (arith, rules .size)) (fits .identityRules .version))
+    fixed =
+        rw (section-parts base s)
+        (header-fixed (sectionSize s) (s .header) _ (omega arith) (omega (arith, rules .size)) (fits .identityRules .version))
 
     header-passes : (before : Option Header) → T (isSameFile before (s .header)) → T (isHeader before (sectionBytes base s))
     unfolding isHeader
     header-passes before same =
         let lastTable : T (isTable (s .header .lastTableId)) =
         and-both (leb tableLeast (s .header .lastTableId)) (leb (s .header .lastTableId) tableMost)
-        (le→leb tableLeast (s .header .lastTableId) (omega (arith, rules .headerRules .least, rules .headerRules .most, rules .headerRules .sameLastTable)))
+        (le→leb tableLeast (s .header .lastTableId)
+        (omega (arith, rules .headerRules .least, rules .headerRules .most, rules .headerRules .sameLastTable)))
         (le→leb (s .header .lastTableId) tableMost (omega (arith, rules .headerRules .sameLastTable))) in
         and-both (hasFixedBits (sectionBytes base s)) _ fixed
         (subst (λ (h : Header). T (isTable (h .lastTableId) && isSameFile before h)) (sym section-header)
@@ -161,7 +168,8 @@ module _ (sizes : Sizes) (base : ℕ) (large : sizes .sectionBytes ≤ 4_096) (l
     place-passes before next =
         let numbered : T (isNumbered (s .header)) = numbered-is (s .header) (rules .headerRules .numbered) in
         let table : T (leb (s .header .tableId) (s .header .lastTableId)) =
-        le→leb (s .header .tableId) (s .header .lastTableId) (omega (arith, rules .headerRules .most, rules .headerRules .sameLastTable)) in
+        le→leb (s .header .tableId) (s .header .lastTableId)
+        (omega (arith, rules .headerRules .most, rules .headerRules .sameLastTable)) in
         subst (λ (h : Header). T (isInPlace before h)) (sym section-header) (search tests)
 
     loop-passes : (seen : List Event) → T (areNew seen (s .events)) → T (isEventLoop base seen (sectionBytes base s))

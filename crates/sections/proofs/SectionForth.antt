@@ -120,7 +120,8 @@ module _ (sizes : Sizes) (base : ℕ) (p : Progress) (bs : List ℕ) (bytes : By
       let front : Bytes covered =
       bytes-append (take headerSize bs) (eventLoop bs) (bytes-take headerSize bs bytes) loop-is-bytes in
       let end : closing bs ≡ bigEndian 4 (crc32 covered) =
-      closed-only covered (closing bs) front (bytes-drop (length bs - sectionOverhead) (drop headerSize bs) (bytes-drop headerSize bs bytes)) four zero in
+      closed-only covered (closing bs) front
+      (bytes-drop (length bs - sectionOverhead) (drop headerSize bs) (bytes-drop headerSize bs bytes)) four zero in
       ap (λ (ds : List ℕ). ds ++ bigEndian 4 (crc32 ds)) covered-forth
       ∙ ap (λ (ds : List ℕ). covered ++ ds) (sym end)
       ∙ section-joined bs

@@ -86,7 +86,8 @@ module _ (start k place : ℕ) where
 -- the first k from a section on, where they are known behind it
 one-taken : (index k : ℕ) → k ≤ 8 → (s : Section) (ss : List Section) → s .header .sectionNumber < 256
     → firstSections index k ss ≡ take (left (segmentPlace index) k (suc (sectionPlace (s .header)))) (segmentSections index ss)
-    → firstSections index k (s ∷ ss) ≡ take (left (segmentPlace index) k (sectionPlace (s .header))) (segmentSections index (s ∷ ss))
+    → firstSections index k (s ∷ ss) ≡ take (left (segmentPlace index) k (sectionPlace (s .header)))
+    (segmentSections index (s ∷ ss))
 one-taken index k few s ss byte rest =
     ⊎-elim (λ least. ⊎-elim behind (inside least) (le-or-lt (start + k) place)) before (le-or-lt start place)
   where
@@ -198,7 +199,8 @@ module _ (sizes : Sizes) (identity : Identity) (lastTableId index : ℕ) where
       → firstSections index k ss ≡ take k (segmentSections index ss)
   ordered-taken k few [] rules ordered = absurd ordered
   ordered-taken k few (s ∷ ss) rules ordered =
-      let all : left (segmentPlace index) k (sectionPlace (s .header)) ≡ k = omega (arith, ordered .0 .table, ordered .0 .section) in
+      let all : left (segmentPlace index) k (sectionPlace (s .header)) ≡ k =
+      omega (arith, ordered .0 .table, ordered .0 .section) in
       one-taken index k few s ss (byte-number s (rules .0)) (rest-taken k few s ss rules (ordered .1))
       ∙ ap (λ (n : ℕ). take n (segmentSections index (s ∷ ss))) all
 
@@ -215,7 +217,8 @@ module _ (sizes : Sizes) (identity : Identity) (lastTableId index : ℕ) where
   one-filled s ss rules past rest =
       ⊎-elim
       (λ none.
-      let behind : segmentPlace index + 8 ≤ sectionPlace (s .header) = first-later index (sectionPlace (s .header)) (first-alone s rules none) past in
+      let behind : segmentPlace index + 8 ≤ sectionPlace (s .header) =
+      first-later index (sectionPlace (s .header)) (first-alone s rules none) past in
       let same : segmentSections index (s ∷ ss) ≡ segmentSections index ss =
       first-outside index 8 (omega arith) s ss (byte-number s rules) (λ least most. omega arith) in
       subst (Every Filled) (sym same) rest)
@@ -248,7 +251,8 @@ module _ (sizes : Sizes) (identity : Identity) (lastTableId index : ℕ) where
       (λ past. ⊎-elim
       (λ none.
       let first : sectionPlace (t .header) % 8 ≡ 0 = next-first s t (rules .0) (succeeding .0) none in
-      let behind : segmentPlace index + 8 ≤ sectionPlace (t .header) = first-later index (sectionPlace (t .header)) first (omega arith) in
+      let behind : segmentPlace index + 8 ≤ sectionPlace (t .header) =
+      first-later index (sectionPlace (t .header)) first (omega arith) in
       inl (one-more index s (t ∷ ss) (behind-none 8 (omega arith) t ss (rules .1) (succeeding .1) behind)))
       (λ some. inr (more-filled index s (t ∷ ss) some (rest-filled s (t ∷ ss) rules succeeding past)))
       (none-or-some (s .events)))

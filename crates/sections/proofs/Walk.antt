@@ -1,5 +1,5 @@
 -- What it means that Read's walk passes: every test of every section, with the sections before it known, and the file complete at
--- its end. By the six checks of `step`, one after the other, and induction over the sections. Assumes nothing.
+-- its end. By the six tests of `step`, one after the other, and induction over the sections. Assumes nothing.
 use mathlib.Core.Path.{_≡_, refl}
 use mathlib.Core.Bool.{Bool, true, false}
 use Prim.Native.Nat.{ℕ}
@@ -11,7 +11,7 @@ use Rattle.eit.proofs.Test.{true-is}
 use Rattle.sections.specs.Decode.{headerIn}
 use Rattle.sections.specs.JudgeHeader.{isFramed, isClosed, isHeader, isInPlace}
 use Rattle.sections.specs.JudgeEvents.{isEventLoop, isWithinLimit}
-use Rattle.sections.specs.Walk.{Progress, behind, Verdict, passed, refused, check, step, walk}
+use Rattle.sections.specs.Walk.{Progress, behind, behindAll, Verdict, passed, refused, require, step, walk}
 
 -- one section passes all six tests
 pub record Passes (sizes : Sizes) (base : ℕ) (p : Progress) (bs : List ℕ) : Type 0 where
@@ -22,15 +22,11 @@ pub record Passes (sizes : Sizes) (base : ℕ) (p : Progress) (bs : List ℕ) : 
   pub loop : T (isEventLoop base (p .seen) bs)
   pub limit : T (isWithinLimit sizes (p .seen) bs)
 
--- what a passed verdict says of a check
-check-passed : (b : Bool) (number offset : ℕ) (next : Verdict) (q : Progress) → check b number offset next ≡ passed q → T b × (next ≡ passed q)
-check-passed true number offset next q e = (tt, e)
-check-passed false number offset next q e = let never : _≡_ {A = ℕ} 0 1 = cc in absurd (omega arith)
-
--- what is known behind some sections
-abbrev pub behindAll : ℕ → Progress → List (List ℕ) → Progress
-behindAll base p [] = p
-behindAll base p (bs ∷ rest) = behindAll base (behind base p bs) rest
+-- what a passed verdict says of a test that must hold
+require-passed : (b : Bool) (number offset : ℕ) (next : Verdict) (q : Progress) → require b number offset next ≡ passed q
+    → T b × (next ≡ passed q)
+require-passed true number offset next q e = (tt, e)
+require-passed false number offset next q e = let never : _≡_ {A = ℕ} 0 1 = cc in absurd (omega arith)
 
 module _ (sizes : Sizes) (base : ℕ) where
   pub step-passes : (p : Progress) (bs : List ℕ) → Passes sizes base p bs → step sizes base p bs ≡ passed (behind base p bs)
@@ -46,15 +42,16 @@ module _ (sizes : Sizes) (base : ℕ) where
         true-is (isWithinLimit sizes (p .seen) bs) (t .limit),
       )
 
-  pub step-passed : (p q : Progress) (bs : List ℕ) → step sizes base p bs ≡ passed q → Passes sizes base p bs × (behind base p bs ≡ q)
+  pub step-passed : (p q : Progress) (bs : List ℕ) → step sizes base p bs ≡ passed q
+      → Passes sizes base p bs × (behind base p bs ≡ q)
   unfolding step
   step-passed p q bs e =
-      let (framed, e20) = check-passed (isFramed sizes bs) 20 (p .offset) _ q e in
-      let (closed, e21) = check-passed (isClosed bs) 21 (p .offset) _ q e20 in
-      let (header, e22) = check-passed (isHeader (p .before) bs) 22 (p .offset) _ q e21 in
-      let (place, e23) = check-passed (isInPlace (p .before) (headerIn bs)) 23 (p .offset) _ q e22 in
-      let (loop, e24) = check-passed (isEventLoop base (p .seen) bs) 24 (p .offset) _ q e23 in
-      let (limit, e26) = check-passed (isWithinLimit sizes (p .seen) bs) 26 (p .offset) _ q e24 in
+      let (framed, e20) = require-passed (isFramed sizes bs) 20 (p .offset) _ q e in
+      let (closed, e21) = require-passed (isClosed bs) 21 (p .offset) _ q e20 in
+      let (header, e22) = require-passed (isHeader (p .before) bs) 22 (p .offset) _ q e21 in
+      let (place, e23) = require-passed (isInPlace (p .before) (headerIn bs)) 23 (p .offset) _ q e22 in
+      let (loop, e24) = require-passed (isEventLoop base (p .seen) bs) 24 (p .offset) _ q e23 in
+      let (limit, e26) = require-passed (isWithinLimit sizes (p .seen) bs) 26 (p .offset) _ q e24 in
       (record { framed = framed; closed = closed; header = header; place = place; loop = loop; limit = limit }, cc)
 
   -- every section passes, with those before it known
@@ -73,7 +70,8 @@ module _ (sizes : Sizes) (base : ℕ) where
   after-step (passed next) rest q e = (next, refl, e)
   after-step (refused number offset) rest q e = let never : _≡_ {A = ℕ} 0 1 = cc in absurd (omega arith)
 
-  pub walk-passed : (p q : Progress) (xs : List (List ℕ)) → walk sizes base p xs ≡ passed q → AllPass p xs × (behindAll base p xs ≡ q)
+  pub walk-passed : (p q : Progress) (xs : List (List ℕ)) → walk sizes base p xs ≡ passed q
+      → AllPass p xs × (behindAll base p xs ≡ q)
   unfolding walk
   walk-passed p q [] e = (tt, cc)
   walk-passed p q (bs ∷ rest) e =

@@ -32,8 +32,8 @@ eventBytes base e =
     ++ bigEndian 2 (statusWord e)
     ++ e .chain
 
--- the version that sections of a table have
-abbrev pub versionOf : Identity → ℕ → ℕ
+-- the version that sections of a table have: the same in every section, so the table does not matter
+unfoldable pub versionOf : Identity → ℕ → ℕ
 versionOf identity table = identity .version
 
 -- bits 1111, then 12-bit section_length: bytes after this field, of a section of `size` bytes

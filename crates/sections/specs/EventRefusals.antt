@@ -24,11 +24,19 @@ pub record EventRefusals : Type 0 where
   pub chain-past-end : says (withEvent one hour (0x00 ∷ 0x02 ∷ 0x4D ∷ [])) ≡ refusal 24 0
   pub byte-left : says (withEvent one hour (0x00 ∷ 0x00 ∷ 0x00 ∷ [])) ≡ refusal 24 0
   pub empty-not-alone : says (section 0x50 0 1 1 0x50 []) ≡ refusal 24 0
-  pub empty-second : says (section 0x50 0 1 1 0x50 (event 1 0x00 0x00) ++ section 0x50 1 1 1 0x50 []) ≡ refusal 24 30
+  pub empty-second :
+      says (section 0x50 0 1 1 0x50 (event 1 0x00 0x00) ++ section 0x50 1 1 1 0x50 [])
+      ≡ refusal 24 30
   pub same-start : says (section 0x50 0 0 0 0x50 (event 1 0x01 0x00 ++ event 2 0x01 0x00)) ≡ refusal 24 0
-  pub earlier-start : says (section 0x50 0 1 1 0x50 (event 1 0x01 0x00) ++ section 0x50 1 1 1 0x50 (event 2 0x00 0x59)) ≡ refusal 24 30
-  pub same-id : says (section 0x50 0 0 0 0x50 (event 1 0x00 0x00 ++ event 2 0x00 0x30 ++ event 1 0x01 0x00)) ≡ refusal 24 0
-  pub same-id-apart : says (section 0x50 0 8 0 0x50 (event 1 0x00 0x00) ++ section 0x50 8 8 8 0x50 (event 1 0x03 0x00)) ≡ refusal 24 30
+  pub earlier-start :
+      says (section 0x50 0 1 1 0x50 (event 1 0x01 0x00) ++ section 0x50 1 1 1 0x50 (event 2 0x00 0x59))
+      ≡ refusal 24 30
+  pub same-id :
+      says (section 0x50 0 0 0 0x50 (event 1 0x00 0x00 ++ event 2 0x00 0x30 ++ event 1 0x01 0x00))
+      ≡ refusal 24 0
+  pub same-id-apart :
+      says (section 0x50 0 8 0 0x50 (event 1 0x00 0x00) ++ section 0x50 8 8 8 0x50 (event 1 0x03 0x00))
+      ≡ refusal 24 30
   -- 26, behind 24 and before 25
   pub limit-held : checkFile (record { sectionBytes = 4_096; eventLimit = 1 }) 49_273 (withEvent one hour bare) .number ≡ 0
   pub above-limit-early : checkFile (record { sectionBytes = 4_096; eventLimit = 1 }) 49_273
@@ -42,6 +50,12 @@ pub record EventRefusals : Type 0 where
   pub segment-early : says (section 0x50 0 1 1 0x50 (event 1 0x00 0x00)) ≡ refusal 25 30
   pub table-early : says (section 0x50 0 8 0 0x50 []) ≡ refusal 25 18
   pub last-table-early : says (section 0x50 0 0 0 0x51 []) ≡ refusal 25 18
-  pub buffer-short : read broadcast 49_273 (withEvent one hour bare) (7 ∷ 7 ∷ 7 ∷ 7 ∷ 7 ∷ []) ≡ record { answer = refusal 27 1; buffer = 7 ∷ 7 ∷ 7 ∷ 7 ∷ 7 ∷ [] }
-  pub early-and-short : read broadcast 49_273 (section 0x50 0 8 0 0x50 (event 1 0x00 0x00)) (7 ∷ []) ≡ record { answer = refusal 25 30; buffer = 7 ∷ [] }
-  pub refused-leaves : read broadcast 49_273 (section 0x50 0 0 0 0x50 (event 1 0x03 0x00)) (7 ∷ 7 ∷ 7 ∷ 7 ∷ 7 ∷ 7 ∷ []) ≡ record { answer = refusal 24 0; buffer = 7 ∷ 7 ∷ 7 ∷ 7 ∷ 7 ∷ 7 ∷ [] }
+  pub buffer-short :
+      read broadcast 49_273 (withEvent one hour bare) (7 ∷ 7 ∷ 7 ∷ 7 ∷ 7 ∷ [])
+      ≡ record { answer = refusal 27 1; buffer = 7 ∷ 7 ∷ 7 ∷ 7 ∷ 7 ∷ [] }
+  pub early-and-short :
+      read broadcast 49_273 (section 0x50 0 8 0 0x50 (event 1 0x00 0x00)) (7 ∷ [])
+      ≡ record { answer = refusal 25 30; buffer = 7 ∷ [] }
+  pub refused-leaves :
+      read broadcast 49_273 (section 0x50 0 0 0 0x50 (event 1 0x03 0x00)) (7 ∷ 7 ∷ 7 ∷ 7 ∷ 7 ∷ 7 ∷ [])
+      ≡ record { answer = refusal 24 0; buffer = 7 ∷ 7 ∷ 7 ∷ 7 ∷ 7 ∷ 7 ∷ [] }

@@ -1,19 +1,24 @@
 -- What "Read is exact" speaks of (demand 2: "Read accepts exactly the files that follow their rules, packing aside, and returns the
 -- identity and events that the file's bytes carry"). The theorem is `read-exact` of proofs/Exact.antt. Assumes nothing.
 use mathlib.Core.Path.{_≡_}
-use Prim.Native.Nat.{ℕ}
+use Prim.Native.Nat.{ℕ, _*_}
 use mathlib.Core.List.{List}
 use lib.ListN.{length}
 use Rattle.eit.specs.Sizes.{Sizes}
 use Rattle.eit.specs.Overwrite.{overwrite}
-use Rattle.eit.specs.Records.{numbersOfAll}
+use Rattle.eit.specs.Records.{recordSize, numbersOfAll}
 use Rattle.eit.specs.declared.Identity.{Identity}
 use Rattle.eit.specs.declared.Record.{Record}
 use Rattle.sections.specs.Section.{Section}
 use Rattle.sections.specs.Encode.{fileBytes}
 use Rattle.sections.specs.Rules.{Rules}
 use Rattle.sections.specs.Places.{recordsFrom}
-use Rattle.sections.specs.Read.{Reading, success}
+use Rattle.sections.specs.Read.{Reading, success, read}
+
+-- 01's term: accepted. Read, with 12,288 numbers for records, succeeds on the file: with any that the largest list fits in
+abbrev pub Accepted : Sizes → ℕ → List ℕ → Type 0
+Accepted sizes base file =
+    (buffer : List ℕ) → length buffer ≡ sizes .eventLimit * recordSize → read sizes base file buffer .answer .number ≡ 0
 
 -- the file is the joined bytes of some sections that keep the rules, and the records are their events at their places in it
 pub record FollowsRules (sizes : Sizes) (base : ℕ) (file : List ℕ) (identity : Identity) (rs : List Record) : Type 0 where

@@ -1,16 +1,21 @@
--- Sections and files computed (01, "The file of sections"): bytes of data, records of bytes, counts in segments, and files that a
--- rival may have made. The value is in proofs/Examples.antt. Assumes nothing.
+-- Segments, sections and files computed (01, "The file of sections"): places of starts, bytes of data, records of bytes, counts in
+-- segments, and files that a rival may have made. The value is in proofs/Examples.antt. Assumes nothing.
 use Prim.Native.Nat.{ℕ}
 use mathlib.Core.Path.{_≡_}
 use mathlib.Core.Bool.{true}
-use mathlib.Core.List.{List, [], _∷_, _++_}
+use mathlib.Core.List.{[], _∷_, _++_}
 use Rattle.eit.specs.Sizes.{broadcast}
 use Rattle.eit.specs.Events.{Event}
 use Rattle.eit.specs.declared.Identity.{Identity}
+use Rattle.sections.specs.Segment.{tableLeast, tableMost, segmentIndex, tableOf, firstSection, firstOf}
 use Rattle.sections.specs.Encode.{eventBytes, fileBytes}
 use Rattle.sections.specs.Count.{sectionsCounted, eventsCounted}
 use Rattle.sections.specs.Read.{success, read}
-use Rattle.sections.specs.Files.{section, event}
+use Rattle.sections.specs.Files.{section, event, noon, rival, full, says}
+
+-- the table of a start, and the first section of its segment
+abbrev pub startPlace : ℕ → ℕ × ℕ
+startPlace start = (tableOf (segmentIndex start), firstSection (segmentIndex start))
 
 abbrev pub identity : Identity
 identity = record { «service_id» = 1; «transport_stream_id» = 2; «original_network_id» = 3; version = 0 }
@@ -19,24 +24,12 @@ identity = record { «service_id» = 1; «transport_stream_id» = 2; «original_
 abbrev pub shown : Event
 shown = record { id = 0x1234; start = 45_900; duration = 6_330; offAir = true; freeCa = true; chain = 0x4D ∷ 0x01 ∷ 0x09 ∷ [] }
 
--- document 01's program at 12:45: four empty segments before it
-abbrev pub noon : List ℕ
-noon =
-    section 0x50 0 32 0 0x50 []
-    ++ section 0x50 8 32 8 0x50 []
-    ++ section 0x50 16 32 16 0x50 []
-    ++ section 0x50 24 32 24 0x50 []
-    ++ section 0x50 32 32 32 0x50 (event 1 0x12 0x45)
-
--- a rival's: cut early, an empty segment behind the last event, and a later last_table_id
-abbrev pub rival : List ℕ
-rival =
-    section 0x50 0 8 1 0x51 (event 1 0x00 0x00)
-    ++ section 0x50 1 8 1 0x51 (event 2 0x01 0x00 ++ event 3 0x02 0x59)
-    ++ section 0x50 8 8 8 0x51 []
-    ++ section 0x51 0 0 0 0x51 []
-
 pub record Examples : Type 0 where
+  -- table and first section of the segment that a start lies in
+  pub places : (startPlace 0 ≡ (0x50, 0)) × (startPlace 10_799 ≡ (0x50, 0)) × (startPlace 10_800 ≡ (0x50, 8))
+      × (startPlace 345_599 ≡ (0x50, 248)) × (startPlace 345_600 ≡ (0x51, 0)) × (startPlace 5_529_599 ≡ (0x5F, 248))
+  pub tables : (tableLeast ≡ 0x50) × (tableMost ≡ 0x5F)
+  pub firsts : (firstOf 7 ≡ 0) × (firstOf 8 ≡ 8) × (firstOf 255 ≡ 248)
   pub event-bytes :
       eventBytes 49_273 shown
       ≡ 0x12 ∷ 0x34 ∷ 0xC0 ∷ 0x79 ∷ 0x12 ∷ 0x45 ∷ 0x00 ∷ 0x01 ∷ 0x45 ∷ 0x30 ∷ 0xB0 ∷ 0x03 ∷ 0x4D ∷ 0x01 ∷ 0x09 ∷ []
@@ -61,7 +54,32 @@ pub record Examples : Type 0 where
       ∷ 0x11 ∷ 0xA6 ∷ 0x7E ∷ 0x17 ∷ []
   pub one-event :
       read broadcast 49_273 noon (9 ∷ 9 ∷ 9 ∷ 9 ∷ 9 ∷ 9 ∷ 9 ∷ [])
-      ≡ record { answer = success identity 1; buffer = 1 ∷ 45_900 ∷ 3_600 ∷ 0 ∷ 98 ∷ 0 ∷ 9 ∷ [] }
+      ≡ record { answer = success identity 1; buffer = 1 ∷ 45_900 ∷ 6_330 ∷ 0 ∷ 98 ∷ 0 ∷ 9 ∷ [] }
+  -- answers in full
+  pub answered :
+      says (section 0x50 0 0 0 0x50 (event 1 0x00 0x00))
+      ≡ record {
+        number = 0;
+        value = 1;
+        identity = record { «service_id» = 1; «transport_stream_id» = 2; «original_network_id» = 3; version = 0 };
+        count = 1;
+      }
+  pub refused :
+      says (section 0x50 0 0 0 0x50 [] ++ (0x50 ∷ []))
+      ≡ record {
+        number = 20;
+        value = 18;
+        identity = record { «service_id» = 0; «transport_stream_id» = 0; «original_network_id» = 0; version = 0 };
+        count = 0;
+      }
+  pub full-accepted :
+      says full
+      ≡ record {
+        number = 0;
+        value = 8;
+        identity = record { «service_id» = 1; «transport_stream_id» = 2; «original_network_id» = 3; version = 31 };
+        count = 8;
+      }
   pub marks-and-chain :
       read broadcast 49_273 (section 0x50 0 0 0 0x50
       (0x12 ∷ 0x34 ∷ 0xC0 ∷ 0x79 ∷ 0x02 ∷ 0x45 ∷ 0x00 ∷ 0x01 ∷ 0x45 ∷ 0x30 ∷ 0xB0 ∷ 0x03 ∷ 0x4D ∷ 0x01 ∷ 0x09 ∷ []))
@@ -74,6 +92,4 @@ pub record Examples : Type 0 where
         buffer = 1 ∷ 0 ∷ 3_600 ∷ 0 ∷ 26 ∷ 0 ∷ 2 ∷ 3_600 ∷ 3_600 ∷ 0 ∷ 56 ∷ 0 ∷ 3 ∷ 10_740 ∷ 3_600 ∷ 0 ∷ 68 ∷ 0 ∷ [];
       }
   pub counted : (sectionsCounted 49_273 rival 0 ≡ 2) × (sectionsCounted 49_273 rival 1 ≡ 1) × (sectionsCounted 49_273 rival 2 ≡ 0)
-      × (sectionsCounted 49_273 rival 32 ≡ 1)
-  pub held : (eventsCounted 49_273 rival 0 1 ≡ 1) × (eventsCounted 49_273 rival 0 2 ≡ 3) × (eventsCounted 49_273 rival 0 8 ≡ 3)
-      × (eventsCounted 49_273 rival 1 8 ≡ 0)
+  pub held : (eventsCounted 49_273 rival 0 1 ≡ 1) × (eventsCounted 49_273 rival 0 8 ≡ 3)

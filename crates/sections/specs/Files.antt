@@ -1,6 +1,6 @@
--- Short files in raw bytes, for specs/Examples.antt and specs/Refusals.antt. Service, stream and network are 1, 2 and 3, the version
--- is 0 and the base day 49,273 (0xC079). Assumes nothing.
-use Prim.Native.Nat.{ℕ, _+_}
+-- Short files in raw bytes, for specs/Examples.antt, specs/Refusals.antt and specs/EventRefusals.antt. Where nothing else is said,
+-- service, stream and network are 1, 2 and 3, the version is 0, and the base day is 49,273 (0xC079). Assumes nothing.
+use Prim.Native.Nat.{ℕ, zero, suc, _+_}
 use mathlib.Core.List.{List, [], _∷_, _++_}
 use lib.ListN.{length}
 use Rattle.eit.specs.Sizes.{broadcast}
@@ -12,12 +12,16 @@ use Rattle.sections.specs.Read.{Answer, checkFile}
 abbrev pub closed : List ℕ → List ℕ
 closed bs = bs ++ bigEndian 4 (crc32 bs)
 
--- a section: table_id, section_number, last_section_number, segment_last_section_number, last_table_id, event loop
-abbrev pub section : ℕ → ℕ → ℕ → ℕ → ℕ → List ℕ → List ℕ
-section table number last segmentLast lastTable events =
+-- a section with its version byte: table_id, section_number, last_section_number, segment_last_section_number, last_table_id, events
+abbrev pub versioned : ℕ → ℕ → ℕ → ℕ → ℕ → ℕ → List ℕ → List ℕ
+versioned version table number last segmentLast lastTable events =
     closed
-    ((table ∷ 0xF0 ∷ (15 + length events) ∷ 0x00 ∷ 0x01 ∷ 0xC1 ∷ number ∷ last ∷ 0x00 ∷ 0x02 ∷ 0x00 ∷ 0x03 ∷ segmentLast ∷ lastTable ∷ [])
+    ((table ∷ 0xF0 ∷ (15 + length events) ∷ 0x00 ∷ 0x01 ∷ version ∷ number ∷ last ∷ 0x00 ∷ 0x02 ∷ 0x00 ∷ 0x03
+    ∷ segmentLast ∷ lastTable ∷ [])
     ++ events)
+
+abbrev pub section : ℕ → ℕ → ℕ → ℕ → ℕ → List ℕ → List ℕ
+section table number last segmentLast lastTable events = versioned 0xC1 table number last segmentLast lastTable events
 
 -- no events, with the bytes 1 and 5 given: the first of section_length's field, and the version's
 abbrev pub withBits : ℕ → ℕ → List ℕ
@@ -48,6 +52,42 @@ hour = 0x01 ∷ 0x00 ∷ 0x00 ∷ []
 
 abbrev pub bare : List ℕ
 bare = 0x00 ∷ 0x00 ∷ []
+
+-- the file of document 01's sample of `plan`: an event of 01:45:30 at 12:45, and four empty segments before it; 102 bytes
+abbrev pub noon : List ℕ
+noon =
+    section 0x50 0 32 0 0x50 []
+    ++ section 0x50 8 32 8 0x50 []
+    ++ section 0x50 16 32 16 0x50 []
+    ++ section 0x50 24 32 24 0x50 []
+    ++ section 0x50 32 32 32 0x50
+    (0x00 ∷ 0x01 ∷ 0xC0 ∷ 0x79 ∷ 0x12 ∷ 0x45 ∷ 0x00 ∷ 0x01 ∷ 0x45 ∷ 0x30 ∷ 0x00 ∷ 0x00 ∷ [])
+
+-- a rival's: cut early, an empty segment behind the last event, and a later last_table_id
+abbrev pub rival : List ℕ
+rival =
+    section 0x50 0 8 1 0x51 (event 1 0x00 0x00)
+    ++ section 0x50 1 8 1 0x51 (event 2 0x01 0x00 ++ event 3 0x02 0x59)
+    ++ section 0x50 8 8 8 0x51 []
+    ++ section 0x51 0 0 0 0x51 []
+
+-- empty tables, n of them from `table` on, with last_table_id 0x5F and version 31
+abbrev pub emptyTables : ℕ → ℕ → List ℕ
+emptyTables table zero = []
+emptyTables table (suc n) = versioned 0xFF table 0 0 0 0x5F [] ++ emptyTables (suc table) n
+
+-- a segment of eight sections, and all sixteen tables
+abbrev pub full : List ℕ
+full =
+    versioned 0xFF 0x50 0 7 7 0x5F (event 1 0x00 0x00)
+    ++ versioned 0xFF 0x50 1 7 7 0x5F (event 2 0x00 0x10)
+    ++ versioned 0xFF 0x50 2 7 7 0x5F (event 3 0x00 0x20)
+    ++ versioned 0xFF 0x50 3 7 7 0x5F (event 4 0x00 0x30)
+    ++ versioned 0xFF 0x50 4 7 7 0x5F (event 5 0x00 0x40)
+    ++ versioned 0xFF 0x50 5 7 7 0x5F (event 6 0x00 0x50)
+    ++ versioned 0xFF 0x50 6 7 7 0x5F (event 7 0x01 0x00)
+    ++ versioned 0xFF 0x50 7 7 7 0x5F (event 8 0x02 0x59)
+    ++ emptyTables 0x51 15
 
 -- what check says
 abbrev pub says : List ℕ → Answer

@@ -26,7 +26,7 @@ isComplete (some h) = eqb (h .sectionNumber) (h .lastSectionNumber) && eqb (h .t
 abbrev pub noIdentity : Identity
 noIdentity = record { «service_id» = 0; «transport_stream_id» = 0; «original_network_id» = 0; version = 0 }
 
--- the identity of the file, which every header has
+-- the identity of the file, which every header has: that of the last
 abbrev pub identityOf : Option Header → Identity
 identityOf none = noIdentity
 identityOf (some h) = h .identity
@@ -63,7 +63,7 @@ pub record Reading : Type 0 where
   pub answer : Answer
   pub buffer : List ℕ
 
--- the records of a file that is accepted
+-- the records of the sections that a file's bytes show: those that Read returns of a file that it accepts
 unfoldable pub fileRecords : ℕ → List ℕ → List Record
 unfolding cutSections
 fileRecords base file = recordsFrom 0 (cutSections base file)

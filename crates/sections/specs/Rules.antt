@@ -1,6 +1,6 @@
 -- The rules of a file of sections, as document 01 says them ("The file of sections"): what must hold of the sections, whoever made
--- them. Nothing here decides: Read (specs/Read.antt) has its own tests, and proofs/Exact.antt shows that it accepts just these files.
--- Assumes nothing.
+-- them. Soundness's words for a chain, for starts that rise and for ids that differ serve here too; all else is said in the paper's
+-- own terms. Read (specs/Read.antt) has its own tests, and accepts just these files (proofs/Exact.antt). Assumes nothing.
 use mathlib.Core.Path.{_≡_}
 use mathlib.Core.Logic.{_⊎_}
 use Prim.Native.Nat.{ℕ, _+_, _^_, _≤_, _<_}

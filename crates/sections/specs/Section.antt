@@ -37,9 +37,13 @@ abbrev pub eventSizes : List Event → ℕ
 eventSizes [] = 0
 eventSizes (e ∷ es) = eventSize e + eventSizes es
 
--- the bytes of a whole section, without making them
+-- the bytes of a whole section and of some sections, without making them
 abbrev pub sectionSize : Section → ℕ
 sectionSize s = sectionOverhead + eventSizes (s .events)
+
+abbrev pub sectionSizes : List Section → ℕ
+sectionSizes [] = 0
+sectionSizes (s ∷ ss) = sectionSize s + sectionSizes ss
 
 -- the headers and the events of some sections, in their order
 abbrev pub headersOf : List Section → List Header

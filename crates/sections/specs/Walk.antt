@@ -31,25 +31,30 @@ behind base p bs =
       seen = reverse (map (eventIn base) (cutEvents bs)) ++ p .seen;
     }
 
+-- behind some sections
+abbrev pub behindAll : ℕ → Progress → List (List ℕ) → Progress
+behindAll base p [] = p
+behindAll base p (bs ∷ rest) = behindAll base (behind base p bs) rest
+
 -- the sections pass, or one is refused with a number and its offset
 pub data Verdict : Type 0 where
   passed : Progress → Verdict
   refused : ℕ → ℕ → Verdict
 
--- a check: if it fails, the section is refused with its number
-abbrev pub check : Bool → ℕ → ℕ → Verdict → Verdict
-check true number offset next = next
-check false number offset next = refused number offset
+-- a test that must hold: if it fails, the section is refused with the number
+abbrev pub require : Bool → ℕ → ℕ → Verdict → Verdict
+require true number offset next = next
+require false number offset next = refused number offset
 
 -- per section 20, 21, 22, 23, 24, 26
 unfoldable pub step : Sizes → ℕ → Progress → List ℕ → Verdict
 step sizes base p bs =
-    check (isFramed sizes bs) 20 (p .offset)
-    (check (isClosed bs) 21 (p .offset)
-    (check (isHeader (p .before) bs) 22 (p .offset)
-    (check (isInPlace (p .before) (headerIn bs)) 23 (p .offset)
-    (check (isEventLoop base (p .seen) bs) 24 (p .offset)
-    (check (isWithinLimit sizes (p .seen) bs) 26 (p .offset) (passed (behind base p bs)))))))
+    require (isFramed sizes bs) 20 (p .offset)
+    (require (isClosed bs) 21 (p .offset)
+    (require (isHeader (p .before) bs) 22 (p .offset)
+    (require (isInPlace (p .before) (headerIn bs)) 23 (p .offset)
+    (require (isEventLoop base (p .seen) bs) 24 (p .offset)
+    (require (isWithinLimit sizes (p .seen) bs) 26 (p .offset) (passed (behind base p bs)))))))
 
 -- section after section, until one is refused
 unfoldable pub walk : Sizes → ℕ → Progress → List (List ℕ) → Verdict

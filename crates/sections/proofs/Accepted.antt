@@ -1,0 +1,54 @@
+-- A file is accepted, in 01's sense, exactly if check succeeds on it, and exactly if it is the joined bytes of sections that keep the
+-- rules: by `accepted-follows` and `follows-accepted` of Exact. Assumes nothing.
+use mathlib.Core.Path.{_≡_, ap, subst, _∙_}
+use mathlib.Core.Logic.{_↔_}
+use Prim.Native.Nat.{ℕ, _*_, _≤_}
+use native.Mathlib.Omega.{arith}
+use mathlib.Core.List.{List}
+use lib.ListN.{length, replicate, length-replicate}
+use Rattle.eit.specs.Sizes.{Sizes}
+use Rattle.eit.specs.Limits.{baseMost}
+use Rattle.eit.specs.Fields.{Bytes}
+use Rattle.eit.specs.Records.{recordSize}
+use Rattle.eit.specs.declared.Identity.{Identity}
+use Rattle.sections.specs.Section.{Section}
+use Rattle.sections.specs.Encode.{fileBytes}
+use Rattle.sections.specs.Decode.{cutSections}
+use Rattle.sections.specs.Rules.{Rules}
+use Rattle.sections.specs.Read.{Answer, checkFile, read}
+use Rattle.sections.specs.Exact.{Accepted}
+use Rattle.sections.proofs.Read.{read-agrees, read-says-27}
+use Rattle.sections.proofs.Exact.{accepted-answer, accepted-few, accepted-rules, follows-accepted, read-accepted}
+
+-- a record buffer that the largest list fits in is never short
+pub read-enough : (sizes : Sizes) (base : ℕ) (file buffer : List ℕ) → sizes .eventLimit * recordSize ≤ length buffer
+    → read sizes base file buffer .answer ≡ checkFile sizes base file
+read-enough sizes base file buffer enough =
+    read-agrees sizes base file buffer
+    (λ says.
+    let (zero, short) = read-says-27 sizes base file buffer .0 says in
+    let count = ap (λ (a : Answer). a .count) (accepted-answer sizes base file zero) in
+    omega (arith, accepted-few sizes base file zero))
+
+-- a file is accepted exactly if check, which has no record buffer, succeeds on it
+pub accepted-check : (sizes : Sizes) (base : ℕ) (file : List ℕ) → Accepted sizes base file ↔ (checkFile sizes base file .number ≡ 0)
+accepted-check sizes base file = (
+  λ accepted.
+      let buffer : List ℕ = replicate (sizes .eventLimit * recordSize) 0 in
+      read-accepted sizes base file buffer (accepted buffer (length-replicate {A = ℕ} (sizes .eventLimit * recordSize) 0)) .0,
+  λ zero buffer size. ap (λ (a : Answer). a .number) (read-enough sizes base file buffer (omega arith)) ∙ zero,
+)
+
+-- demand 2: Read accepts exactly the files that follow the rules
+pub accepted-exactly : (sizes : Sizes) (base : ℕ) (file : List ℕ) → sizes .sectionBytes ≤ 4_096 → base ≤ baseMost → Bytes file
+    → Accepted sizes base file ↔
+    ((identity : Identity) × (ss : List Section) × Rules sizes identity ss × (fileBytes base ss ≡ file))
+accepted-exactly sizes base file large legal bytes = (
+  λ accepted.
+      let (rules, joined) = accepted-rules sizes base file bytes (accepted-check sizes base file .0 accepted) in
+      (checkFile sizes base file .identity, cutSections base file, rules, joined),
+  λ (identity, ss, rules, joined).
+      accepted-check sizes base file .1
+      (subst (λ (f : List ℕ). checkFile sizes base f .number ≡ 0) joined
+      (ap (λ (a : Answer). a .number) (follows-accepted sizes base large legal identity ss rules))),
+)
