@@ -8,13 +8,11 @@ use mathlib.Core.List.{List, [], _∷_, _++_, map, reverse}
 use lib.Dec.{T}
 use lib.ListN.{length, length-append}
 use Rattle.eit.specs.Sizes.{Sizes}
-use Rattle.eit.specs.Limits.{baseMost}
 use Rattle.eit.specs.declared.Identity.{Identity}
 use Rattle.sections.specs.Every.{Every}
-use Rattle.sections.specs.Segment.{tableMost}
 use Rattle.sections.specs.Section.{Section, sectionSize, headersOf, sectionEvents}
 use Rattle.sections.specs.Encode.{sectionBytes}
-use Rattle.sections.specs.Rules.{Succeeding, Ordered, IdentityRules, SectionRules}
+use Rattle.sections.specs.Rules.{Succeeding, Ordered, SectionRules}
 use Rattle.sections.specs.JudgeHeader.{isSameFile, isNext}
 use Rattle.sections.specs.JudgeEvents.{areNew}
 use Rattle.sections.specs.Walk.{Progress, atStart, behindAll}
@@ -23,7 +21,7 @@ use Rattle.sections.proofs.SameFile.{file-same}
 use Rattle.sections.proofs.Numbering.{first-is, next-is, last-is}
 use Rattle.sections.proofs.Order.{seen-length, new-parts}
 use Rattle.sections.proofs.Walk.{AllPass}
-use Rattle.sections.proofs.SectionBack.{section-passes, section-behind}
+use Rattle.sections.proofs.SectionBack.{Legal, section-passes, section-behind}
 
 -- every section passes from p on, and behind them the file is complete and has the identity
 pub record Accepts (sizes : Sizes) (base : ℕ) (identity : Identity) (p : Progress) (xs : List (List ℕ)) : Type 0 where
@@ -31,63 +29,61 @@ pub record Accepts (sizes : Sizes) (base : ℕ) (identity : Identity) (p : Progr
   pub complete : T (isComplete (behindAll base p xs .before))
   pub same : identityOf (behindAll base p xs .before) ≡ identity
 
-module _ (sizes : Sizes) (base : ℕ) (large : sizes .sectionBytes ≤ 4_096) (legal : base ≤ baseMost)
-    (identity : Identity) (lastTableId : ℕ) (known : IdentityRules identity) (most : lastTableId ≤ tableMost)
-  where
-    -- what is known behind a section that keeps the rules
-    abbrev knownBehind : Progress → Section → Progress
-    knownBehind p s =
-        record { offset = p .offset + sectionSize s; before = some (s .header); seen = reverse (s .events) ++ p .seen }
+module _ (sizes : Sizes) (base : ℕ) (identity : Identity) (lastTableId : ℕ) (legal : Legal sizes base identity lastTableId) where
+  -- what is known behind a section that keeps the rules
+  abbrev knownBehind : Progress → Section → Progress
+  knownBehind p s =
+      record { offset = p .offset + sectionSize s; before = some (s .header); seen = reverse (s .events) ++ p .seen }
 
-    -- one section, before some that are accepted
-    accepts-one : (p : Progress) (s : Section) (xs : List (List ℕ))
-        → SectionRules sizes identity lastTableId s
-        → T (isSameFile (p .before) (s .header))
-        → T (isNext (p .before) (s .header))
-        → T (areNew (p .seen) (s .events))
-        → length (p .seen) + length (s .events) ≤ sizes .eventLimit
-        → Accepts sizes base identity (knownBehind p s) xs
-        → Accepts sizes base identity p (sectionBytes base s ∷ xs)
-    accepts-one p s xs rules same next new few rest =
-        let passes = section-passes sizes base large legal identity lastTableId known most s rules p same next new few in
-        let behind = section-behind sizes base large legal identity lastTableId known most s rules p in
-        let others = subst (λ (q : Progress). Accepts sizes base identity q xs) (sym behind) rest in
-        record { all = (passes, others .all); complete = others .complete; same = others .same }
+  -- one section, before some that are accepted
+  accepts-one : (p : Progress) (s : Section) (xs : List (List ℕ))
+      → SectionRules sizes identity lastTableId s
+      → T (isSameFile (p .before) (s .header))
+      → T (isNext (p .before) (s .header))
+      → T (areNew (p .seen) (s .events))
+      → length (p .seen) + length (s .events) ≤ sizes .eventLimit
+      → Accepts sizes base identity (knownBehind p s) xs
+      → Accepts sizes base identity p (sectionBytes base s ∷ xs)
+  accepts-one p s xs rules same next new few rest =
+      let passes = section-passes sizes base identity lastTableId legal s rules p same next new few in
+      let behind = section-behind sizes base identity lastTableId legal s rules p in
+      let others = subst (λ (q : Progress). Accepts sizes base identity q xs) (sym behind) rest in
+      record { all = (passes, others .all); complete = others .complete; same = others .same }
 
-    -- one, and those behind it
-    accepts : (ss : List Section) (p : Progress) (s : Section)
-        → Every (SectionRules sizes identity lastTableId) (s ∷ ss)
-        → T (isSameFile (p .before) (s .header))
-        → T (isNext (p .before) (s .header))
-        → Succeeding (s .header) (headersOf ss)
-        → T (areNew (p .seen) (sectionEvents (s ∷ ss)))
-        → length (p .seen) + length (sectionEvents (s ∷ ss)) ≤ sizes .eventLimit
-        → Accepts sizes base identity p (map (sectionBytes base) (s ∷ ss))
-    unfolding sectionEvents
-    accepts [] p s rules same next succeeding new few =
-        let (first, others) = new-parts (p .seen) (s .events) [] new in
-        accepts-one p s [] (rules .0) same next first (omega (arith, length-append (s .events) []))
-        (record { all = tt; complete = last-is (s .header) succeeding; same = rules .0 .headerRules .sameIdentity })
-    accepts (t ∷ ss) p s rules same next succeeding new few =
-        let this = rules .0 .headerRules in
-        let that = rules .1 .0 .headerRules in
-        let (first, others) = new-parts (p .seen) (s .events) (sectionEvents (t ∷ ss)) new in
-        let count = length-append (s .events) (sectionEvents (t ∷ ss)) in
-        let file =
-        file-same (s .header) (t .header) (that .sameIdentity ∙ sym (this .sameIdentity))
-        (that .sameLastTable ∙ sym (this .sameLastTable)) in
-        let behind = next-is (s .header) (t .header) (this .numbered) (succeeding .0) in
-        accepts-one p s (map (sectionBytes base) (t ∷ ss)) (rules .0) same next first (omega arith)
-        (accepts ss (knownBehind p s) t (rules .1) file behind (succeeding .1) others
-        (omega (arith, seen-length (s .events) (p .seen))))
+  -- one, and those behind it
+  accepts : (ss : List Section) (p : Progress) (s : Section)
+      → Every (SectionRules sizes identity lastTableId) (s ∷ ss)
+      → T (isSameFile (p .before) (s .header))
+      → T (isNext (p .before) (s .header))
+      → Succeeding (s .header) (headersOf ss)
+      → T (areNew (p .seen) (sectionEvents (s ∷ ss)))
+      → length (p .seen) + length (sectionEvents (s ∷ ss)) ≤ sizes .eventLimit
+      → Accepts sizes base identity p (map (sectionBytes base) (s ∷ ss))
+  unfolding sectionEvents
+  accepts [] p s rules same next succeeding new few =
+      let (first, others) = new-parts (p .seen) (s .events) [] new in
+      accepts-one p s [] (rules .0) same next first (omega (arith, length-append (s .events) []))
+      (record { all = tt; complete = last-is (s .header) succeeding; same = rules .0 .headerRules .sameIdentity })
+  accepts (t ∷ ss) p s rules same next succeeding new few =
+      let this = rules .0 .headerRules in
+      let that = rules .1 .0 .headerRules in
+      let (first, others) = new-parts (p .seen) (s .events) (sectionEvents (t ∷ ss)) new in
+      let count = length-append (s .events) (sectionEvents (t ∷ ss)) in
+      let file =
+      file-same (s .header) (t .header) (that .sameIdentity ∙ sym (this .sameIdentity))
+      (that .sameLastTable ∙ sym (this .sameLastTable)) in
+      let behind = next-is (s .header) (t .header) (this .numbered) (succeeding .0) in
+      accepts-one p s (map (sectionBytes base) (t ∷ ss)) (rules .0) same next first (omega arith)
+      (accepts ss (knownBehind p s) t (rules .1) file behind (succeeding .1) others
+      (omega (arith, seen-length (s .events) (p .seen))))
 
-    -- all of them
-    pub all-back : (ss : List Section)
-        → Every (SectionRules sizes identity lastTableId) ss
-        → Ordered (headersOf ss)
-        → T (areNew [] (sectionEvents ss))
-        → length (sectionEvents ss) ≤ sizes .eventLimit
-        → Accepts sizes base identity atStart (map (sectionBytes base) ss)
-    all-back [] rules ordered new few = absurd ordered
-    all-back (s ∷ ss) rules ordered new few =
-        accepts ss atStart s rules tt (first-is (s .header) (ordered .0)) (ordered .1) new (omega arith)
+  -- all of them
+  pub all-back : (ss : List Section)
+      → Every (SectionRules sizes identity lastTableId) ss
+      → Ordered (headersOf ss)
+      → T (areNew [] (sectionEvents ss))
+      → length (sectionEvents ss) ≤ sizes .eventLimit
+      → Accepts sizes base identity atStart (map (sectionBytes base) ss)
+  all-back [] rules ordered new few = absurd ordered
+  all-back (s ∷ ss) rules ordered new few =
+      accepts ss atStart s rules tt (first-is (s .header) (ordered .0)) (ordered .1) new (omega arith)

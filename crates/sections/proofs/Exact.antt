@@ -17,21 +17,20 @@ use Rattle.eit.specs.declared.Record.{Record}
 use Rattle.eit.proofs.Test.{le-or-lt}
 use Rattle.eit.proofs.Records.{records-written}
 use Rattle.sections.specs.Every.{Every}
-use Rattle.sections.specs.Segment.{tableMost}
 use Rattle.sections.specs.Section.{Section, sectionEvents}
 use Rattle.sections.specs.Encode.{sectionBytes, fileBytes}
 use Rattle.sections.specs.Decode.{statedSectionSize, sectionIn, cutFile, cutSections}
-use Rattle.sections.specs.Rules.{IdentityRules, SectionRules, Rules}
+use Rattle.sections.specs.Rules.{SectionRules, Rules}
 use Rattle.sections.specs.JudgeEvents.{areNew}
 use Rattle.sections.specs.Walk.{atStart, behindAll}
 use Rattle.sections.specs.Read.{identityOf, Answer, success, checkFile, Reading, fileRecords, read, listOf}
 use Rattle.sections.specs.Places.{recordsFrom}
 use Rattle.sections.specs.Exact.{FollowsRules, readingOf}
 use Rattle.sections.proofs.Cut.{Stated, cut-joined, cut-back}
-use Rattle.sections.proofs.Order.{InOrder, seen-length, new-order, order-new}
-use Rattle.sections.proofs.SectionBack.{section-back, section-stated}
+use Rattle.sections.proofs.Order.{seen-length, order-new}
+use Rattle.sections.proofs.SectionBack.{Legal, section-back, section-stated}
 use Rattle.sections.proofs.Read.{successOf, check-succeeds, check-succeeded, read-short, read-succeeds, read-agrees}
-use Rattle.sections.proofs.Forth.{shown-seen, shown-new, shown-few, All, all-forth}
+use Rattle.sections.proofs.Forth.{shown-seen, shown-few, all-forth}
 use Rattle.sections.proofs.Back.{Accepts, all-back}
 use Rattle.sections.proofs.Places.{records-count}
 
@@ -98,22 +97,8 @@ module _ (sizes : Sizes) (base : ℕ) (file : List ℕ) where
       let is : checkFile sizes base file ≡ successOf sizes base file = check-succeeds sizes base file legal all complete in
       let same : checkFile sizes base file .identity ≡ identityOf (behindAll base atStart xs .before) =
       ap (λ (a : Answer). a .identity) is in
-      let every : All sizes base xs (identityOf (behindAll base atStart xs .before)) =
-      all-forth sizes base xs (rw (file-joined file) bytes) all complete in
-      let order : InOrder (sectionEvents ss) =
-      new-order [] (sectionEvents ss) (record { rises = tt; differ = tt }) (shown-new sizes base atStart xs all) in
-      let rules : Rules sizes (identityOf (behindAll base atStart xs .before)) ss =
-      record {
-        identityRules = every .identityRules;
-        lastTableId = every .lastTableId;
-        lastTable = every .lastTable;
-        sections = every .rules;
-        ordered = every .ordered;
-        rises = order .rises;
-        differ = order .differ;
-        few = omega (arith, shown-few sizes base atStart xs (omega arith) all);
-      } in
-      rw (same, sections-are base file) (rules, bytes-are base ss ∙ ap flatten (every .bytes) ∙ file-joined file)
+      let (joined, rules) = all-forth sizes base xs (rw (file-joined file) bytes) all complete in
+      rw (same, sections-are base file) (rules, bytes-are base ss ∙ ap flatten joined ∙ file-joined file)
 
   pub accepted-follows : Bytes file → checkFile sizes base file .number ≡ 0
       → FollowsRules sizes base file (checkFile sizes base file .identity) (fileRecords base file)
@@ -123,31 +108,33 @@ module _ (sizes : Sizes) (base : ℕ) (file : List ℕ) where
 
 -- ---- back
 
-module _ (sizes : Sizes) (base : ℕ) (large : sizes .sectionBytes ≤ 4_096) (legal : base ≤ baseMost)
-    (identity : Identity) (lastTableId : ℕ) (known : IdentityRules identity) (most : lastTableId ≤ tableMost)
-  where
-    sections-stated : (ss : List Section) → Every (SectionRules sizes identity lastTableId) ss
-        → Every (Stated statedSectionSize) (map (sectionBytes base) ss)
-    sections-stated [] rules = tt
-    sections-stated (s ∷ ss) rules =
-        (section-stated sizes base large legal identity lastTableId known most s (rules .0), sections-stated ss (rules .1))
+module _ (sizes : Sizes) (base : ℕ) (identity : Identity) (lastTableId : ℕ) (legal : Legal sizes base identity lastTableId) where
+  sections-stated : (ss : List Section) → Every (SectionRules sizes identity lastTableId) ss
+      → Every (Stated statedSectionSize) (map (sectionBytes base) ss)
+  sections-stated [] rules = tt
+  sections-stated (s ∷ ss) rules =
+      (section-stated sizes base identity lastTableId legal s (rules .0), sections-stated ss (rules .1))
 
-    sections-shown : (ss : List Section) → Every (SectionRules sizes identity lastTableId) ss
-        → map (sectionIn base) (map (sectionBytes base) ss) ≡ ss
-    sections-shown [] rules = refl
-    sections-shown (s ∷ ss) rules =
-        ap₂ (λ (t : Section) (ts : List Section). t ∷ ts)
-        (section-back sizes base large legal identity lastTableId known most s (rules .0)) (sections-shown ss (rules .1))
+  sections-shown : (ss : List Section) → Every (SectionRules sizes identity lastTableId) ss
+      → map (sectionIn base) (map (sectionBytes base) ss) ≡ ss
+  sections-shown [] rules = refl
+  sections-shown (s ∷ ss) rules =
+      ap₂ (λ (t : Section) (ts : List Section). t ∷ ts)
+      (section-back sizes base identity lastTableId legal s (rules .0)) (sections-shown ss (rules .1))
 
 module _ (sizes : Sizes) (base : ℕ) (large : sizes .sectionBytes ≤ 4_096) (legal : base ≤ baseMost)
     (identity : Identity) (ss : List Section) (rules : Rules sizes identity ss)
   where
+    legal-file : Legal sizes base identity (rules .lastTableId)
+    legal-file =
+        record { large = large; day = legal; identityRules = rules .identityRules; lastTable = rules .lastTable }
+
     pub cut-file-back : cutFile (fileBytes base ss) ≡ map (sectionBytes base) ss
     unfolding cutFile
     cut-file-back =
         ap cutFile (bytes-are base ss)
         ∙ cut-back statedSectionSize (map (sectionBytes base) ss)
-        (sections-stated sizes base large legal identity (rules .lastTableId) (rules .identityRules) (rules .lastTable) ss
+        (sections-stated sizes base identity (rules .lastTableId) legal-file ss
         (rules .sections))
 
     -- cutting the joined bytes of sections that keep the rules gives them back
@@ -155,7 +142,7 @@ module _ (sizes : Sizes) (base : ℕ) (large : sizes .sectionBytes ≤ 4_096) (l
     cut-sections-back =
         sections-are base (fileBytes base ss)
         ∙ ap (map (sectionIn base)) cut-file-back
-        ∙ sections-shown sizes base large legal identity (rules .lastTableId) (rules .identityRules) (rules .lastTable) ss
+        ∙ sections-shown sizes base identity (rules .lastTableId) legal-file ss
         (rules .sections)
 
     pub follows-records : fileRecords base (fileBytes base ss) ≡ recordsFrom 0 ss
@@ -166,8 +153,7 @@ module _ (sizes : Sizes) (base : ℕ) (large : sizes .sectionBytes ≤ 4_096) (l
         let new : T (areNew [] (sectionEvents ss)) =
         order-new [] (sectionEvents ss) (record { rises = rules .rises; differ = rules .differ }) in
         let accepts : Accepts sizes base identity atStart (cutFile (fileBytes base ss)) =
-        rw cut-file-back (all-back sizes base large legal identity (rules .lastTableId) (rules .identityRules)
-        (rules .lastTable) ss (rules .sections) (rules .ordered) new (rules .few)) in
+        rw cut-file-back (all-back sizes base identity (rules .lastTableId) legal-file ss (rules .sections) (rules .ordered) new (rules .few)) in
         check-succeeds sizes base (fileBytes base ss) legal (accepts .all) (accepts .complete)
         ∙ ap₂ success (accepts .same) (seen-count base (fileBytes base ss) ∙ ap length follows-records)
 

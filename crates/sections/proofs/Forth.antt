@@ -14,18 +14,17 @@ use Rattle.eit.specs.declared.Identity.{Identity}
 use Rattle.eit.proofs.Test.{tests}
 use Rattle.eit.proofs.Fields.{bytes-parts}
 use Rattle.sections.specs.Every.{Every}
-use Rattle.sections.specs.Segment.{tableMost}
 use Rattle.sections.specs.Section.{Header, Section, headersOf, sectionEvents}
 use Rattle.sections.specs.Encode.{sectionBytes}
 use Rattle.sections.specs.Decode.{headerIn, eventIn, cutEvents, sectionIn}
-use Rattle.sections.specs.Rules.{Numbered, Next, Succeeding, Ordered, IdentityRules, SectionRules}
+use Rattle.sections.specs.Rules.{Numbered, Next, Succeeding, SectionRules, Rules}
 use Rattle.sections.specs.JudgeHeader.{isHeader, isInPlace}
 use Rattle.sections.specs.JudgeEvents.{areNew, isEventLoop, isWithinLimit}
 use Rattle.sections.specs.Walk.{Progress, atStart, behind, behindAll}
 use Rattle.sections.specs.Read.{isComplete, identityOf}
 use Rattle.sections.proofs.SameFile.{same-file}
 use Rattle.sections.proofs.Numbering.{is-first, is-next, is-last}
-use Rattle.sections.proofs.Order.{seen-length, new-append}
+use Rattle.sections.proofs.Order.{InOrder, seen-length, new-order, new-append}
 use Rattle.sections.proofs.Walk.{AllPass}
 use Rattle.sections.proofs.SectionForth.{Shown, section-forth}
 
@@ -76,24 +75,29 @@ module _ (sizes : Sizes) (base : ℕ) where
       subst (λ (k : ℕ). Every (SectionRules sizes j k) ss) last
       (subst (λ (k : Identity). Every (SectionRules sizes k m) ss) same rules)
 
-  -- those behind a section g
-  pub record RulesBehind (g : Header) (xs : List (List ℕ)) : Type 0 where
-    pub bytes : map (sectionBytes base) (shown base xs) ≡ xs
-    pub rules : Every (SectionRules sizes (g .identity) (g .lastTableId)) (shown base xs)
-    pub succeeding : Succeeding g (headersOf (shown base xs))
+  -- what is known behind a section with the header g
+  abbrev behindHeader : ℕ → Header → List Event → Progress
+  behindHeader offset g seen = record { offset = offset; before = some g; seen = seen }
+
+  -- those behind it
+  record RulesBehind (g : Header) (xs : List (List ℕ)) (end : Progress) : Type 0 where
+    bytes : map (sectionBytes base) (shown base xs) ≡ xs
+    rules : Every (SectionRules sizes (g .identity) (g .lastTableId)) (shown base xs)
+    succeeding : Succeeding g (headersOf (shown base xs))
+    identity : identityOf (end .before) ≡ g .identity
 
   behind-forth : (offset : ℕ) (g : Header) (seen : List Event) (xs : List (List ℕ))
       → Bytes (flatten xs)
       → Numbered g
-      → AllPass sizes base (record { offset = offset; before = some g; seen = seen }) xs
-      → T (isComplete (behindAll base (record { offset = offset; before = some g; seen = seen }) xs .before))
-      → RulesBehind g xs ×
-      (identityOf (behindAll base (record { offset = offset; before = some g; seen = seen }) xs .before) ≡ g .identity)
+      → AllPass sizes base (behindHeader offset g seen) xs
+      → T (isComplete (behindAll base (behindHeader offset g seen) xs .before))
+      → RulesBehind g xs (behindAll base (behindHeader offset g seen) xs)
   unfolding flatten isHeader isInPlace sectionIn
   behind-forth offset g seen [] bytes numbered all complete =
-      (record { bytes = refl; rules = tt; succeeding = is-last g complete }, refl)
+      record { bytes = refl; rules = tt; succeeding = is-last g complete; identity = refl }
   behind-forth offset g seen (bs ∷ rest) bytes numbered all complete =
-      let p : Progress = record { offset = offset; before = some g; seen = seen } in
+      let p : Progress = behindHeader offset g seen in
+      let q : Progress = behind base p bs in
       let h : Header = headerIn bs in
       let (first, others) = bytes-parts bs (flatten rest) bytes in
       let this : Shown sizes base bs = section-forth sizes base p bs first (all .0) in
@@ -101,44 +105,40 @@ module _ (sizes : Sizes) (base : ℕ) where
       let place = all .0 .place in
       let (sameIdentity, sameLast) = same-file g h (search tests) in
       let next : Next g h = is-next g h numbered (search tests) in
-      let q : Progress = behind base p bs in
-      let (others-kept, identity) =
-      behind-forth (q .offset) h (q .seen) rest others (this .rules .headerRules .numbered) (all .1) complete in (
-        record {
-          bytes = λ i. this .bytes i ∷ others-kept .bytes i;
-          rules = same-rules (shown base (bs ∷ rest)) sameIdentity sameLast (this .rules, others-kept .rules);
-          succeeding = (next, others-kept .succeeding);
-        },
-        identity ∙ sameIdentity,
-      )
+      let behind = behind-forth (q .offset) h (q .seen) rest others (this .rules .headerRules .numbered) (all .1) complete in
+      record {
+        bytes = λ i. this .bytes i ∷ behind .bytes i;
+        rules = same-rules (shown base (bs ∷ rest)) sameIdentity sameLast (this .rules, behind .rules);
+        succeeding = (next, behind .succeeding);
+        identity = behind .identity ∙ sameIdentity;
+      }
 
   -- all of them
-  pub record All (xs : List (List ℕ)) (identity : Identity) : Type 0 where
-    pub bytes : map (sectionBytes base) (shown base xs) ≡ xs
-    pub identityRules : IdentityRules identity
-    pub lastTableId : ℕ
-    pub lastTable : lastTableId ≤ tableMost
-    pub rules : Every (SectionRules sizes identity lastTableId) (shown base xs)
-    pub ordered : Ordered (headersOf (shown base xs))
-
   pub all-forth : (xs : List (List ℕ)) → Bytes (flatten xs) → AllPass sizes base atStart xs
       → T (isComplete (behindAll base atStart xs .before))
-      → All xs (identityOf (behindAll base atStart xs .before))
+      → (map (sectionBytes base) (shown base xs) ≡ xs) × Rules sizes (identityOf (behindAll base atStart xs .before)) (shown base xs)
   unfolding flatten isInPlace sectionIn
   all-forth [] bytes all complete = absurd complete
   all-forth (bs ∷ rest) bytes all complete =
+      let q : Progress = behind base atStart bs in
       let h : Header = headerIn bs in
+      let ss : List Section = shown base (bs ∷ rest) in
       let (first, others) = bytes-parts bs (flatten rest) bytes in
       let this : Shown sizes base bs = section-forth sizes base atStart bs first (all .0) in
       let place = all .0 .place in
-      let q : Progress = behind base atStart bs in
-      let (others-kept, identity) =
-      behind-forth (q .offset) h (q .seen) rest others (this .rules .headerRules .numbered) (all .1) complete in
-      rw identity (record {
-        bytes = λ i. this .bytes i ∷ others-kept .bytes i;
-        identityRules = this .identityRules;
-        lastTableId = h .lastTableId;
-        lastTable = this .lastTable;
-        rules = (this .rules, others-kept .rules);
-        ordered = (is-first h (search tests), others-kept .succeeding);
-      })
+      let behind = behind-forth (q .offset) h (q .seen) rest others (this .rules .headerRules .numbered) (all .1) complete in
+      let order : InOrder (sectionEvents ss) =
+      new-order [] (sectionEvents ss) (record { rises = tt; differ = tt }) (shown-new atStart (bs ∷ rest) all) in
+      let few = shown-few atStart (bs ∷ rest) (omega arith) all in (
+        λ i. this .bytes i ∷ behind .bytes i,
+        rw (behind .identity) (record {
+          identityRules = this .identityRules;
+          lastTableId = h .lastTableId;
+          lastTable = this .lastTable;
+          sections = (this .rules, behind .rules);
+          ordered = (is-first h (search tests), behind .succeeding);
+          rises = order .rises;
+          differ = order .differ;
+          few = omega arith;
+        }),
+      )

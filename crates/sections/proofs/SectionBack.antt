@@ -66,16 +66,23 @@ alone-back : (base : ℕ) (h : Header) (es : List Event) → (es ≡ [] → Alon
 alone-back base h [] alone = alone-is h (alone refl)
 alone-back base h (e ∷ es) alone = tt
 
--- a section that keeps the rules, in a file whose identity and last_table_id do
-module _ (sizes : Sizes) (base : ℕ) (large : sizes .sectionBytes ≤ 4_096) (legal : base ≤ baseMost)
-    (identity : Identity) (lastTableId : ℕ) (known : IdentityRules identity) (most : lastTableId ≤ tableMost)
+-- what holds of a file before its sections: 12 bits reach the section size, the base day is legal, and identity and last_table_id keep
+-- the rules
+pub record Legal (sizes : Sizes) (base : ℕ) (identity : Identity) (lastTableId : ℕ) : Type 0 where
+  pub large : sizes .sectionBytes ≤ 4_096
+  pub day : base ≤ baseMost
+  pub identityRules : IdentityRules identity
+  pub lastTable : lastTableId ≤ tableMost
+
+-- a section of such a file that keeps the rules
+module _ (sizes : Sizes) (base : ℕ) (identity : Identity) (lastTableId : ℕ) (legal : Legal sizes base identity lastTableId)
     (s : Section) (rules : SectionRules sizes identity lastTableId s)
   where
     fits : HeaderFits (s .header)
-    fits = rules-fit identity lastTableId (s .header) known most (rules .headerRules)
+    fits = rules-fit identity lastTableId (s .header) (legal .identityRules) (legal .lastTable) (rules .headerRules)
 
     short : Every Short (s .events)
-    short = sizes-short (s .events) (omega (arith, rules .size))
+    short = sizes-short (s .events) (omega (arith, legal .large, rules .size))
 
     pub section-header : headerIn (sectionBytes base s) ≡ s .header
     section-header = ap headerIn (section-parts base s) ∙ header-back (sectionSize s) (s .header) _ fits
@@ -95,7 +102,7 @@ module _ (sizes : Sizes) (base : ℕ) (large : sizes .sectionBytes ≤ 4_096) (l
     cut-events = ap (cut statedEventSize) loop-back ∙ loop-cut base (s .events) short
 
     events-shown : map (eventIn base) (cutEvents (sectionBytes base s)) ≡ s .events
-    events-shown = ap (map (eventIn base)) cut-events ∙ events-back base legal (s .header) (s .events) (rules .eventRules) short
+    events-shown = ap (map (eventIn base)) cut-events ∙ events-back base (legal .day) (s .header) (s .events) (rules .eventRules) short
 
     -- its bytes show the section
     pub section-back : sectionIn base (sectionBytes base s) ≡ s
@@ -113,7 +120,7 @@ module _ (sizes : Sizes) (base : ℕ) (large : sizes .sectionBytes ≤ 4_096) (l
               ap statedSectionSize
               (ap (λ (ds : List ℕ). ds ++ rest) (section-parts base s)
               ∙ append-assoc (headerBytes (sectionSize s) (s .header)) (eventLoopBytes base (s .events) ++ crcBytes base s) rest)
-              ∙ header-stated (sectionSize s) (s .header) _ (omega arith) (omega (arith, rules .size))
+              ∙ header-stated (sectionSize s) (s .header) _ (omega arith) (omega (arith, legal .large, rules .size))
               ∙ sym size;
         }
 
@@ -129,11 +136,11 @@ module _ (sizes : Sizes) (base : ℕ) (large : sizes .sectionBytes ≤ 4_096) (l
         let whole : T (eqb (length bs) (statedSectionSize bs)) = eq-test _ _ (sym stated) in
         let least : T (leb sectionOverhead (length bs)) = le→leb sectionOverhead (length bs) (omega arith) in
         let most-bytes : T (leb (length bs) (sizes .sectionBytes)) =
-        le→leb (length bs) (sizes .sectionBytes) (omega (arith, rules .size)) in
+        le→leb (length bs) (sizes .sectionBytes) (omega (arith, legal .large, rules .size)) in
         let low : T (leb tableLeast (headerIn bs .tableId)) =
         le→leb tableLeast (headerIn bs .tableId) (omega (arith, rules .headerRules .least)) in
         let high : T (leb (headerIn bs .tableId) tableMost) =
-        le→leb (headerIn bs .tableId) tableMost (omega (arith, rules .headerRules .most)) in
+        le→leb (headerIn bs .tableId) tableMost (omega (arith, legal .lastTable, rules .headerRules .most)) in
         search tests
 
     closes : T (isClosed (sectionBytes base s))
@@ -149,7 +156,7 @@ module _ (sizes : Sizes) (base : ℕ) (large : sizes .sectionBytes ≤ 4_096) (l
     fixed : T (hasFixedBits (sectionBytes base s))
     fixed =
         rw (section-parts base s)
-        (header-fixed (sectionSize s) (s .header) _ (omega arith) (omega (arith, rules .size)) (fits .identityRules .version))
+        (header-fixed (sectionSize s) (s .header) _ (omega arith) (omega (arith, legal .large, rules .size)) (fits .identityRules .version))
 
     header-passes : (before : Option Header) → T (isSameFile before (s .header)) → T (isHeader before (sectionBytes base s))
     unfolding isHeader
@@ -158,7 +165,7 @@ module _ (sizes : Sizes) (base : ℕ) (large : sizes .sectionBytes ≤ 4_096) (l
         and-both (leb tableLeast (s .header .lastTableId)) (leb (s .header .lastTableId) tableMost)
         (le→leb tableLeast (s .header .lastTableId)
         (omega (arith, rules .headerRules .least, rules .headerRules .most, rules .headerRules .sameLastTable)))
-        (le→leb (s .header .lastTableId) tableMost (omega (arith, rules .headerRules .sameLastTable))) in
+        (le→leb (s .header .lastTableId) tableMost (omega (arith, legal .lastTable, rules .headerRules .sameLastTable))) in
         and-both (hasFixedBits (sectionBytes base s)) _ fixed
         (subst (λ (h : Header). T (isTable (h .lastTableId) && isSameFile before h)) (sym section-header)
         (and-both (isTable (s .header .lastTableId)) (isSameFile before (s .header)) lastTable same))
@@ -176,7 +183,7 @@ module _ (sizes : Sizes) (base : ℕ) (large : sizes .sectionBytes ≤ 4_096) (l
     unfolding isEventLoop
     loop-passes seen new =
         let events : T (areEvents base (s .header) (map (eventBytes base) (s .events))) =
-        events-are base legal (s .header) (s .events) (rules .eventRules) short in
+        events-are base (legal .day) (s .header) (s .events) (rules .eventRules) short in
         let alone : T (isFilledOrAlone (s .header) (map (eventBytes base) (s .events))) =
         alone-back base (s .header) (s .events) (rules .alone) in
         rw (section-header, events-shown, cut-events) (search tests)
