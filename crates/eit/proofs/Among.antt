@@ -1,4 +1,5 @@
--- `isAmong` and `allDiffer` mean what their names say, position by position: by induction over the numbers. Assumes nothing.
+-- `isAmong` and `allDiffer` mean what their names say, position by position, and over numbers that are joined: by induction over the
+-- numbers. Assumes nothing.
 use mathlib.Core.Path.{_≡_, refl, sym, ap, subst, _∙_}
 use mathlib.Core.Logic.{_↔_, ⊎-elim}
 use mathlib.Core.Bool.{Bool, true, false, not, _||_}

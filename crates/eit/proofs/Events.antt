@@ -1,5 +1,5 @@
--- `follows` means a later start, and in a list that rises every event starts after all before it: by induction.
--- Assumes nothing.
+-- `follows` means a later start; in a list that rises every event starts after all before it; and what one event more at the end
+-- asks: by induction. Assumes nothing.
 use mathlib.Core.Logic.{_↔_}
 use Prim.Native.Nat.{ℕ, zero, suc, _<_}
 use native.Mathlib.Omega.{arith}

@@ -3,12 +3,14 @@
 -- Assumes nothing.
 use mathlib.Core.Path.{_≡_, refl, sym, ap, ap₂, _∙_}
 use mathlib.Core.List.{List, [], _∷_, _++_}
-use Prim.Native.Nat.{ℕ, zero, suc, _+_, _*_, _/_, _%_, _^_, _<_}
+use Prim.Native.Nat.{ℕ, zero, suc, _+_, _*_, _/_, _%_, _^_, _≤_, _<_}
+use native.Mathlib.Omega.{arith}
 use native.Mathlib.Nat.{zero-lt-suc, one-le-pow, pow-succ', mod-lt, mod-mod, mod-one, mod-eq-of-lt, add-mul, mul-assoc, add-assoc, zero-add, zero-mul}
 use lib.Arith.{digits-lt, digits-div, digits-mod, mod-mul}
 use lib.Pow.{pow-add}
-use lib.ListN.{length, take, drop, getD, length-append}
-use Rattle.eit.specs.Fields.{Bytes, bigEndian, valueOf}
+use lib.ListN.{length, take, drop, getD, length-append, length-drop}
+use lib.Seq.{length-take-le}
+use Rattle.eit.specs.Fields.{Bytes, bigEndian, valueOf, bytesAt, field}
 
 -- ---- lists of bytes
 
@@ -98,6 +100,21 @@ big-endian-value (b ∷ bs) h =
 pub value-append : (xs ys : List ℕ) → valueOf (xs ++ ys) ≡ valueOf xs * 256 ^ length ys + valueOf ys
 value-append [] ys = rw (zero-mul, zero-add)
 value-append (x ∷ xs) ys = rw (value-append xs ys, length-append xs ys, pow-add) (simp (add-mul, mul-assoc, add-assoc))
+
+-- ---- a field of any width at any place in some bytes
+
+pub field-length : (bs : List ℕ) (at width : ℕ) → at + width ≤ length bs → length (bytesAt at width bs) ≡ width
+field-length bs at width room = length-take-le width (drop at bs) (simp length-drop (omega arith))
+
+module _ (bs : List ℕ) (bytes : Bytes bs) where
+  pub field-bytes : (at width : ℕ) → Bytes (bytesAt at width bs)
+  field-bytes at width = bytes-take width (drop at bs) (bytes-drop at bs bytes)
+
+  pub field-fits : (at width : ℕ) → at + width ≤ length bs → field at width bs < 256 ^ width
+  field-fits at width room = rw (field-length bs at width room) at (value-lt (bytesAt at width bs) (field-bytes at width))
+
+  pub field-forth : (at width : ℕ) → at + width ≤ length bs → bigEndian width (field at width bs) ≡ bytesAt at width bs
+  field-forth at width room = rw (field-length bs at width room) at (big-endian-value (bytesAt at width bs) (field-bytes at width))
 
 -- computed: the high byte comes first
 pub field-examples : (bigEndian 2 0x1234 ≡ 0x12 ∷ 0x34 ∷ []) × (bigEndian 4 0x0102_0304 ≡ 0x01 ∷ 0x02 ∷ 0x03 ∷ 0x04 ∷ [])

@@ -2,7 +2,7 @@
 use mathlib.Core.Path.{_≡_, _∙_}
 use Prim.Native.Nat.{ℕ, zero, suc, _+_, _*_, _≤_, _<_}
 use native.Mathlib.Omega.{arith}
-use mathlib.Core.List.{List, [], _∷_}
+use mathlib.Core.List.{List, [], _∷_, _++_}
 use lib.Dec.{T, leb→le, le→leb, ltb→lt}
 use lib.ListN.{length, getD, length-map}
 use Rattle.eit.specs.Sizes.{Sizes}
@@ -87,6 +87,11 @@ valid-all pools (r ∷ rs) d h =
     let first = h 0 (omega arith) in
     let rest : T (allValid pools rs) = valid-all pools rs d (λ i l. h (suc i) (omega arith)) in
     search (tests, first .0, first .1)
+
+-- records in two parts
+pub valid-append : (pools : Pools) (rs qs : List Record) → T (allValid pools rs) → T (allValid pools qs) → T (allValid pools (rs ++ qs))
+valid-append pools [] qs v w = w
+valid-append pools (r ∷ rs) qs v w = let rest = valid-append pools rs qs (search tests) w in search tests
 
 -- `hasChain`: offset + length at most the pool's, and the part is a chain, of any length
 pub chain-facts : (pools : Pools) (r : Record) → T (hasChain pools r)

@@ -3,7 +3,7 @@
 -- Assumes nothing.
 use Prim.Native.Nat.{ℕ, zero, suc, _+_, _*_, _/_, _%_, _^_, _<_}
 use mathlib.Core.List.{List, [], _∷_}
-use lib.ListN.{length}
+use lib.ListN.{length, take, drop}
 
 -- a list of bytes: every number of it is below 256
 abbrev pub Bytes : List ℕ → Type 0
@@ -19,3 +19,10 @@ bigEndian (suc width) n = n / 256 ^ width % 256 ∷ bigEndian width n
 abbrev pub valueOf : List ℕ → ℕ
 valueOf [] = 0
 valueOf (b ∷ bs) = b * 256 ^ length bs + valueOf bs
+
+-- `width` bytes from `at` on, and the number that they hold
+abbrev pub bytesAt : ℕ → ℕ → List ℕ → List ℕ
+bytesAt at width bs = take width (drop at bs)
+
+abbrev pub field : ℕ → ℕ → List ℕ → ℕ
+field at width bs = valueOf (bytesAt at width bs)

@@ -8,15 +8,15 @@ use mathlib.Core.Path.{_≡_, refl, ap, ap₂, _∙_}
 use mathlib.Core.Bool.{not}
 use mathlib.Core.Logic.{⊎-elim}
 use mathlib.Core.List.{List, [], _∷_, _++_, List·Memᴰ, List·Memᴰ·not-nil, List·Memᴰ·cases-cons}
-use Prim.Native.Nat.{ℕ, zero, suc, _+_, _^_, _≤_, _<_}
+use Prim.Native.Nat.{ℕ, zero, suc, _+_, _≤_, _<_}
 use native.Mathlib.Nat.{zero-add}
 use native.Mathlib.Omega.{arith}
 use lib.Dec.{T, leb, leb→le, le→leb}
-use lib.ListN.{length, take, drop, length-append, length-drop, take-append-drop}
+use lib.ListN.{length, take, drop, length-append, take-append-drop}
 use lib.Seq.{drop-at, take-add, length-take-le}
-use Rattle.eit.specs.Fields.{Bytes, bigEndian, valueOf}
+use Rattle.eit.specs.Fields.{Bytes, bigEndian, field}
 use Rattle.eit.specs.declared.Record.{Record}
-use Rattle.eit.proofs.Fields.{bytes-take, bytes-drop, value-lt, value-back, big-endian-value}
+use Rattle.eit.proofs.Fields.{value-back, field-fits, field-forth}
 use Rattle.eit.proofs.Test.{and-left, and-right, and-both, true-is, false-is, test-or}
 use Rattle.script.specs.Form.{Act, put, withdraw, move, Command, doEdit, undo, putRecord, isCommand, operandBytes}
 use Rattle.script.specs.Form.{commandOf, isWhole, Form, commands, broken, before, formFrom, formOf, offsetOf}
@@ -123,30 +123,19 @@ by-code P one two three four (suc (suc (suc (suc (suc n))))) t =
     absurd (omega (arith, leb→le code _ (and-right (leb 1 code) _ t)))
 
 module _ (bs : List ℕ) (bytes : Bytes bs) where
-  -- the operand of w bytes from o on
-  operand-fits : (o w : ℕ) → o + w ≤ length bs → valueOf (take w (drop o bs)) < 256 ^ w
-  operand-fits o w h =
-      let e : length (take w (drop o bs)) ≡ w = length-take-le w (drop o bs) (simp length-drop (omega arith)) in
-      rw e at (value-lt (take w (drop o bs)) (bytes-take w (drop o bs) (bytes-drop o bs bytes)))
-
-  operand-forth : (o w : ℕ) → o + w ≤ length bs → bigEndian w (valueOf (take w (drop o bs))) ≡ take w (drop o bs)
-  operand-forth o w h =
-      let e : length (take w (drop o bs)) ≡ w = length-take-le w (drop o bs) (simp length-drop (omega arith)) in
-      rw e at (big-endian-value (take w (drop o bs)) (bytes-take w (drop o bs) (bytes-drop o bs bytes)))
-
   put-forth : 17 ≤ length bs → putBytes (putRecord bs) ≡ take 17 bs
   put-forth h =
       (λ i.
-      operand-forth 0 2 (omega arith) i
-      ++ operand-forth 2 4 (omega arith) i
-      ++ operand-forth 6 4 (omega arith) i
-      ++ operand-forth 10 1 (omega arith) i
-      ++ operand-forth 11 4 (omega arith) i
-      ++ operand-forth 15 2 (omega arith) i)
+      field-forth bs bytes 0 2 (omega arith) i
+      ++ field-forth bs bytes 2 4 (omega arith) i
+      ++ field-forth bs bytes 6 4 (omega arith) i
+      ++ field-forth bs bytes 10 1 (omega arith) i
+      ++ field-forth bs bytes 11 4 (omega arith) i
+      ++ field-forth bs bytes 15 2 (omega arith) i)
       ∙ rw (← take-add 2 4 bs, ← take-add 6 4 bs, ← take-add 10 1 bs, ← take-add 11 4 bs, ← take-add 15 2 bs)
 
-  move-forth : 6 ≤ length bs → bigEndian 2 (valueOf (take 2 bs)) ++ bigEndian 4 (valueOf (take 4 (drop 2 bs))) ≡ take 6 bs
-  move-forth h = (λ i. operand-forth 0 2 (omega arith) i ++ operand-forth 2 4 (omega arith) i) ∙ rw (← take-add 2 4 bs)
+  move-forth : 6 ≤ length bs → bigEndian 2 (field 0 2 bs) ++ bigEndian 4 (field 2 4 bs) ≡ take 6 bs
+  move-forth h = (λ i. field-forth bs bytes 0 2 (omega arith) i ++ field-forth bs bytes 2 4 (omega arith) i) ∙ rw (← take-add 2 4 bs)
 
   -- what a command with all its operands is
   Forth : ℕ → ℕ → Type 0
@@ -163,24 +152,24 @@ module _ (bs : List ℕ) (bytes : Bytes bs) where
           let h : 17 ≤ length bs = whole-room 0x01 bs whole in
           let fits : PutFits (putRecord bs) =
           record {
-            id = operand-fits 0 2 (omega arith);
-            start = operand-fits 2 4 (omega arith);
-            duration = operand-fits 6 4 (omega arith);
-            marks = operand-fits 10 1 (omega arith);
-            offset = operand-fits 11 4 (omega arith);
-            «chain_length» = operand-fits 15 2 (omega arith);
+            id = field-fits bs bytes 0 2 (omega arith);
+            start = field-fits bs bytes 2 4 (omega arith);
+            duration = field-fits bs bytes 6 4 (omega arith);
+            marks = field-fits bs bytes 10 1 (omega arith);
+            offset = field-fits bs bytes 11 4 (omega arith);
+            «chain_length» = field-fits bs bytes 15 2 (omega arith);
           } in
           (refl, fits, ap (λ (operands : List ℕ). 0x01 ∷ operands) (put-forth h))
 
       withdraw-case : Forth at 0x02
       withdraw-case whole =
           let h : 2 ≤ length bs = whole-room 0x02 bs whole in
-          (refl, operand-fits 0 2 h, ap (λ (operands : List ℕ). 0x02 ∷ operands) (operand-forth 0 2 h))
+          (refl, field-fits bs bytes 0 2 h, ap (λ (operands : List ℕ). 0x02 ∷ operands) (field-forth bs bytes 0 2 h))
 
       move-case : Forth at 0x03
       move-case whole =
           let h : 6 ≤ length bs = whole-room 0x03 bs whole in
-          (refl, (operand-fits 0 2 (omega arith), operand-fits 2 4 h), ap (λ (operands : List ℕ). 0x03 ∷ operands) (move-forth h))
+          (refl, (field-fits bs bytes 0 2 (omega arith), field-fits bs bytes 2 4 h), ap (λ (operands : List ℕ). 0x03 ∷ operands) (move-forth h))
 
 before-only : (c : Command) (form : Form) (cs : List Command)
     → before c form ≡ commands cs

@@ -4,8 +4,8 @@ use Prim.Native.Nat.{ℕ, zero, suc}
 use mathlib.Core.Bool.{Bool, true, false, _&&_}
 use mathlib.Core.List.{List, [], _∷_}
 use lib.Dec.{leb, eqb}
-use lib.ListN.{length, take, drop}
-use Rattle.eit.specs.Fields.{valueOf}
+use lib.ListN.{length}
+use Rattle.eit.specs.Fields.{field}
 use Rattle.eit.specs.declared.Record.{Record}
 
 -- what an edit does: PUT a record, WITHDRAW an id, MOVE an id to a start
@@ -28,12 +28,12 @@ pub data Command : Type 0 where
 abbrev pub putRecord : List ℕ → Record
 putRecord bs =
     record {
-      id = valueOf (take 2 bs);
-      start = valueOf (take 4 (drop 2 bs));
-      duration = valueOf (take 4 (drop 6 bs));
-      marks = valueOf (take 1 (drop 10 bs));
-      offset = valueOf (take 4 (drop 11 bs));
-      «chain_length» = valueOf (take 2 (drop 15 bs));
+      id = field 0 2 bs;
+      start = field 2 4 bs;
+      duration = field 6 4 bs;
+      marks = field 10 1 bs;
+      offset = field 11 4 bs;
+      «chain_length» = field 15 2 bs;
     }
 
 -- the four commands: 0x01 PUT, 0x02 WITHDRAW, 0x03 MOVE, 0x04 UNDO
@@ -54,9 +54,9 @@ commandOf code at bs =
     elim (eqb code 0x01) [
       | true ↦ doEdit (record { at = at; act = put (putRecord bs) })
       | false ↦ elim (eqb code 0x02) [
-        | true ↦ doEdit (record { at = at; act = withdraw (valueOf (take 2 bs)) })
+        | true ↦ doEdit (record { at = at; act = withdraw (field 0 2 bs) })
         | false ↦ elim (eqb code 0x03) [
-          | true ↦ doEdit (record { at = at; act = move (valueOf (take 2 bs)) (valueOf (take 4 (drop 2 bs))) })
+          | true ↦ doEdit (record { at = at; act = move (field 0 2 bs) (field 2 4 bs) })
           | false ↦ undo at
         ]
       ]

@@ -1,5 +1,5 @@
 -- A file is accepted, in 01's sense, exactly if check succeeds on it, and exactly if it is the joined bytes of sections that keep the
--- rules: by `accepted-follows` and `follows-accepted` of Exact. Assumes nothing.
+-- rules: by `accepted-rules` and `follows-accepted` of Exact. Assumes nothing.
 use mathlib.Core.Path.{_≡_, ap, subst, _∙_}
 use mathlib.Core.Logic.{_↔_}
 use Prim.Native.Nat.{ℕ, _*_, _≤_}
@@ -43,12 +43,12 @@ accepted-check sizes base file = (
 pub accepted-exactly : (sizes : Sizes) (base : ℕ) (file : List ℕ) → sizes .sectionBytes ≤ 4_096 → base ≤ baseMost → Bytes file
     → Accepted sizes base file ↔
     ((identity : Identity) × (ss : List Section) × Rules sizes identity ss × (fileBytes base ss ≡ file))
-accepted-exactly sizes base file large legal bytes = (
+accepted-exactly sizes base file lengthFits legal bytes = (
   λ accepted.
       let (rules, joined) = accepted-rules sizes base file bytes (accepted-check sizes base file .0 accepted) in
       (checkFile sizes base file .identity, cutSections base file, rules, joined),
   λ (identity, ss, rules, joined).
       accepted-check sizes base file .1
       (subst (λ (f : List ℕ). checkFile sizes base f .number ≡ 0) joined
-      (ap (λ (a : Answer). a .number) (follows-accepted sizes base large legal identity ss rules))),
+      (ap (λ (a : Answer). a .number) (follows-accepted sizes base lengthFits legal identity ss rules))),
 )

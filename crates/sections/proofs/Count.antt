@@ -63,19 +63,19 @@ in-segment index h = (
 
 -- ---- counting from bytes is counting sections
 
-module _ (sizes : Sizes) (base : ℕ) (large : sizes .sectionBytes ≤ 4_096) (legal : base ≤ baseMost)
+module _ (sizes : Sizes) (base : ℕ) (lengthFits : sizes .sectionBytes ≤ 4_096) (legal : base ≤ baseMost)
     (identity : Identity) (ss : List Section) (rules : Rules sizes identity ss) where
   pub sections-counted : (index : ℕ) → sectionsCounted base (fileBytes base ss) index ≡ length (segmentSections index ss)
   unfolding sectionsCounted
   sections-counted index =
-      ap (λ (ts : List Section). length (segmentSections index ts)) (cut-sections-back sizes base large legal identity ss rules)
+      ap (λ (ts : List Section). length (segmentSections index ts)) (cut-sections-back sizes base lengthFits legal identity ss rules)
 
   pub events-counted : (index k : ℕ)
       → eventsCounted base (fileBytes base ss) index k ≡ length (sectionEvents (firstSections index k ss))
   unfolding eventsCounted
   events-counted index k =
       ap (λ (ts : List Section). length (sectionEvents (firstSections index k ts)))
-      (cut-sections-back sizes base large legal identity ss rules)
+      (cut-sections-back sizes base lengthFits legal identity ss rules)
 
 -- ---- a segment's sections, with one section more
 

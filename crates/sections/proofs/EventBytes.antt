@@ -12,24 +12,24 @@ use lib.Dec.{T, eqb, eqb→eq, T-not}
 use lib.ListN.{length, drop, length-drop, take-append-drop}
 use lib.Seq.{take-add}
 use Rattle.eit.specs.Limits.{baseMost}
-use Rattle.eit.specs.Fields.{Bytes, bigEndian, valueOf}
+use Rattle.eit.specs.Fields.{Bytes, bigEndian, valueOf, bytesAt}
 use Rattle.eit.specs.Time.{startBytes, durationBytes, isStartBytes, isDurationBytes, startOf}
 use Rattle.eit.specs.Pools.{odd}
 use Rattle.eit.specs.Chain.{isChain}
 use Rattle.eit.specs.Events.{Event}
 use Rattle.eit.proofs.Test.{tests, eq-test, and-parts, or-cases, true-is, false-is, test-or}
 use Rattle.eit.proofs.Fields.{bytes-append, bytes-drop, big-endian-bytes, value-back}
+use Rattle.eit.proofs.Fields.{field-length, field-bytes, field-fits, field-forth}
 use Rattle.eit.proofs.TimeLaws.{time-bytes, duration-back, duration-is, duration-only}
 use Rattle.eit.proofs.TimeLaws.{start-bytes, start-back, start-is, start-only}
 use Rattle.sections.specs.Segment.{segmentIndex, tableOf, firstSection, firstOf}
 use Rattle.sections.specs.Section.{Header, eventOverhead}
 use Rattle.sections.specs.Encode.{runningStatus, bitOf, statusWord, eventBytes}
-use Rattle.sections.specs.Decode.{bytesAt, statusField, statedEventSize, eventIn}
+use Rattle.sections.specs.Decode.{statusField, statedEventSize, eventIn}
 use Rattle.sections.specs.JudgeEvents.{isInSegment, isEvent}
 use Rattle.sections.specs.Rules.{EventRules}
 use Rattle.sections.proofs.Lengths.{event-length}
 use Rattle.sections.proofs.Cut.{Stated}
-use Rattle.sections.proofs.FieldBytes.{field-length, field-bytes, field-fits, field-forth}
 
 -- a chain whose length has 12 bits
 abbrev pub Short : Event → Type 0

@@ -122,12 +122,12 @@ module _ (sizes : Sizes) (base : ℕ) (identity : Identity) (lastTableId : ℕ) 
       ap₂ (λ (t : Section) (ts : List Section). t ∷ ts)
       (section-back sizes base identity lastTableId legal s (rules .0)) (sections-shown ss (rules .1))
 
-module _ (sizes : Sizes) (base : ℕ) (large : sizes .sectionBytes ≤ 4_096) (legal : base ≤ baseMost)
+module _ (sizes : Sizes) (base : ℕ) (lengthFits : sizes .sectionBytes ≤ 4_096) (legal : base ≤ baseMost)
     (identity : Identity) (ss : List Section) (rules : Rules sizes identity ss)
   where
     legal-file : Legal sizes base identity (rules .lastTableId)
     legal-file =
-        record { large = large; day = legal; identityRules = rules .identityRules; lastTable = rules .lastTable }
+        record { lengthFits = lengthFits; day = legal; identityRules = rules .identityRules; lastTable = rules .lastTable }
 
     pub cut-file-back : cutFile (fileBytes base ss) ≡ map (sectionBytes base) ss
     unfolding cutFile
@@ -218,9 +218,9 @@ module _ (sizes : Sizes) (base : ℕ) (file buffer : List ℕ) where
     follows-reads : sizes .sectionBytes ≤ 4_096 → base ≤ baseMost → FollowsRules sizes base file identity rs
         → length rs * recordSize ≤ length buffer
         → read sizes base file buffer ≡ readingOf buffer identity rs
-    follows-reads large legal f fits =
+    follows-reads lengthFits legal f fits =
         rw (← f .bytes, ← f .records)
-        (follows-read sizes base large legal identity (f .sections) (f .rules) buffer (rw (f .records) fits))
+        (follows-read sizes base lengthFits legal identity (f .sections) (f .rules) buffer (rw (f .records) fits))
 
     -- demand 2: for every legal base day, every file of bytes and every record buffer, Read succeeds with an identity and records
     -- exactly if the file follows the rules with these, and the records fit the buffer
@@ -229,4 +229,4 @@ module _ (sizes : Sizes) (base : ℕ) (file buffer : List ℕ) where
         → Bytes file
         → (read sizes base file buffer ≡ readingOf buffer identity rs)
         ↔ (FollowsRules sizes base file identity rs × (length rs * recordSize ≤ length buffer))
-    read-exact large legal bytes = (read-follows bytes, λ (f, fits). follows-reads large legal f fits)
+    read-exact lengthFits legal bytes = (read-follows bytes, λ (f, fits). follows-reads lengthFits legal f fits)

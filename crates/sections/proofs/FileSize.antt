@@ -50,8 +50,8 @@ module _ (sizes : Sizes) (identity : Identity) (lastTableId : ℕ) (most : lastT
 
   sizes-few : sizes .sectionBytes ≤ 4_096 → (ss : List Section) → Every (SectionRules sizes identity lastTableId) ss
       → sectionSizes ss ≤ length ss * 4_096
-  sizes-few large [] rules = omega arith
-  sizes-few large (s ∷ ss) rules = omega (arith, rules .0 .size, sizes-few large ss (rules .1))
+  sizes-few lengthFits [] rules = omega arith
+  sizes-few lengthFits (s ∷ ss) rules = omega (arith, rules .0 .size, sizes-few lengthFits ss (rules .1))
 
 pub sections-few : (sizes : Sizes) (identity : Identity) (ss : List Section) → Rules sizes identity ss → length ss ≤ 16 * 256
 sections-few sizes identity [] rules = absurd (rules .ordered)
@@ -70,7 +70,7 @@ pub accepted-size : (sizes : Sizes) (base : ℕ) (file : List ℕ)
     → Bytes file
     → checkFile sizes base file .number ≡ 0
     → length file ≤ 16 * 256 * 4_096
-accepted-size sizes base file large bytes zero =
+accepted-size sizes base file lengthFits bytes zero =
     let ss : List Section = cutSections base file in
     let identity : Identity = checkFile sizes base file .identity in
     let (rules, joined) = accepted-rules sizes base file bytes zero in
@@ -78,5 +78,5 @@ accepted-size sizes base file large bytes zero =
     omega (
       arith,
       sections-few sizes identity ss rules,
-      sizes-few sizes identity (rules .lastTableId) (rules .lastTable) large ss (rules .sections),
+      sizes-few sizes identity (rules .lastTableId) (rules .lastTable) lengthFits ss (rules .sections),
     )

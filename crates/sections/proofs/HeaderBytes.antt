@@ -11,17 +11,16 @@ use lib.Dec.{T, eqb, eqb→eq}
 use lib.ListN.{length, take}
 use lib.Seq.{take-add}
 use Rattle.eit.specs.Limits.{versionMost}
-use Rattle.eit.specs.Fields.{Bytes, bigEndian, valueOf}
+use Rattle.eit.specs.Fields.{Bytes, bigEndian, valueOf, bytesAt, field}
 use Rattle.eit.specs.declared.Identity.{Identity}
-use Rattle.eit.proofs.Fields.{value-back}
+use Rattle.eit.proofs.Fields.{value-back, field-fits, field-forth}
 use Rattle.eit.proofs.Test.{and-parts}
 use Rattle.sections.specs.Segment.{tableMost}
 use Rattle.sections.specs.Section.{Header}
 use Rattle.sections.specs.Encode.{versionOf, lengthWord, versionByte, headerBytes}
-use Rattle.sections.specs.Decode.{field, bytesAt, statedSectionSize, headerIn}
+use Rattle.sections.specs.Decode.{statedSectionSize, headerIn}
 use Rattle.sections.specs.JudgeHeader.{hasFixedBits}
 use Rattle.sections.specs.Rules.{IdentityRules, HeaderRules}
-use Rattle.sections.proofs.FieldBytes.{field-fits, field-forth}
 
 -- ---- headers that fit
 

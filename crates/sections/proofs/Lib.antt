@@ -2,8 +2,6 @@
 pub mod Lengths
 -- bytes cut into pieces, and pieces joined
 pub mod Cut
--- a field of any width at any place
-pub mod FieldBytes
 -- one event and its bytes
 pub mod EventBytes
 -- an event loop and its bytes

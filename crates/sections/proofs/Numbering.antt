@@ -98,15 +98,15 @@ module _ (g h : Header) where
       (record { table = eqb→eq (h .tableId) (g .tableId) table; last = last }, section)
 
   -- the three cases of the test
-  in-segment : S < G
+  next-in-segment : S < G
       → isNext (some g) h ≡ (isAt (g .tableId) (S + 1) L h && eqb (h .segmentLastSectionNumber) G)
-  in-segment inside = rw (isNext, lt-ltb S G inside)
+  next-in-segment inside = rw (isNext, lt-ltb S G inside)
 
-  in-table : G ≤ S → S < L → isNext (some g) h ≡ isAt (g .tableId) (firstOf S + 8) L h
-  in-table ends inside = rw (isNext, le-ltb S G ends, lt-ltb S L inside)
+  next-in-table : G ≤ S → S < L → isNext (some g) h ≡ isAt (g .tableId) (firstOf S + 8) L h
+  next-in-table ends inside = rw (isNext, le-ltb S G ends, lt-ltb S L inside)
 
-  in-tables : G ≤ S → L ≤ S → isNext (some g) h ≡ (eqb (h .tableId) (g .tableId + 1) && eqb (h .sectionNumber) 0)
-  in-tables ends last = rw (isNext, le-ltb S G ends, le-ltb S L last)
+  next-in-tables : G ≤ S → L ≤ S → isNext (some g) h ≡ (eqb (h .tableId) (g .tableId + 1) && eqb (h .sectionNumber) 0)
+  next-in-tables ends last = rw (isNext, le-ltb S G ends, le-ltb S L last)
 
   module _ (n : Numbered g) where
     pub next-is : Next g h → T (isNext (some g) h)
@@ -115,19 +115,19 @@ module _ (g h : Header) where
         segment : S < G → T (isNext (some g) h)
         segment inside =
             let (within, section, same) = next .segment inside in
-            rw (in-segment inside)
+            rw (next-in-segment inside)
             (and-both (isAt (g .tableId) (S + 1) L h) (eqb (h .segmentLastSectionNumber) G)
             (at-is (S + 1) (within, section))
             (eq-test (h .segmentLastSectionNumber) G same))
 
         table : G ≤ S → S < L → T (isNext (some g) h)
         table ends inside =
-            rw (in-table ends inside) (at-is (firstOf S + 8) (next .table (omega (arith, n .segment)) (omega arith)))
+            rw (next-in-table ends inside) (at-is (firstOf S + 8) (next .table (omega (arith, n .segment)) (omega arith)))
 
         tables : G ≤ S → L ≤ S → T (isNext (some g) h)
         tables ends last =
             let (table, section) = next .tables (omega (arith, n .segment, n .table)) in
-            rw (in-tables ends last) (eq-tests (h .tableId) (g .tableId + 1) (h .sectionNumber) 0 table section)
+            rw (next-in-tables ends last) (eq-tests (h .tableId) (g .tableId + 1) (h .sectionNumber) 0 table section)
 
     pub is-next : T (isNext (some g) h) → Next g h
     is-next t = record { segment = segment; table = table; tables = tables }
@@ -135,17 +135,17 @@ module _ (g h : Header) where
         segment : S < G → Within g h × (h .sectionNumber ≡ S + 1) × (h .segmentLastSectionNumber ≡ G)
         segment inside =
             let place : Bool = isAt (g .tableId) (S + 1) L h in
-            let (here, same) = and-parts place (eqb (h .segmentLastSectionNumber) G) (rw (in-segment inside) at t) in
+            let (here, same) = and-parts place (eqb (h .segmentLastSectionNumber) G) (rw (next-in-segment inside) at t) in
             let (within, section) = is-at (S + 1) here in
             (within, section, eqb→eq (h .segmentLastSectionNumber) G same)
 
         table : S ≡ G → G < L → Within g h × (h .sectionNumber ≡ firstOf S + 8)
-        table ends inside = is-at (firstOf S + 8) (rw (in-table (omega arith) (omega arith)) at t)
+        table ends inside = is-at (firstOf S + 8) (rw (next-in-table (omega arith) (omega arith)) at t)
 
         tables : S ≡ L → (h .tableId ≡ g .tableId + 1) × (h .sectionNumber ≡ 0)
         tables last =
             tests-eq (h .tableId) (g .tableId + 1) (h .sectionNumber) 0
-            (rw (in-tables (omega (arith, n .table)) (omega arith)) at t)
+            (rw (next-in-tables (omega (arith, n .table)) (omega arith)) at t)
 
 -- ---- the last
 

@@ -18,7 +18,7 @@ use Rattle.eit.specs.Sound.{inRange, hasChain, allValid, idsOf}
 use Rattle.eit.specs.declared.Record.{Record}
 use Rattle.eit.proofs.Test.{tests}
 use Rattle.eit.proofs.Pools.{part-inside, choose-part}
-use Rattle.eit.proofs.Sound.{facts-range, facts-chain}
+use Rattle.eit.proofs.Sound.{facts-range, facts-chain, valid-append}
 use Rattle.sections.specs.Every.{Every}
 use Rattle.sections.specs.Section.{Header, Section, headerSize, eventOverhead}
 use Rattle.sections.specs.Section.{eventSize, sectionSize, sectionEvents, eventIds}
@@ -136,8 +136,8 @@ module _ (file series : List ℕ) (base at : ℕ) (e : Event) (h : Stands file a
       ∙ rw (marks-day (filePools file series) (e .freeCa) (e .offAir))
       (stands-part file (at + eventOverhead) (e .chain) chain-stands)
 
-  event-is : eventOf (filePools file series) (recordAt at e) ≡ e
-  event-is =
+  record-event : eventOf (filePools file series) (recordAt at e) ≡ e
+  record-event =
       λ i. record {
         id = e .id;
         start = e .start;
@@ -165,10 +165,6 @@ module _ (file series : List ℕ) (base at : ℕ) (e : Event) (h : Stands file a
       (stands-inside file (at + eventOverhead) (e .chain) chain-stands))
       (rw chain-chosen (r .chain))
 
-valid-append : (pools : Pools) (rs qs : List Record) → T (allValid pools rs) → T (allValid pools qs) → T (allValid pools (rs ++ qs))
-valid-append pools [] qs v w = w
-valid-append pools (r ∷ rs) qs v w = let rest = valid-append pools rs qs (search tests) w in search tests
-
 -- ---- events one behind the other, and sections
 
 module _ (file series : List ℕ) (base : ℕ) where
@@ -186,7 +182,7 @@ module _ (file series : List ℕ) (base : ℕ) where
       → eventsIn (filePools file series) (recordsAt at es) ≡ es
   loop-events at [] h = refl
   loop-events at (e ∷ es) h =
-      ap₂ (λ (d : Event) (ds : List Event). d ∷ ds) (event-is file series base at e (loop-first at e es h))
+      ap₂ (λ (d : Event) (ds : List Event). d ∷ ds) (record-event file series base at e (loop-first at e es h))
       (loop-events (at + eventSize e) es (loop-rest at e es h))
 
   loop-valid : (header : Header) (at : ℕ) (es : List Event) → Stands file at (eventLoopBytes base es) → Every (EventRules header) es

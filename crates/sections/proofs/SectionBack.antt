@@ -69,7 +69,7 @@ alone-back base h (e ∷ es) alone = tt
 -- what holds of a file before its sections: 12 bits reach the section size, the base day is legal, and identity and last_table_id keep
 -- the rules
 pub record Legal (sizes : Sizes) (base : ℕ) (identity : Identity) (lastTableId : ℕ) : Type 0 where
-  pub large : sizes .sectionBytes ≤ 4_096
+  pub lengthFits : sizes .sectionBytes ≤ 4_096
   pub day : base ≤ baseMost
   pub identityRules : IdentityRules identity
   pub lastTable : lastTableId ≤ tableMost
@@ -82,7 +82,7 @@ module _ (sizes : Sizes) (base : ℕ) (identity : Identity) (lastTableId : ℕ) 
     fits = rules-fit identity lastTableId (s .header) (legal .identityRules) (legal .lastTable) (rules .headerRules)
 
     short : Every Short (s .events)
-    short = sizes-short (s .events) (omega (arith, legal .large, rules .size))
+    short = sizes-short (s .events) (omega (arith, legal .lengthFits, rules .size))
 
     pub section-header : headerIn (sectionBytes base s) ≡ s .header
     section-header = ap headerIn (section-parts base s) ∙ header-back (sectionSize s) (s .header) _ fits
@@ -120,7 +120,7 @@ module _ (sizes : Sizes) (base : ℕ) (identity : Identity) (lastTableId : ℕ) 
               ap statedSectionSize
               (ap (λ (ds : List ℕ). ds ++ rest) (section-parts base s)
               ∙ append-assoc (headerBytes (sectionSize s) (s .header)) (eventLoopBytes base (s .events) ++ crcBytes base s) rest)
-              ∙ header-stated (sectionSize s) (s .header) _ (omega arith) (omega (arith, legal .large, rules .size))
+              ∙ header-stated (sectionSize s) (s .header) _ (omega arith) (omega (arith, legal .lengthFits, rules .size))
               ∙ sym size;
         }
 
@@ -136,7 +136,7 @@ module _ (sizes : Sizes) (base : ℕ) (identity : Identity) (lastTableId : ℕ) 
         let whole : T (eqb (length bs) (statedSectionSize bs)) = eq-test _ _ (sym stated) in
         let least : T (leb sectionOverhead (length bs)) = le→leb sectionOverhead (length bs) (omega arith) in
         let most-bytes : T (leb (length bs) (sizes .sectionBytes)) =
-        le→leb (length bs) (sizes .sectionBytes) (omega (arith, legal .large, rules .size)) in
+        le→leb (length bs) (sizes .sectionBytes) (omega (arith, legal .lengthFits, rules .size)) in
         let low : T (leb tableLeast (headerIn bs .tableId)) =
         le→leb tableLeast (headerIn bs .tableId) (omega (arith, rules .headerRules .least)) in
         let high : T (leb (headerIn bs .tableId) tableMost) =
@@ -156,7 +156,7 @@ module _ (sizes : Sizes) (base : ℕ) (identity : Identity) (lastTableId : ℕ) 
     fixed : T (hasFixedBits (sectionBytes base s))
     fixed =
         rw (section-parts base s)
-        (header-fixed (sectionSize s) (s .header) _ (omega arith) (omega (arith, legal .large, rules .size)) (fits .identityRules .version))
+        (header-fixed (sectionSize s) (s .header) _ (omega arith) (omega (arith, legal .lengthFits, rules .size)) (fits .identityRules .version))
 
     header-passes : (before : Option Header) → T (isSameFile before (s .header)) → T (isHeader before (sectionBytes base s))
     unfolding isHeader

@@ -12,7 +12,7 @@ use Rattle.eit.specs.Fields.{Bytes, bigEndian}
 use Rattle.eit.specs.Crc.{crc32}
 use Rattle.eit.specs.Events.{Event}
 use Rattle.eit.proofs.Test.{tests}
-use Rattle.eit.proofs.Fields.{bytes-append, bytes-take, bytes-drop}
+use Rattle.eit.proofs.Fields.{bytes-append, bytes-take, bytes-drop, field-bytes}
 use Rattle.eit.proofs.Crc.{closed-only}
 use Rattle.sections.specs.Every.{Every}
 use Rattle.sections.specs.Segment.{tableLeast, tableMost}
@@ -25,7 +25,6 @@ use Rattle.sections.specs.JudgeEvents.{isFilledOrAlone, areEvents, isEve
 use Rattle.sections.specs.Walk.{Progress}
 use Rattle.sections.proofs.Lengths.{loop-length}
 use Rattle.sections.proofs.Cut.{cut-joined}
-use Rattle.sections.proofs.FieldBytes.{field-bytes}
 use Rattle.sections.proofs.EventLoop.{events-forth}
 use Rattle.sections.proofs.HeaderBytes.{HeaderFits, header-fits, header-forth}
 use Rattle.sections.proofs.Numbering.{is-numbered, is-alone}

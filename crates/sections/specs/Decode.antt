@@ -3,21 +3,14 @@
 use Prim.Native.Nat.{ℕ, _+_, _-_, _/_, _%_}
 use mathlib.Core.List.{List, map}
 use lib.Dec.{eqb}
-use lib.ListN.{length, take, drop}
+use lib.ListN.{length, drop}
 use Rattle.eit.specs.Sizes.{sectionOverhead}
-use Rattle.eit.specs.Fields.{valueOf}
+use Rattle.eit.specs.Fields.{bytesAt, field}
 use Rattle.eit.specs.Time.{secondsOf, startOf}
 use Rattle.eit.specs.Pools.{odd}
 use Rattle.eit.specs.Events.{Event}
 use Rattle.sections.specs.Section.{Header, Section, headerSize, eventOverhead}
 use Rattle.sections.specs.Cut.{cut}
-
--- `width` bytes from `at` on, and the number that they hold
-abbrev pub bytesAt : ℕ → ℕ → List ℕ → List ℕ
-bytesAt at width bs = take width (drop at bs)
-
-abbrev pub field : ℕ → ℕ → List ℕ → ℕ
-field at width bs = valueOf (bytesAt at width bs)
 
 -- ---- an event
 

@@ -1,5 +1,6 @@
 -- What "Read is exact" speaks of (demand 2: "Read accepts exactly the files that follow their rules, packing aside, and returns the
--- identity and events that the file's bytes carry"). The theorem is `read-exact` of proofs/Exact.antt. Assumes nothing.
+-- identity and events that the file's bytes carry"). The theorems are `read-exact` of proofs/Exact.antt and `accepted-exactly` of
+-- proofs/Accepted.antt. Assumes nothing.
 use mathlib.Core.Path.{_≡_}
 use Prim.Native.Nat.{ℕ, _*_}
 use mathlib.Core.List.{List}
@@ -15,7 +16,8 @@ use Rattle.sections.specs.Rules.{Rules}
 use Rattle.sections.specs.Places.{recordsFrom}
 use Rattle.sections.specs.Read.{Reading, success, read}
 
--- 01's term: accepted. Read, with 12,288 numbers for records, succeeds on the file: with any that the largest list fits in
+-- 01's term: accepted. Read succeeds on the file with 12,288 numbers for records, six for each event of the largest list, whatever
+-- they were
 abbrev pub Accepted : Sizes → ℕ → List ℕ → Type 0
 Accepted sizes base file =
     (buffer : List ℕ) → length buffer ≡ sizes .eventLimit * recordSize → read sizes base file buffer .answer .number ≡ 0

@@ -21,8 +21,8 @@ abbrev pub identity : Identity
 identity = record { «service_id» = 1; «transport_stream_id» = 2; «original_network_id» = 3; version = 0 }
 
 -- free CA, off air, and one descriptor
-abbrev pub shown : Event
-shown = record { id = 0x1234; start = 45_900; duration = 6_330; offAir = true; freeCa = true; chain = 0x4D ∷ 0x01 ∷ 0x09 ∷ [] }
+abbrev pub sample : Event
+sample = record { id = 0x1234; start = 45_900; duration = 6_330; offAir = true; freeCa = true; chain = 0x4D ∷ 0x01 ∷ 0x09 ∷ [] }
 
 pub record Examples : Type 0 where
   -- table and first section of the segment that a start lies in
@@ -31,7 +31,7 @@ pub record Examples : Type 0 where
   pub tables : (tableLeast ≡ 0x50) × (tableMost ≡ 0x5F)
   pub firsts : (firstOf 7 ≡ 0) × (firstOf 8 ≡ 8) × (firstOf 255 ≡ 248)
   pub event-bytes :
-      eventBytes 49_273 shown
+      eventBytes 49_273 sample
       ≡ 0x12 ∷ 0x34 ∷ 0xC0 ∷ 0x79 ∷ 0x12 ∷ 0x45 ∷ 0x00 ∷ 0x01 ∷ 0x45 ∷ 0x30 ∷ 0xB0 ∷ 0x03 ∷ 0x4D ∷ 0x01 ∷ 0x09 ∷ []
   -- version 5 in table 0x51 of 0x52, section 9 of segment 1, whose last is 10, and of a table whose last is 16
   pub section-bytes :

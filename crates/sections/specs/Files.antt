@@ -9,13 +9,13 @@ use Rattle.eit.specs.Crc.{crc32}
 use Rattle.sections.specs.Read.{Answer, checkFile}
 
 -- some bytes with their CRC_32 behind them
-abbrev pub closed : List ℕ → List ℕ
-closed bs = bs ++ bigEndian 4 (crc32 bs)
+abbrev pub withCrc : List ℕ → List ℕ
+withCrc bs = bs ++ bigEndian 4 (crc32 bs)
 
 -- a section with its version byte: table_id, section_number, last_section_number, segment_last_section_number, last_table_id, events
 abbrev pub versioned : ℕ → ℕ → ℕ → ℕ → ℕ → ℕ → List ℕ → List ℕ
 versioned version table number last segmentLast lastTable events =
-    closed
+    withCrc
     ((table ∷ 0xF0 ∷ (15 + length events) ∷ 0x00 ∷ 0x01 ∷ version ∷ number ∷ last ∷ 0x00 ∷ 0x02 ∷ 0x00 ∷ 0x03
     ∷ segmentLast ∷ lastTable ∷ [])
     ++ events)
@@ -26,13 +26,13 @@ section table number last segmentLast lastTable events = versioned 0xC1 table nu
 -- no events, with the bytes 1 and 5 given: the first of section_length's field, and the version's
 abbrev pub withBits : ℕ → ℕ → List ℕ
 withBits first version =
-    closed (0x50 ∷ first ∷ 0x0F ∷ 0x00 ∷ 0x01 ∷ version ∷ 0x00 ∷ 0x00 ∷ 0x00 ∷ 0x02 ∷ 0x00 ∷ 0x03 ∷ 0x00 ∷ 0x50 ∷ [])
+    withCrc (0x50 ∷ first ∷ 0x0F ∷ 0x00 ∷ 0x01 ∷ version ∷ 0x00 ∷ 0x00 ∷ 0x00 ∷ 0x02 ∷ 0x00 ∷ 0x03 ∷ 0x00 ∷ 0x50 ∷ [])
 
 -- two empty segments, the second with its identity given: service, version byte, stream, network
 abbrev pub withIdentity : ℕ → ℕ → ℕ → ℕ → List ℕ
 withIdentity service version stream network =
     section 0x50 0 8 0 0x50 []
-    ++ closed
+    ++ withCrc
     (0x50 ∷ 0xF0 ∷ 0x0F ∷ 0x00 ∷ service ∷ version ∷ 0x08 ∷ 0x08 ∷ 0x00 ∷ stream ∷ 0x00 ∷ network ∷ 0x08 ∷ 0x50 ∷ [])
 
 -- an event of an hour without descriptors: id, the hour and the minute of its start as two digits each

@@ -6,13 +6,14 @@ use mathlib.Core.List.{List, [], _∷_, map}
 use lib.Dec.{eqb, leb}
 use lib.ListN.{length, drop}
 use Rattle.eit.specs.Sizes.{Sizes}
+use Rattle.eit.specs.Fields.{bytesAt}
 use Rattle.eit.specs.Time.{isStartBytes, isDurationBytes, startOf}
 use Rattle.eit.specs.Chain.{isChain}
 use Rattle.eit.specs.Among.{isAmong}
 use Rattle.eit.specs.Events.{Event, follows}
 use Rattle.sections.specs.Segment.{segmentIndex, tableOf, firstSection, firstOf}
 use Rattle.sections.specs.Section.{Header, eventOverhead, eventIds}
-use Rattle.sections.specs.Decode.{bytesAt, statusField, statedEventSize, eventIn, headerIn, cutEvents}
+use Rattle.sections.specs.Decode.{statusField, statedEventSize, eventIn, headerIn, cutEvents}
 
 -- an event starts in its section's segment
 abbrev pub isInSegment : Header → ℕ → Bool

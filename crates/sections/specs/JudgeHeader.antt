@@ -7,12 +7,13 @@ use mathlib.Core.Option.{Option, none, some}
 use lib.Dec.{eqb, leb, ltb}
 use lib.ListN.{length}
 use Rattle.eit.specs.Sizes.{Sizes, sectionOverhead}
+use Rattle.eit.specs.Fields.{field}
 use Rattle.eit.specs.Crc.{crc32}
 use Rattle.eit.specs.declared.Identity.{Identity}
 use Rattle.sections.specs.Segment.{tableLeast, tableMost, firstOf}
 use Rattle.sections.specs.Section.{Header}
 use Rattle.sections.specs.Encode.{versionOf}
-use Rattle.sections.specs.Decode.{field, statedSectionSize, headerIn}
+use Rattle.sections.specs.Decode.{statedSectionSize, headerIn}
 
 -- table_id, 0x50 to 0x5F; last_table_id (0x50 to 0x5F)
 abbrev pub isTable : ℕ → Bool

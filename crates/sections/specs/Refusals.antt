@@ -5,7 +5,7 @@ use mathlib.Core.List.{[], _∷_, _++_}
 use lib.ListN.{take}
 use Rattle.eit.specs.Sizes.{broadcast}
 use Rattle.sections.specs.Read.{checkFile, refusal}
-use Rattle.sections.specs.Files.{closed, section, withBits, withIdentity, event, withEvent, one, hour, bare, says}
+use Rattle.sections.specs.Files.{withCrc, section, withBits, withIdentity, event, withEvent, one, hour, bare, says}
 
 pub record Refusals : Type 0 where
   pub base : checkFile broadcast 65_473 [] ≡ refusal 1 0
@@ -17,7 +17,7 @@ pub record Refusals : Type 0 where
   pub table-below : says (section 0x4F 0 0 0 0x50 []) ≡ refusal 20 0
   pub table-above : says (section 0x50 0 0 0 0x50 [] ++ section 0x60 0 0 0 0x50 []) ≡ refusal 20 18
   pub too-short :
-      says (closed (0x50 ∷ 0xF0 ∷ 0x0E ∷ 0x00 ∷ 0x01 ∷ 0xC1 ∷ 0x00 ∷ 0x00 ∷ 0x00 ∷ 0x02 ∷ 0x00 ∷ 0x03 ∷ 0x00 ∷ []))
+      says (withCrc (0x50 ∷ 0xF0 ∷ 0x0E ∷ 0x00 ∷ 0x01 ∷ 0xC1 ∷ 0x00 ∷ 0x00 ∷ 0x00 ∷ 0x02 ∷ 0x00 ∷ 0x03 ∷ 0x00 ∷ []))
       ≡ refusal 20 0
   pub too-long : checkFile (record { sectionBytes = 29; eventLimit = 9 }) 49_273 (withEvent one hour bare) ≡ refusal 20 0
   pub just-fits : checkFile (record { sectionBytes = 30; eventLimit = 9 }) 49_273 (withEvent one hour bare) .number ≡ 0
