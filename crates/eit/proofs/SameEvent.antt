@@ -1,15 +1,22 @@
 -- Two records have the same event exactly if id, start, duration, marks other than 2 and chain bytes are equal (01, "Event record
 -- and sound list"): the two truth values of an event are the two bits that are left of the marks. Assumes nothing.
-use mathlib.Core.Path.{_≡_, refl, sym, ap, _∙_}
+use mathlib.Core.Path.{_≡_, refl, sym, ap, ap₂, _∙_}
 use mathlib.Core.Bool.{false≢true, true≢false}
 use mathlib.Core.Logic.{_↔_}
 use Prim.Native.Nat.{ℕ, zero, suc, _+_, _*_, _/_, _%_, _≤_, _<_}
 use native.Mathlib.Omega.{arith}
-use lib.Dec.{eqb}
+use mathlib.Core.List.{List, [], _∷_}
+use lib.Dec.{T, eqb}
+use lib.ListN.{length, getD, drop}
+use Rattle.eit.specs.Sizes.{Sizes}
 use Rattle.eit.specs.Limits.{marksMost}
 use Rattle.eit.specs.Pools.{Pools, odd, marksFreeCa, marksOffAir}
-use Rattle.eit.specs.Events.{Event, eventOf, marksOther, Same}
+use Rattle.eit.specs.Records.{EventList, recordsOf}
+use Rattle.eit.specs.Events.{Event, eventOf, eventsIn, marksOther, Same, AllSame}
+use Rattle.eit.specs.Sound.{allValid, sound, eventsOf}
 use Rattle.eit.specs.declared.Record.{Record}
+use Rattle.eit.proofs.Test.{tests}
+use Rattle.eit.proofs.Sound.{range-facts, sound-list}
 
 bit-same : (a b : ℕ) → a < 2 → b < 2 → eqb a 1 ≡ eqb b 1 → a ≡ b
 bit-same zero zero p q e = refl
@@ -64,3 +71,24 @@ same-event p q r s hr hs = (forth, back)
           freeCa = bits .0 i;
           chain = e .chain i;
         }
+
+-- lists of valid records are the same, place by place, exactly if their events are equal
+pub all-same : (p q : Pools) (rs ss : List Record) → T (allValid p rs) → T (allValid q ss)
+    → (eventsIn p rs ≡ eventsIn q ss) ↔ AllSame p q rs ss
+all-same p q [] [] v w = (λ e. tt, λ same. refl)
+all-same p q [] (s ∷ ss) v w = (λ e. omega (arith, ap length e), λ same. absurd same)
+all-same p q (r ∷ rs) [] v w = (λ e. omega (arith, ap length e), λ same. absurd same)
+all-same p q (r ∷ rs) (s ∷ ss) v w =
+    let one = same-event p q r s (range-facts r (search tests) .marks) (range-facts s (search tests) .marks) in
+    let rest = all-same p q rs ss (search tests) (search tests) in (
+      λ e. (one .0 (ap (λ (es : List Event). getD es 0 (eventOf p r)) e), rest .0 (ap (λ (es : List Event). drop 1 es) e)),
+      λ (first, others). ap₂ (λ (e : Event) (es : List Event). e ∷ es) (one .1 first) (rest .1 others),
+    )
+
+-- so two sound lists hold the same events, record by record, exactly if they stand for equal events
+pub same-lists : (sizes : Sizes) (p q : Pools) (list other : EventList) → T (sound sizes p list) → T (sound sizes q other)
+    → (eventsOf p list ≡ eventsOf q other) ↔ AllSame p q (recordsOf list) (recordsOf other)
+unfolding eventsOf
+same-lists sizes p q list other is also =
+    all-same p q (recordsOf list) (recordsOf other) (sound-list sizes p list is .records .valid)
+    (sound-list sizes q other also .records .valid)

@@ -40,6 +40,13 @@ pub record Same (p q : Pools) (r s : Record) : Type 0 where
   pub marks : marksOther (r .marks) ≡ marksOther (s .marks)
   pub chain : choose p (r .marks) (r .offset) (r .«chain_length») ≡ choose q (s .marks) (s .offset) (s .«chain_length»)
 
+-- as many records, each the same event as the other list's record in that place
+abbrev pub AllSame : Pools → Pools → List Record → List Record → Type 0
+AllSame p q [] [] = Unit {0}
+AllSame p q [] (s ∷ ss) = ⊥
+AllSame p q (r ∷ rs) [] = ⊥
+AllSame p q (r ∷ rs) (s ∷ ss) = Same p q r s × AllSame p q rs ss
+
 -- the events of some records
 abbrev pub eventsIn : Pools → List Record → List Event
 eventsIn pools rs = map (eventOf pools) rs

@@ -1,6 +1,6 @@
 -- Edit on a sound list leaves a sound list, accepted or refused; 12, 3 and 4 leave all: by induction over the edits, each of
 -- which the machine's laws cover. Assumes nothing.
-use mathlib.Core.Path.{_≡_, refl, sym, ap, _∙_}
+use mathlib.Core.Path.{_≡_, refl, sym, ap, _∙_, subst}
 use mathlib.Core.Logic.{_⊎_, inl, inr, ⊎-elim}
 use mathlib.Core.Bool.{Bool, true, false, not}
 use Prim.Native.Nat.{ℕ, _≤_}
@@ -17,7 +17,7 @@ use Rattle.eit.proofs.Test.{test-or, true-is, false-is}
 use Rattle.script.specs.Form.{Edit, Act, put, withdraw, move, Command, Form, commands, broken, formOf}
 use Rattle.script.specs.Struck.{Unstruck, unstruck, nothingAt, unstruckIn}
 use Rattle.script.specs.Machine.{limitOf, without, afterPut, afterWithdraw, afterMove, Step, done, refused, check, step}
-use Rattle.script.specs.Edit.{Edited, run, refusal, edit}
+use Rattle.script.specs.Edit.{Stopped, Edited, run, refusal, edit}
 use Rattle.script.proofs.Machine.{step-sound}
 
 -- an edit is done or refused
@@ -114,6 +114,31 @@ module _ (sizes : Sizes) (pools : Pools) where
       (λ list. inl (refl, refl))
       (λ list e n q. inr (step-number sizes pools list (e .act) n q))
       (λ list e next o q ih. ih)
+
+  -- a run that is refused has carried out the edits before, and keeps what they made
+  pub run-stops : (list : EventList) (es : List Edit) → (run sizes pools list es .number ≡ 0 → ⊥)
+      → Stopped sizes pools list es (run sizes pools list es)
+  unfolding run
+  run-stops list [] refuses = absurd (refuses refl)
+  run-stops list (e ∷ es) refuses =
+      ⊎-elim
+      (λ (next, does).
+      let on : run sizes pools list (e ∷ es) ≡ run sizes pools next es = run-done list e es next does in
+      let rest = run-stops next es (λ zero. refuses (ap (λ (o : Edited). o .number) on ∙ zero)) in
+      subst (λ (o : Edited). Stopped sizes pools list (e ∷ es) o) (sym on)
+      (record {
+        before = e ∷ rest .before;
+        stop = rest .stop;
+        behind = rest .behind;
+        split = ap (λ (fs : List Edit). e ∷ fs) (rest .split);
+        carriedOut = run-done list e (rest .before) next does ∙ rest .carriedOut;
+        refusal = rest .refusal;
+        offset = rest .offset;
+      }))
+      (λ (number, says).
+      subst (λ (o : Edited). Stopped sizes pools list (e ∷ es) o) (sym (run-refused list e es number says))
+      (record { before = []; stop = e; behind = es; split = refl; carriedOut = refl; refusal = says; offset = refl }))
+      (step-or (step sizes pools list (e .act)))
 
   -- ---- the call, refusal by refusal
 

@@ -2,7 +2,8 @@
 -- Assumes nothing.
 use Prim.Native.Nat.{ℕ}
 use mathlib.Core.Bool.{true, false}
-use mathlib.Core.List.{List, [], _∷_}
+use mathlib.Core.Path.{_≡_}
+use mathlib.Core.List.{List, [], _∷_, _++_}
 use Rattle.eit.specs.Sizes.{Sizes}
 use Rattle.eit.specs.Pools.{Pools}
 use Rattle.eit.specs.Records.{EventList}
@@ -46,3 +47,13 @@ edit sizes pools list script =
         ]
       ]
     ]
+
+-- an edit refusal among edits to be carried out: those before it are, and it leaves the list as they made it
+pub record Stopped (sizes : Sizes) (pools : Pools) (list : EventList) (es : List Edit) (o : Edited) : Type 0 where
+  pub before : List Edit
+  pub stop : Edit
+  pub behind : List Edit
+  pub split : before ++ stop ∷ behind ≡ es
+  pub carriedOut : run sizes pools list before ≡ record { number = 0; value = o .list .count; list = o .list }
+  pub refusal : step sizes pools (o .list) (stop .act) ≡ refused (o .number)
+  pub offset : o .value ≡ stop .at

@@ -86,6 +86,17 @@ module _ (index k : ℕ) (s : Section) (ss : List Section) where
   pub first-same : T (not (isInFirst index k (s .header))) → firstSections index k (s ∷ ss) ≡ firstSections index k ss
   first-same outside = rw (firstSections, false-is (isInFirst index k (s .header)) outside)
 
+-- of joined sections
+pub first-append : (index k : ℕ) (ss ts : List Section)
+    → firstSections index k (ss ++ ts) ≡ firstSections index k ss ++ firstSections index k ts
+first-append index k [] ts = refl
+first-append index k (s ∷ ss) ts =
+    ⊎-elim
+    (λ inside. rw (firstSections, true-is (isInFirst index k (s .header)) inside)
+    (ap (λ (us : List Section). s ∷ us) (first-append index k ss ts)))
+    (λ outside. rw (firstSections, false-is (isInFirst index k (s .header)) outside) (first-append index k ss ts))
+    (test-or (isInFirst index k (s .header)))
+
 -- ---- no count depends on the base day: headers and the cuts between events are read without it
 
 module _ (base other index k : ℕ) where

@@ -15,6 +15,7 @@ use Rattle.eit.specs.Records.{recordSize, recordsOf, numbersOfAll}
 use Rattle.eit.specs.declared.Identity.{Identity}
 use Rattle.eit.specs.declared.Record.{Record}
 use Rattle.eit.proofs.Test.{le-or-lt}
+use Rattle.eit.proofs.Fields.{bytes-append}
 use Rattle.eit.proofs.Records.{records-written}
 use Rattle.sections.specs.Every.{Every}
 use Rattle.sections.specs.Section.{Section, sectionEvents}
@@ -28,7 +29,7 @@ use Rattle.sections.specs.Places.{recordsFrom}
 use Rattle.sections.specs.Exact.{FollowsRules, readingOf}
 use Rattle.sections.proofs.Cut.{Stated, cut-joined, cut-back}
 use Rattle.sections.proofs.Order.{seen-length, order-new}
-use Rattle.sections.proofs.SectionBack.{Legal, section-back, section-stated}
+use Rattle.sections.proofs.SectionBack.{Legal, section-bytes, section-back, section-stated}
 use Rattle.sections.proofs.Read.{successOf, check-succeeds, check-succeeded, read-short, read-succeeds, read-agrees}
 use Rattle.sections.proofs.Forth.{shown-seen, shown-few, all-forth}
 use Rattle.sections.proofs.Back.{Accepts, all-back}
@@ -108,6 +109,14 @@ module _ (sizes : Sizes) (base : ℕ) (file : List ℕ) where
 
 -- ---- back
 
+sections-bytes : (base : ℕ) (identity : Identity) (sizes : Sizes) (lastTableId : ℕ) (ss : List Section)
+    → Every (SectionRules sizes identity lastTableId) ss → Bytes (flatten (map (sectionBytes base) ss))
+unfolding flatten
+sections-bytes base identity sizes lastTableId [] rules = tt
+sections-bytes base identity sizes lastTableId (s ∷ ss) rules =
+    bytes-append (sectionBytes base s) (flatten (map (sectionBytes base) ss)) (section-bytes base s (rules .0 .eventRules))
+    (sections-bytes base identity sizes lastTableId ss (rules .1))
+
 module _ (sizes : Sizes) (base : ℕ) (identity : Identity) (lastTableId : ℕ) (legal : Legal sizes base identity lastTableId) where
   sections-stated : (ss : List Section) → Every (SectionRules sizes identity lastTableId) ss
       → Every (Stated statedSectionSize) (map (sectionBytes base) ss)
@@ -128,6 +137,10 @@ module _ (sizes : Sizes) (base : ℕ) (lengthFits : sizes .sectionBytes ≤ 4_09
     legal-file : Legal sizes base identity (rules .lastTableId)
     legal-file =
         record { lengthFits = lengthFits; day = legal; identityRules = rules .identityRules; lastTable = rules .lastTable }
+
+    -- the joined bytes of sections that keep the rules are bytes
+    pub file-bytes : Bytes (fileBytes base ss)
+    file-bytes = rw (bytes-are base ss) (sections-bytes base identity sizes (rules .lastTableId) ss (rules .sections))
 
     pub cut-file-back : cutFile (fileBytes base ss) ≡ map (sectionBytes base) ss
     unfolding cutFile

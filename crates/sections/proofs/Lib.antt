@@ -44,5 +44,7 @@ pub mod FileSound
 pub mod Count
 -- and the order in which they stand
 pub mod SegmentOrder
+-- without a segment skipped
+pub mod SegmentBetween
 -- the examples, computed
 pub mod Examples

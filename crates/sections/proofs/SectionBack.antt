@@ -16,7 +16,7 @@ use Rattle.eit.specs.Crc.{crc32}
 use Rattle.eit.specs.Events.{Event}
 use Rattle.eit.specs.declared.Identity.{Identity}
 use Rattle.eit.proofs.Test.{tests, eq-test, and-both}
-use Rattle.eit.proofs.Fields.{bytes-append}
+use Rattle.eit.proofs.Fields.{bytes-append, big-endian-bytes}
 use Rattle.eit.proofs.Crc.{closed}
 use Rattle.sections.specs.Every.{Every}
 use Rattle.sections.specs.Segment.{tableLeast, tableMost}
@@ -61,6 +61,19 @@ section-parts base s =
 chains-bytes : (h : Header) (es : List Event) → Every (EventRules h) es → Every (λ (e : Event). Bytes (e .chain)) es
 chains-bytes h [] rules = tt
 chains-bytes h (e ∷ es) rules = (rules .0 .bytes, chains-bytes h es (rules .1))
+
+covered-bytes : (base : ℕ) (s : Section) → Every (EventRules (s .header)) (s .events) → Bytes (coveredBytes base s)
+covered-bytes base s rules =
+    rw (covered-is base s)
+    (bytes-append (headerBytes (sectionSize s) (s .header)) (eventLoopBytes base (s .events))
+    (header-bytes (sectionSize s) (s .header))
+    (loop-bytes base (s .events) (chains-bytes (s .header) (s .events) rules)))
+
+-- a section's bytes are bytes
+pub section-bytes : (base : ℕ) (s : Section) → Every (EventRules (s .header)) (s .events) → Bytes (sectionBytes base s)
+section-bytes base s rules =
+    rw (section-is base s)
+    (bytes-append (coveredBytes base s) (crcBytes base s) (covered-bytes base s rules) (big-endian-bytes 4 (crc32 (coveredBytes base s))))
 
 alone-back : (base : ℕ) (h : Header) (es : List Event) → (es ≡ [] → Alone h) → T (isFilledOrAlone h (map (eventBytes base) es))
 alone-back base h [] alone = alone-is h (alone refl)
@@ -146,12 +159,8 @@ module _ (sizes : Sizes) (base : ℕ) (identity : Identity) (lastTableId : ℕ) 
     closes : T (isClosed (sectionBytes base s))
     unfolding isClosed
     closes =
-        let covered : Bytes (coveredBytes base s) =
-        rw (covered-is base s)
-        (bytes-append (headerBytes (sectionSize s) (s .header)) (eventLoopBytes base (s .events))
-        (header-bytes (sectionSize s) (s .header))
-        (loop-bytes base (s .events) (chains-bytes (s .header) (s .events) (rules .eventRules)))) in
-        eq-test (crc32 (sectionBytes base s)) 0 (ap crc32 (section-is base s) ∙ closed (coveredBytes base s) covered)
+        eq-test (crc32 (sectionBytes base s)) 0
+        (ap crc32 (section-is base s) ∙ closed (coveredBytes base s) (covered-bytes base s (rules .eventRules)))
 
     fixed : T (hasFixedBits (sectionBytes base s))
     fixed =

@@ -1,0 +1,86 @@
+-- Three laws of Build's file: it depends on the events alone, not on how records and pools hold them; so Read of it, built again under
+-- the identity read, gives the same bytes; and its length is 18 bytes for each section and the bytes of the events. Assumes nothing.
+use mathlib.Core.Path.{_≡_, refl, sym, ap, _∙_}
+use mathlib.Core.Logic.{⊎-elim}
+use mathlib.Core.List.{List, [], _∷_, _++_}
+use Prim.Native.Nat.{ℕ, _+_, _*_}
+use native.Mathlib.Omega.{arith}
+use lib.Dec.{T}
+use lib.ListN.{length}
+use Rattle.eit.specs.Sizes.{Sizes, broadcast, sectionOverhead}
+use Rattle.eit.specs.Limits.{baseMost, versionMost}
+use Rattle.eit.specs.Pools.{Pools}
+use Rattle.eit.specs.Records.{EventList}
+use Rattle.eit.specs.Events.{Event}
+use Rattle.eit.specs.Sound.{sound, eventsOf}
+use Rattle.eit.specs.declared.Identity.{Identity}
+use Rattle.eit.proofs.Test.{le-or-lt}
+use Rattle.sections.specs.Section.{Section, eventSizes, sectionEvents, sectionSizes}
+use Rattle.sections.specs.Decode.{cutSections}
+use Rattle.sections.specs.Places.{filePools}
+use Rattle.sections.specs.Read.{Answer, Reading, read, listOf}
+use Rattle.sections.proofs.Exact.{cut-sections-back}
+use Rattle.sections.proofs.FileSound.{accepted-events}
+use Rattle.schedule.specs.Build.{Built, buildEvents, build, fileOf}
+use Rattle.schedule.specs.Given.{Given, built, events, Carries}
+use Rattle.schedule.proofs.Build.{build-base, build-version, build-sound, written-fits}
+use Rattle.schedule.proofs.Given.{ownSections, own-rules, own-events, writes, rival-events}
+use Rattle.schedule.proofs.Demands.{demands}
+
+-- Build of two sound lists with the same events is the same, for every base day, identity and output
+pub events-alone : (sizes : Sizes) (p q : Pools) (list other : EventList) (base : ℕ) (identity : Identity) (output : List ℕ)
+    → T (sound sizes p list) → T (sound sizes q other) → eventsOf p list ≡ eventsOf q other
+    → build sizes p list base identity output ≡ build sizes q other base identity output
+events-alone sizes p q list other base identity output is also same =
+    ⊎-elim (λ day. ⊎-elim
+    (λ version.
+    build-sound sizes p list base identity output day version is
+    ∙ ap (λ (es : List Event). buildEvents sizes base identity es output) same
+    ∙ sym (build-sound sizes q other base identity output day version also))
+    (λ above. build-version sizes p list base identity output day above ∙ sym (build-version sizes q other base identity output day above))
+    (le-or-lt (identity .version) versionMost))
+    (λ above. build-base sizes p list base identity output above ∙ sym (build-base sizes q other base identity output above))
+    (le-or-lt base baseMost)
+
+-- Read of a built file, built again under the identity read, gives the same answer and the same output
+module _ (g : Given) (output buffer series : List ℕ) (zero : built g output .number ≡ 0) (size : length buffer ≡ 12_288) where
+  pub built-again : let r = read broadcast (g .base) (fileOf (built g output)) buffer in
+      build broadcast (filePools (fileOf (built g output)) series) (listOf r) (g .base) (r .answer .identity) output ≡ built g output
+  built-again =
+      let file : List ℕ = fileOf (built g output) in
+      let r : Reading = read broadcast (g .base) file buffer in
+      let c : Carries g file = demands .built-carries g output zero in
+      let reads : r .answer .number ≡ 0 = c .accepted buffer size in
+      ap (λ (i : Identity). build broadcast (filePools file series) (listOf r) (g .base) i output)
+      (ap (λ (a : Answer). a .identity) (demands .built-read g output buffer zero size))
+      ∙ events-alone broadcast (filePools file series) (g .pools) (listOf r) (g .list) (g .base) (g .identity) output
+      (demands .accepted-sound (g .base) file series buffer (c .bytes) (c .accepted) size) (g .isSound)
+      (accepted-events broadcast (g .base) file buffer series (c .bytes) reads ∙ rival-events g file c)
+
+-- ---- length
+
+sizes-append : (es fs : List Event) → eventSizes (es ++ fs) ≡ eventSizes es + eventSizes fs
+sizes-append [] fs = omega arith
+sizes-append (e ∷ es) fs = omega (arith, sizes-append es fs)
+
+sizes-split : (ss : List Section) → sectionSizes ss ≡ sectionOverhead * length ss + eventSizes (sectionEvents ss)
+unfolding sectionEvents
+sizes-split [] = refl
+sizes-split (s ∷ ss) = omega (arith, sizes-split ss, sizes-append (s .events) (sectionEvents ss))
+
+-- 18 × sections + the events' bytes
+pub built-bytes : (g : Given) (output : List ℕ) → built g output .number ≡ 0
+    → built g output .value ≡ 18 * length (cutSections (g .base) (fileOf (built g output))) + eventSizes (events g)
+built-bytes g output zero =
+    let (fits, is, enough, file) = writes g output zero in
+    let ss : List Section = ownSections g in
+    let shown : cutSections (g .base) (fileOf (built g output)) ≡ ss =
+    ap (cutSections (g .base)) file
+    ∙ cut-sections-back broadcast (g .base) (omega arith) (g .legalBase) (g .identity) ss (own-rules g fits) in
+    omega (
+      arith,
+      ap (λ (b : Built). b .value) (is ∙ written-fits (g .base) ss output enough),
+      sizes-split ss,
+      ap length shown,
+      ap eventSizes (own-events g fits),
+    )

@@ -1,0 +1,36 @@
+-- a property of every element of a list
+pub mod Every
+-- functions of numbers in a row
+pub mod Each
+-- which segments Build's file has
+pub mod Extent
+-- the sections of Build's file hold the list's events
+pub mod Held
+-- the events of a sound list
+pub mod SoundEvents
+-- the sections of Build's file in a segment
+pub mod Segments
+-- what the sections of a segment hold
+pub mod Parts
+-- headers in the order of the rules, joined
+pub mod Linked
+-- the numbers of Build's sections keep the rules
+pub mod Numbers
+-- the sections of Build's file keep the rules
+pub mod BuiltRules
+-- any file that keeps the rules packs its segments
+pub mod Rival
+-- Build case by case
+pub mod Build
+-- unpackable segments
+pub mod Packable
+-- Build's packing is best
+pub mod Best
+-- Plan's counts
+pub mod Plan
+-- Build of what it is given, and any file that carries the same events
+pub mod Given
+-- demands 2 and 3
+pub mod Demands
+-- three laws of Build's file
+pub mod BuiltFile

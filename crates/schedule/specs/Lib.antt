@@ -1,0 +1,8 @@
+-- Definitions, in the order of document 01.
+pub mod Each  -- functions of numbers in a row
+pub mod Extent  -- which segments Build's file has
+pub mod SectionsOf  -- its sections: events and numbers
+pub mod Plan  -- Plan
+pub mod Build  -- Build
+pub mod Given  -- what the demands speak of
+pub mod Demands  -- demands 2 and 3 as one record type

@@ -1,0 +1,1 @@
+// Build and Plan as definitions (specs/), demands 2 and 3 proved of them (proofs/); no code.
