@@ -203,9 +203,10 @@ start-only base (a ∷ b ∷ bs) five bytes t =
 
 pub time-examples :
     (startBytes 49_273 45_900 ≡ 0xC0 ∷ 0x79 ∷ 0x12 ∷ 0x45 ∷ 0x00 ∷ [])
+    × (startBytes 49_271 (2 * 86_400 + 45_900) ≡ 0xC0 ∷ 0x79 ∷ 0x12 ∷ 0x45 ∷ 0x00 ∷ [])
     × (durationBytes 6_330 ≡ 0x01 ∷ 0x45 ∷ 0x30 ∷ [])
     × (timeOf 360_000 ≡ record { hours = 99; minutes = 59; seconds = 59 })
-time-examples = (refl, refl, refl)
+time-examples = (refl, refl, refl, refl)
 
 -- computed: what is no time. 24 hours, 60 minutes, 60 seconds, a digit above 9; no second; a day before the base day, 64 days after it
 pub time-refused :

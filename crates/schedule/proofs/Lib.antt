@@ -34,3 +34,7 @@ pub mod Given
 pub mod Demands
 -- three laws of Build's file
 pub mod BuiltFile
+-- the samples marked P, computed
+pub mod Samples
+-- the examples, computed
+pub mod Examples

@@ -5,12 +5,12 @@ use mathlib.Core.Bool.{Bool, not}
 use mathlib.Core.Logic.{_⊎_, inl, inr, ⊎-elim}
 use mathlib.Core.List.{List, [], _∷_}
 use mathlib.Core.Option.{none, some}
-use Prim.Native.Nat.{ℕ, _≤_, _<_}
+use Prim.Native.Nat.{suc, _/_, ℕ, _≤_, _<_}
 use native.Mathlib.Omega.{arith}
 use borrow.Author.Tests.{ne-eqb}
 use lib.Dec.{T, T-not}
 use Rattle.eit.specs.Sizes.{Sizes, room}
-use Rattle.eit.specs.Events.{Event}
+use Rattle.eit.specs.Events.{Event, rising}
 use Rattle.eit.proofs.Test.{le-or-lt}
 use Rattle.packing.specs.Greedy.{greedy, unpackable}
 use Rattle.packing.proofs.Greedy.{greedy-packable, packable, greedy-count}
@@ -19,8 +19,10 @@ use Rattle.sections.specs.Section.{eventSize}
 use Rattle.sections.specs.Count.{segmentEvents}
 use Rattle.schedule.specs.SectionsOf.{isUnpackable, lowestUnpackable}
 use Rattle.schedule.specs.Given.{EightHold}
+use Rattle.schedule.specs.Extent.{lastIndex}
+use Rattle.schedule.proofs.Every.{every-map}
 use Rattle.schedule.proofs.Each.{lowest-or}
-use Rattle.schedule.proofs.Extent.{indexOf}
+use Rattle.schedule.proofs.Extent.{indexOf, tables-few, last-most}
 use Rattle.schedule.proofs.SoundEvents.{EventFacts, SoundEvents}
 
 -- the test of a segment
@@ -44,17 +46,19 @@ module _ (sizes : Sizes) (es : List Event) (index : ℕ) where
       subst (λ (b : Bool). T (not b))
       (sym (test-is sizes es index ∙ greedy-packable eventSize (room sizes) 8 (segmentEvents index es) parts packing few)) tt
 
--- no event starts behind the last of the 512 segments
-beyond-none : (index : ℕ) (es : List Event) → 512 ≤ index → Every EventFacts es → segmentEvents index es ≡ []
-beyond-none index [] behind facts = refl
-beyond-none index (e ∷ es) behind facts =
-    let elsewhere : indexOf e ≡ index → ⊥ = λ here. omega (arith, facts .0 .start) in
-    rw (segmentEvents, ne-eqb (indexOf e) index elsewhere) (beyond-none index es behind (facts .1))
+-- behind the last event's segment there are no events
+beyond-none : (index last : ℕ) (es : List Event) → last < index → Every (λ (e : Event). indexOf e ≤ last) es
+    → segmentEvents index es ≡ []
+beyond-none index last [] behind most = refl
+beyond-none index last (e ∷ es) behind most =
+    let elsewhere : indexOf e ≡ index → ⊥ = λ here. omega arith in
+    rw (segmentEvents, ne-eqb (indexOf e) index elsewhere) (beyond-none index last es behind (most .1))
 
-beyond-packable : (sizes : Sizes) (index : ℕ) (es : List Event) → 512 ≤ index → Every EventFacts es
+beyond-packable : (sizes : Sizes) (index : ℕ) (es : List Event) → lastIndex 0 es < index → T (rising es)
     → T (not (isUnpackable sizes es index))
-beyond-packable sizes index es behind facts =
-    held-packable sizes es index ([], record { ordered = sym (beyond-none index es behind facts); allFit = tt }, omega arith)
+beyond-packable sizes index es behind rises =
+    let none-there : segmentEvents index es ≡ [] = beyond-none index (lastIndex 0 es) es behind (last-most 0 es rises) in
+    held-packable sizes es index ([], record { ordered = sym none-there; allFit = tt }, omega arith)
 
 -- no segment is unpackable, or one is and none before it
 pub packable-or : (sizes : Sizes) (es : List Event) → SoundEvents sizes es
@@ -63,10 +67,17 @@ pub packable-or : (sizes : Sizes) (es : List Event) → SoundEvents sizes es
     × ((lower : ℕ) → lower < index → T (not (isUnpackable sizes es lower))))
 unfolding lowestUnpackable
 packable-or sizes es facts =
+    let last : ℕ = lastIndex 0 es in
+    let few : last / 32 < 16 = tables-few es (every-map (λ (e : Event) (f : EventFacts e). f .start) es (facts .facts)) in
     ⊎-elim
-    (λ (ends, all). inl (ends, λ index. ⊎-elim (λ behind. beyond-packable sizes index es behind (facts .facts)) (λ within. all index (omega arith) (omega arith)) (le-or-lt 512 index)))
-    (λ (index, is, few, fails, before). inr (index, is, omega arith, fails, λ lower less. before lower (omega arith) less))
-    (lowest-or (isUnpackable sizes es) 0 512)
+    (λ (ends, all). inl (
+      ends,
+      λ index.
+          ⊎-elim (λ behind. beyond-packable sizes index es behind (facts .rises)) (λ within. all index (omega arith) (omega arith))
+          (le-or-lt (suc last) index),
+    ))
+    (λ (index, is, within, fails, before). inr (index, is, omega arith, fails, λ lower less. before lower (omega arith) less))
+    (lowest-or (isUnpackable sizes es) 0 (suc last))
 
 -- where no segment is unpackable there is no lowest
 pub lowest-none : (sizes : Sizes) (es : List Event) → ((index : ℕ) → T (not (isUnpackable sizes es index)))
@@ -74,4 +85,4 @@ pub lowest-none : (sizes : Sizes) (es : List Event) → ((index : ℕ) → T (no
 unfolding lowestUnpackable
 lowest-none sizes es fits =
     ⊎-elim (λ (ends, all). ends) (λ (index, is, few, fails, before). absurd (T-not (isUnpackable sizes es index) (fits index) fails))
-    (lowest-or (isUnpackable sizes es) 0 512)
+    (lowest-or (isUnpackable sizes es) 0 (suc (lastIndex 0 es)))

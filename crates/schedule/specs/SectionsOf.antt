@@ -13,7 +13,7 @@ use Rattle.sections.specs.Segment.{tableOf, firstSection}
 use Rattle.sections.specs.Section.{Header, Section, eventSize}
 use Rattle.sections.specs.Count.{segmentEvents}
 use Rattle.schedule.specs.Each.{each, lowest}
-use Rattle.schedule.specs.Extent.{tables, tableSegments, lastTable, lastTableIdOf, lastSegment}
+use Rattle.schedule.specs.Extent.{tableSegments, lastIndex, lastTable, lastTableIdOf, lastSegment}
 
 -- a segment has at most eight sections
 abbrev pub segmentMost : ℕ
@@ -24,10 +24,10 @@ unfoldable pub isUnpackable : Sizes → List Event → ℕ → Bool
 unfolding reach
 isUnpackable sizes es index = unpackable eventSize (room sizes) segmentMost (segmentEvents index es)
 
--- the lowest such segment index
+-- the lowest such segment index; behind the last event's segment there is none
 unfoldable pub lowestUnpackable : Sizes → List Event → Option ℕ
 unfolding lowest isUnpackable
-lowestUnpackable sizes es = lowest (isUnpackable sizes es) 0 (tables * tableSegments)
+lowestUnpackable sizes es = lowest (isUnpackable sizes es) 0 (suc (lastIndex 0 es))
 
 -- packing rule: each section takes as many of the segment's next events as fit. A segment without events is one section
 unfoldable pub packed : Sizes → List Event → List (List Event)
