@@ -1,6 +1,6 @@
 -- Boolean tests as facts: what a conjunction, a disjunction and a negation of tests say. Assumes nothing.
 use mathlib.Core.Bool.{Bool, true, false, not, _&&_, _||_}
-use mathlib.Core.Logic.{_⊎_, inl, inr}
+use mathlib.Core.Logic.{_⊎_, inl, inr, ⊎-elim}
 use mathlib.Core.Path.{_≡_, refl, sym, subst}
 use Prim.Native.Nat.{ℕ, _≤_, _<_}
 use native.Mathlib.Decide.{decLe}
@@ -73,6 +73,9 @@ eq-test m n e = subst (λ (k : ℕ). T (eqb m k)) e (eqb-refl m)
 
 pub ne-test : (m n : ℕ) → (m ≡ n → ⊥) → T (not (eqb m n))
 ne-test m n h = not-T (eqb m n) (λ e. h (eqb→eq m n e))
+
+pub eq-or-not : (m n : ℕ) → (m ≡ n) ⊎ (m ≡ n → ⊥)
+eq-or-not m n = ⊎-elim (λ t. inl (eqb→eq m n t)) (λ t. inr (λ e. T-not (eqb m n) t (eq-test m n e))) (test-or (eqb m n))
 
 pub ne-sym : (m n : ℕ) → T (not (eqb m n)) → T (not (eqb n m))
 ne-sym m n t = not-T (eqb n m) (λ e. T-not (eqb m n) t (subst (λ (k : ℕ). T (eqb m k)) (sym (eqb→eq n m e)) (eqb-refl m)))

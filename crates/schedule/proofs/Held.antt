@@ -7,7 +7,7 @@ use mathlib.Core.Logic.{⊎-elim}
 use mathlib.Core.List.{List, [], _∷_, _++_, flatten, append-nil, append-assoc}
 use Prim.Native.Nat.{ℕ, suc, _+_, _-_, _*_, _/_, _≤_, _<_}
 use native.Mathlib.Omega.{arith}
-use borrow.Author.Tests.{eq-eqb, ne-eqb, le-leb, lt-leb}
+use borrow.Author.Tests.{le-leb, lt-leb}
 use lib.Dec.{T, leb}
 use Rattle.eit.specs.Sizes.{Sizes, room}
 use Rattle.eit.specs.Events.{Event, rising}
@@ -20,42 +20,37 @@ use Rattle.sections.specs.Every.{Every}
 use Rattle.sections.specs.Segment.{firstSection}
 use Rattle.sections.specs.Section.{Section, sectionEvents, eventSize}
 use Rattle.sections.specs.Count.{segmentEvents}
+use Rattle.sections.proofs.Count.{events-more, events-same}
 use Rattle.schedule.specs.Each.{each}
 use Rattle.schedule.specs.Extent.{tableSegments, lastIndex, lastTable, lastSegment}
 use Rattle.schedule.specs.SectionsOf.{isUnpackable, packed, partsOf, numberedFrom, segmentPart, tablePart, sectionsOf}
 use Rattle.schedule.proofs.Every.{every-map}
 use Rattle.schedule.proofs.Each.{each-same, joined-split, joined-map}
-use Rattle.schedule.proofs.Extent.{indexOf, segment-in-table, last-most, segment-most}
+use Rattle.schedule.proofs.Extent.{startIndex, segment-in-table, last-most, segment-most}
 
 -- ---- the events of a list from a segment on
 
 abbrev eventsFrom : ℕ → List Event → List Event
 eventsFrom least [] = []
-eventsFrom least (e ∷ es) = elim (leb least (indexOf e)) [ true ↦ e ∷ eventsFrom least es | false ↦ eventsFrom least es ]
+eventsFrom least (e ∷ es) = elim (leb least (startIndex e)) [ true ↦ e ∷ eventsFrom least es | false ↦ eventsFrom least es ]
 
 module _ (least : ℕ) (e : Event) (es : List Event) where
-  from-more : least ≤ indexOf e → eventsFrom least (e ∷ es) ≡ e ∷ eventsFrom least es
-  from-more behind = rw (eventsFrom, le-leb least (indexOf e) behind)
+  from-more : least ≤ startIndex e → eventsFrom least (e ∷ es) ≡ e ∷ eventsFrom least es
+  from-more behind = rw (eventsFrom, le-leb least (startIndex e) behind)
 
-  from-same : indexOf e < least → eventsFrom least (e ∷ es) ≡ eventsFrom least es
-  from-same before = rw (eventsFrom, lt-leb least (indexOf e) before)
-
-  held-more : indexOf e ≡ least → segmentEvents least (e ∷ es) ≡ e ∷ segmentEvents least es
-  held-more here = rw (segmentEvents, eq-eqb (indexOf e) least here)
-
-  held-same : (indexOf e ≡ least → ⊥) → segmentEvents least (e ∷ es) ≡ segmentEvents least es
-  held-same elsewhere = rw (segmentEvents, ne-eqb (indexOf e) least elsewhere)
+  from-same : startIndex e < least → eventsFrom least (e ∷ es) ≡ eventsFrom least es
+  from-same before = rw (eventsFrom, lt-leb least (startIndex e) before)
 
 from-all : (es : List Event) → eventsFrom 0 es ≡ es
 from-all [] = refl
 from-all (e ∷ es) = from-more 0 e es (omega arith) ∙ ap (λ (fs : List Event). e ∷ fs) (from-all es)
 
-from-none : (least : ℕ) (es : List Event) → Every (λ (e : Event). indexOf e < least) es → eventsFrom least es ≡ []
+from-none : (least : ℕ) (es : List Event) → Every (λ (e : Event). startIndex e < least) es → eventsFrom least es ≡ []
 from-none least [] before = refl
 from-none least (e ∷ es) before = from-same least e es (before .0) ∙ from-none least es (before .1)
 
 -- where none is between two segments
-from-skip : (a b : ℕ) (es : List Event) → a ≤ b → Every (λ (e : Event). a ≤ indexOf e → b ≤ indexOf e) es
+from-skip : (a b : ℕ) (es : List Event) → a ≤ b → Every (λ (e : Event). a ≤ startIndex e → b ≤ startIndex e) es
     → eventsFrom a es ≡ eventsFrom b es
 from-skip a b [] early skipped = refl
 from-skip a b (e ∷ es) early skipped =
@@ -63,12 +58,12 @@ from-skip a b (e ∷ es) early skipped =
     ⊎-elim
     (λ behind. from-more a e es behind ∙ ap (λ (fs : List Event). e ∷ fs) rest ∙ sym (from-more b e es (skipped .0 behind)))
     (λ before. from-same a e es before ∙ rest ∙ sym (from-same b e es (omega arith)))
-    (le-or-lt a (indexOf e))
+    (le-or-lt a (startIndex e))
 
 none-held : (index s : ℕ) (es : List Event) → index < s / 10_800 → AllAfter s es → segmentEvents index es ≡ []
 none-held index s [] later after = refl
 none-held index s (e ∷ es) later after =
-    held-same index e es (λ here. omega (arith, after .0)) ∙ none-held index s es later (after .1)
+    events-same index e es (λ here. omega (arith, after .0)) ∙ none-held index s es later (after .1)
 
 -- in a list that rises a segment's events stand before those of later segments
 from-segment : (index : ℕ) (es : List Event) → T (rising es)
@@ -82,21 +77,21 @@ from-segment index (e ∷ es) rises =
     (λ here.
     from-more index e es behind
     ∙ ap (λ (fs : List Event). e ∷ fs) rest
-    ∙ ap₂ (λ (ds fs : List Event). ds ++ fs) (sym (held-more index e es (omega arith)))
+    ∙ ap₂ (λ (ds fs : List Event). ds ++ fs) (sym (events-more index e es (omega arith)))
     (sym (from-same (suc index) e es (omega arith))))
     (λ later.
     let empty : segmentEvents index es ≡ [] = none-held index (e .start) es later (rising-after e es rises) in
     from-more index e es behind
     ∙ ap (λ (fs : List Event). e ∷ fs) (rest ∙ ap (λ (ds : List Event). ds ++ eventsFrom (suc index) es) empty)
-    ∙ ap₂ (λ (ds fs : List Event). ds ++ fs) (sym (held-same index e es (λ here. omega arith) ∙ empty))
+    ∙ ap₂ (λ (ds fs : List Event). ds ++ fs) (sym (events-same index e es (λ here. omega arith) ∙ empty))
     (sym (from-more (suc index) e es later)))
-    (le-or-lt (indexOf e) index))
+    (le-or-lt (startIndex e) index))
     (λ before.
     from-same index e es before
     ∙ rest
-    ∙ ap₂ (λ (ds fs : List Event). ds ++ fs) (sym (held-same index e es (λ here. omega arith)))
+    ∙ ap₂ (λ (ds fs : List Event). ds ++ fs) (sym (events-same index e es (λ here. omega arith)))
     (sym (from-same (suc index) e es (omega arith))))
-    (le-or-lt index (indexOf e))
+    (le-or-lt index (startIndex e))
 
 -- ---- the events of segments and of tables in a row
 
@@ -115,9 +110,9 @@ module _ (es : List Event) (rises : T (rising es)) where
       let last : ℕ = lastSegment es table in
       let n : ℕ = suc (last - table * 32) in
       let inside : last / 32 ≡ table = segment-in-table es table in
-      let skips : (e : Event) → (indexOf e / 32 ≡ table → indexOf e ≤ last) → table * 32 + n ≤ indexOf e → suc table * 32 ≤ indexOf e =
+      let skips : (e : Event) → (startIndex e / 32 ≡ table → startIndex e ≤ last) → table * 32 + n ≤ startIndex e → suc table * 32 ≤ startIndex e =
       λ e most behind.
-      ⊎-elim (λ later. later) (λ within. absurd (omega (arith, most (omega arith)))) (le-or-lt (suc table * 32) (indexOf e)) in
+      ⊎-elim (λ later. later) (λ within. absurd (omega (arith, most (omega arith)))) (le-or-lt (suc table * 32) (startIndex e)) in
       joined-split segmentHeld (λ (k : ℕ). eventsFrom k es) (λ k. from-segment k es rises) (table * 32) n
       ∙ ap (λ (fs : List Event). tableHeld table ++ fs)
       (from-skip (table * 32 + n) (suc table * 32) es (omega arith)
@@ -129,7 +124,7 @@ module _ (es : List Event) (rises : T (rising es)) where
       let all : List Event = flatten (each tableHeld 0 (suc (lastTable es))) in
       let ends : eventsFrom ((0 + suc (lastTable es)) * 32) es ≡ [] =
       from-none ((0 + suc (lastTable es)) * 32) es
-      (every-map (λ (e : Event) (most : indexOf e ≤ lastIndex 0 es). omega arith) es (last-most 0 es rises)) in
+      (every-map (λ (e : Event) (most : startIndex e ≤ lastIndex 0 es). omega arith) es (last-most 0 es rises)) in
       sym (
       sym (from-all es)
       ∙ joined-split tableHeld (λ (k : ℕ). eventsFrom (k * 32) es) from-table 0 (suc (lastTable es))

@@ -7,7 +7,6 @@ use mathlib.Core.List.{List, [], _∷_}
 use mathlib.Core.Option.{none, some}
 use Prim.Native.Nat.{suc, _/_, ℕ, _≤_, _<_}
 use native.Mathlib.Omega.{arith}
-use borrow.Author.Tests.{ne-eqb}
 use lib.Dec.{T, T-not}
 use Rattle.eit.specs.Sizes.{Sizes, room}
 use Rattle.eit.specs.Events.{Event, rising}
@@ -17,12 +16,13 @@ use Rattle.packing.proofs.Greedy.{greedy-packable, packable, greedy-count}
 use Rattle.sections.specs.Every.{Every}
 use Rattle.sections.specs.Section.{eventSize}
 use Rattle.sections.specs.Count.{segmentEvents}
+use Rattle.sections.proofs.Count.{events-same}
 use Rattle.schedule.specs.SectionsOf.{isUnpackable, lowestUnpackable}
 use Rattle.schedule.specs.Given.{EightHold}
 use Rattle.schedule.specs.Extent.{lastIndex}
 use Rattle.schedule.proofs.Every.{every-map}
 use Rattle.schedule.proofs.Each.{lowest-or}
-use Rattle.schedule.proofs.Extent.{indexOf, tables-few, last-most}
+use Rattle.schedule.proofs.Extent.{startIndex, tables-few, last-most}
 use Rattle.schedule.proofs.SoundEvents.{EventFacts, SoundEvents}
 
 -- the test of a segment
@@ -47,12 +47,12 @@ module _ (sizes : Sizes) (es : List Event) (index : ℕ) where
       (sym (test-is sizes es index ∙ greedy-packable eventSize (room sizes) 8 (segmentEvents index es) parts packing few)) tt
 
 -- behind the last event's segment there are no events
-beyond-none : (index last : ℕ) (es : List Event) → last < index → Every (λ (e : Event). indexOf e ≤ last) es
+beyond-none : (index last : ℕ) (es : List Event) → last < index → Every (λ (e : Event). startIndex e ≤ last) es
     → segmentEvents index es ≡ []
 beyond-none index last [] behind most = refl
 beyond-none index last (e ∷ es) behind most =
-    let elsewhere : indexOf e ≡ index → ⊥ = λ here. omega arith in
-    rw (segmentEvents, ne-eqb (indexOf e) index elsewhere) (beyond-none index last es behind (most .1))
+    let elsewhere : startIndex e ≡ index → ⊥ = λ here. omega arith in
+    events-same index e es elsewhere ∙ beyond-none index last es behind (most .1)
 
 beyond-packable : (sizes : Sizes) (index : ℕ) (es : List Event) → lastIndex 0 es < index → T (rising es)
     → T (not (isUnpackable sizes es index))

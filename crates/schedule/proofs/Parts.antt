@@ -2,16 +2,15 @@
 -- the laws of greedy packing, said of sections. Assumes nothing.
 use mathlib.Core.Path.{_≡_, refl, ap}
 use mathlib.Core.Bool.{not}
-use mathlib.Core.Logic.{_⊎_, inl, inr, ⊎-elim}
+use mathlib.Core.Logic.{_⊎_, inl, inr}
 use mathlib.Core.List.{List, [], _∷_, flatten}
 use Prim.Native.Nat.{ℕ, suc, _+_, _≤_, _<_}
 use native.Mathlib.Omega.{arith}
-use lib.Dec.{T, eqb, eqb→eq}
+use lib.Dec.{T}
 use lib.ListN.{length}
 use Rattle.eit.specs.Sizes.{Sizes, sectionOverhead, room}
 use Rattle.eit.specs.Events.{Event}
 use Rattle.eit.specs.declared.Identity.{Identity}
-use Rattle.eit.proofs.Test.{test-or, true-is, false-is}
 use Rattle.packing.specs.Greedy.{NoneEmpty, AllFit, sizeOf, greedy, unpackable}
 use Rattle.packing.proofs.Greedy.{greedy-count, greedy-fits, greedy-nonempty}
 use Rattle.sections.specs.Every.{Every}
@@ -19,9 +18,10 @@ use Rattle.sections.specs.Segment.{firstSection}
 use Rattle.sections.specs.Section.{Section, eventSize, eventSizes, sectionSize}
 use Rattle.sections.specs.Rules.{EventRules}
 use Rattle.sections.specs.Count.{segmentEvents}
+use Rattle.sections.proofs.Count.{events-cases}
 use Rattle.schedule.specs.SectionsOf.{isUnpackable, packed, partsOf, headerOf, numberedFrom, segmentPart}
 use Rattle.schedule.proofs.Every.{every-map, every-parts}
-use Rattle.schedule.proofs.Extent.{indexOf}
+use Rattle.schedule.proofs.Extent.{startIndex}
 use Rattle.schedule.proofs.SoundEvents.{EventFacts}
 use Rattle.schedule.proofs.Held.{parts-events}
 
@@ -29,16 +29,13 @@ use Rattle.schedule.proofs.Held.{parts-events}
 
 -- an event that starts in a segment
 abbrev StartsIn : ℕ → Event → Type 0
-StartsIn index e = EventFacts e × (indexOf e ≡ index)
+StartsIn index e = EventFacts e × (startIndex e ≡ index)
 
 segment-starts : (index : ℕ) (es : List Event) → Every EventFacts es → Every (StartsIn index) (segmentEvents index es)
 segment-starts index [] facts = tt
 segment-starts index (e ∷ es) facts =
-    ⊎-elim
-    (λ here. rw (segmentEvents, true-is (eqb (indexOf e) index) here)
-    ((facts .0, eqb→eq (indexOf e) index here), segment-starts index es (facts .1)))
-    (λ elsewhere. rw (segmentEvents, false-is (eqb (indexOf e) index) elsewhere) (segment-starts index es (facts .1)))
-    (test-or (eqb (indexOf e) index))
+    let rest : Every (StartsIn index) (segmentEvents index es) = segment-starts index es (facts .1) in
+    events-cases index e es (Every (StartsIn index)) (λ here. ((facts .0, here), rest)) (λ elsewhere. rest)
 
 every-joined : {A : Type 0} (P : A → Type 0) (ps : List (List A)) → Every P (flatten ps) → Every (Every P) ps
 unfolding flatten

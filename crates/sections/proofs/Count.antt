@@ -1,7 +1,7 @@
 -- Counting in a segment from a file's bytes counts the sections with that segment's table and numbers, and these hold the events
 -- that start in it: the bytes of sections that keep the rules show these sections, and table and first section tell the index.
 -- Assumes nothing.
-use mathlib.Core.Path.{_≡_, refl, sym, ap, ap₂, _∙_}
+use mathlib.Core.Path.{_≡_, refl, sym, ap, ap₂, subst, _∙_}
 use mathlib.Core.Bool.{not, _&&_}
 use mathlib.Core.Logic.{_↔_, ⊎-elim}
 use Prim.Native.Nat.{ℕ, suc, _+_, _*_, _≤_, _<_}
@@ -14,7 +14,7 @@ use Rattle.eit.specs.Sizes.{Sizes}
 use Rattle.eit.specs.Limits.{baseMost}
 use Rattle.eit.specs.Events.{Event}
 use Rattle.eit.specs.declared.Identity.{Identity}
-use Rattle.eit.proofs.Test.{tests, and-parts, true-is, false-is, test-or, eq-test}
+use Rattle.eit.proofs.Test.{tests, and-parts, true-is, false-is, test-or, eq-test, eq-or-not}
 use Rattle.sections.specs.Every.{Every}
 use Rattle.sections.specs.Segment.{tableLeast, segmentIndex, tableOf, segmentOf, firstSection, firstOf}
 use Rattle.sections.specs.Section.{Header, Section, sectionEvents}
@@ -136,21 +136,28 @@ events-any-base base other file index k = same-events base other index k (cutFil
 -- ---- the events that start in a segment
 
 module _ (index : ℕ) (e : Event) (es : List Event) where
-  events-more : segmentIndex (e .start) ≡ index → segmentEvents index (e ∷ es) ≡ e ∷ segmentEvents index es
+  pub events-more : segmentIndex (e .start) ≡ index → segmentEvents index (e ∷ es) ≡ e ∷ segmentEvents index es
   events-more here = rw (segmentEvents, eq-eqb (segmentIndex (e .start)) index here)
 
-  events-same : (segmentIndex (e .start) ≡ index → ⊥) → segmentEvents index (e ∷ es) ≡ segmentEvents index es
+  pub events-same : (segmentIndex (e .start) ≡ index → ⊥) → segmentEvents index (e ∷ es) ≡ segmentEvents index es
   events-same elsewhere = rw (segmentEvents, ne-eqb (segmentIndex (e .start)) index elsewhere)
+
+  -- both cases at once
+  pub events-cases : (P : List Event → Type 0) → (segmentIndex (e .start) ≡ index → P (e ∷ segmentEvents index es))
+      → ((segmentIndex (e .start) ≡ index → ⊥) → P (segmentEvents index es))
+      → P (segmentEvents index (e ∷ es))
+  events-cases P more same =
+      ⊎-elim (λ here. subst P (sym (events-more here)) (more here))
+      (λ elsewhere. subst P (sym (events-same elsewhere)) (same elsewhere)) (eq-or-not (segmentIndex (e .start)) index)
 
 events-append : (index : ℕ) (ds es : List Event)
     → segmentEvents index (ds ++ es) ≡ segmentEvents index ds ++ segmentEvents index es
 events-append index [] es = refl
 events-append index (d ∷ ds) es =
-    ⊎-elim
-    (λ here. rw (segmentEvents, true-is (eqb (segmentIndex (d .start)) index) here)
-    (ap (λ (fs : List Event). d ∷ fs) (events-append index ds es)))
-    (λ elsewhere. rw (segmentEvents, false-is (eqb (segmentIndex (d .start)) index) elsewhere) (events-append index ds es))
-    (test-or (eqb (segmentIndex (d .start)) index))
+    let rest : segmentEvents index (ds ++ es) ≡ segmentEvents index ds ++ segmentEvents index es = events-append index ds es in
+    events-cases index d ds (λ (fs : List Event). segmentEvents index (d ∷ (ds ++ es)) ≡ fs ++ segmentEvents index es)
+    (λ here. events-more index d (ds ++ es) here ∙ ap (λ (fs : List Event). d ∷ fs) rest)
+    (λ elsewhere. events-same index d (ds ++ es) elsewhere ∙ rest)
 
 module _ (index : ℕ) (h : Header) where
   -- all events of a section in the segment start in it
