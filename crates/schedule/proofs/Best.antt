@@ -1,6 +1,6 @@
--- Build's packing is best: in every segment any other file with the same events has at least as many sections, and its first k hold at
--- most as many events. Where the segment has events by the laws of greedy packing; a segment without events that Build has lies before
--- one with events, and no file skips it. Assumes nothing.
+-- Build's packing is best: in every segment any other file with the same events has at least as many sections, and its first k
+-- hold at most as many events. Where the segment has events by the laws of greedy packing; a segment without events that Build
+-- has lies before one with events, and no file skips it. Assumes nothing.
 use mathlib.Core.Path.{_≡_, refl, sym, ap, subst, _∙_}
 use mathlib.Core.Bool.{not}
 use mathlib.Core.Logic.{inl, inr, ⊎-elim}
@@ -25,8 +25,8 @@ use Rattle.schedule.specs.Extent.{lastIndex, lastSegment, isInside}
 use Rattle.schedule.specs.SectionsOf.{isUnpackable, packed, partsOf, numberedFrom, segmentPart, sectionsOf}
 use Rattle.schedule.proofs.Extent.{segment-in-table, segment-held, table-held, inside-is, held-inside}
 use Rattle.schedule.proofs.SoundEvents.{SoundEvents}
-use Rattle.schedule.proofs.Parts.{parts-few}
 use Rattle.schedule.proofs.Segments.{sections-inside, sections-outside}
+use Rattle.schedule.proofs.Parts.{parts-few}
 use Rattle.schedule.proofs.BuiltRules.{built-rules}
 use Rattle.schedule.proofs.Rival.{partsIn, joined-parts, segment-packing, first-held}
 

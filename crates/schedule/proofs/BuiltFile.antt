@@ -1,5 +1,6 @@
--- Three laws of Build's file: it depends on the events alone, not on how records and pools hold them; so Read of it, built again under
--- the identity read, gives the same bytes; and its length is 18 bytes for each section and the bytes of the events. Assumes nothing.
+-- Three laws of Build's file: it depends on the events alone, not on how records and pools hold them; its length is 18 bytes
+-- for each section and the bytes of the events; and Read of it, built again under the identity read, gives the same bytes.
+-- Assumes nothing.
 use mathlib.Core.Path.{_≡_, refl, sym, ap, _∙_}
 use mathlib.Core.Logic.{⊎-elim}
 use mathlib.Core.List.{List, [], _∷_, _++_}
@@ -7,7 +8,7 @@ use Prim.Native.Nat.{ℕ, _+_, _*_}
 use native.Mathlib.Omega.{arith}
 use lib.Dec.{T}
 use lib.ListN.{length}
-use Rattle.eit.specs.Sizes.{Sizes, broadcast, sectionOverhead}
+use Rattle.eit.specs.Sizes.{Sizes, sectionOverhead}
 use Rattle.eit.specs.Limits.{baseMost, versionMost}
 use Rattle.eit.specs.Pools.{Pools}
 use Rattle.eit.specs.Records.{EventList}
@@ -19,13 +20,15 @@ use Rattle.sections.specs.Section.{Section, eventSizes, sectionEvents, sectionS
 use Rattle.sections.specs.Decode.{cutSections}
 use Rattle.sections.specs.Places.{filePools}
 use Rattle.sections.specs.Read.{Answer, Reading, read, listOf}
+use Rattle.sections.specs.Exact.{RecordBuffer}
 use Rattle.sections.proofs.Exact.{cut-sections-back}
 use Rattle.sections.proofs.FileSound.{accepted-events}
 use Rattle.schedule.specs.Build.{Built, buildEvents, build, fileOf}
 use Rattle.schedule.specs.Given.{Given, built, events, Carries}
+use Rattle.schedule.specs.Demands.{DemandsFor}
 use Rattle.schedule.proofs.Build.{build-base, build-version, build-sound, written-fits}
-use Rattle.schedule.proofs.Given.{ownSections, own-rules, own-events, writes, rival-events}
-use Rattle.schedule.proofs.Demands.{demands}
+use Rattle.schedule.proofs.Given.{LegalSizes, ownSections, own-rules, own-events, writes, rival-events}
+use Rattle.schedule.proofs.Demands.{demands-for}
 
 -- Build of two sound lists with the same events is the same, for every base day, identity and output
 pub events-alone : (sizes : Sizes) (p q : Pools) (list other : EventList) (base : ℕ) (identity : Identity) (output : List ℕ)
@@ -42,21 +45,6 @@ events-alone sizes p q list other base identity output is also same =
     (λ above. build-base sizes p list base identity output above ∙ sym (build-base sizes q other base identity output above))
     (le-or-lt base baseMost)
 
--- Read of a built file, built again under the identity read, gives the same answer and the same output
-module _ (g : Given) (output buffer series : List ℕ) (zero : built g output .number ≡ 0) (size : length buffer ≡ 12_288) where
-  pub built-again : let r = read broadcast (g .base) (fileOf (built g output)) buffer in
-      build broadcast (filePools (fileOf (built g output)) series) (listOf r) (g .base) (r .answer .identity) output ≡ built g output
-  built-again =
-      let file : List ℕ = fileOf (built g output) in
-      let r : Reading = read broadcast (g .base) file buffer in
-      let c : Carries g file = demands .built-carries g output zero in
-      let reads : r .answer .number ≡ 0 = c .accepted buffer size in
-      ap (λ (i : Identity). build broadcast (filePools file series) (listOf r) (g .base) i output)
-      (ap (λ (a : Answer). a .identity) (demands .built-read g output buffer zero size))
-      ∙ events-alone broadcast (filePools file series) (g .pools) (listOf r) (g .list) (g .base) (g .identity) output
-      (demands .accepted-sound (g .base) file series buffer (c .bytes) (c .accepted) size) (g .isSound)
-      (accepted-events broadcast (g .base) file buffer series (c .bytes) reads ∙ rival-events g file c)
-
 -- ---- length
 
 sizes-append : (es fs : List Event) → eventSizes (es ++ fs) ≡ eventSizes es + eventSizes fs
@@ -68,19 +56,35 @@ unfolding sectionEvents
 sizes-split [] = refl
 sizes-split (s ∷ ss) = omega (arith, sizes-split ss, sizes-append (s .events) (sectionEvents ss))
 
--- 18 × sections + the events' bytes
-pub built-bytes : (g : Given) (output : List ℕ) → built g output .number ≡ 0
-    → built g output .value ≡ 18 * length (cutSections (g .base) (fileOf (built g output))) + eventSizes (events g)
-built-bytes g output zero =
-    let (fits, is, enough, file) = writes g output zero in
-    let ss : List Section = ownSections g in
-    let shown : cutSections (g .base) (fileOf (built g output)) ≡ ss =
-    ap (cutSections (g .base)) file
-    ∙ cut-sections-back broadcast (g .base) (omega arith) (g .legalBase) (g .identity) ss (own-rules g fits) in
-    omega (
-      arith,
-      ap (λ (b : Built). b .value) (is ∙ written-fits (g .base) ss output enough),
-      sizes-split ss,
-      ap length shown,
-      ap eventSizes (own-events g fits),
-    )
+module _ (sizes : Sizes) (legal : LegalSizes sizes) (g : Given sizes) (output : List ℕ) (zero : built g output .number ≡ 0) where
+  -- the file's length is 18 × sections + the events' bytes
+  pub built-bytes : built g output .value
+      ≡ 18 * length (cutSections (g .base) (fileOf (built g output))) + eventSizes (events g)
+  built-bytes =
+      let (fits, is, enough, file) = writes sizes legal g output zero in
+      let ss : List Section = ownSections sizes legal g in
+      let shown : cutSections (g .base) (fileOf (built g output)) ≡ ss =
+      ap (cutSections (g .base)) file
+      ∙ cut-sections-back sizes (g .base) (legal .most) (g .legalBase) (g .identity) ss (own-rules sizes legal g fits) in
+      omega (
+        arith,
+        ap (λ (b : Built). b .value) (is ∙ written-fits (g .base) ss output enough),
+        sizes-split ss,
+        ap length shown,
+        ap eventSizes (own-events sizes legal g fits),
+      )
+
+  -- Read of the file, built again under the identity read, gives the same answer and the same output
+  pub built-again : (buffer series : List ℕ) → RecordBuffer sizes buffer
+      → let r = read sizes (g .base) (fileOf (built g output)) buffer in
+      build sizes (filePools (fileOf (built g output)) series) (listOf r) (g .base) (r .answer .identity) output ≡ built g output
+  built-again buffer series size =
+      let all : DemandsFor sizes = demands-for sizes legal in
+      let file : List ℕ = fileOf (built g output) in
+      let r : Reading = read sizes (g .base) file buffer in
+      let c : Carries g file = all .built-carries g output zero in
+      ap (λ (i : Identity). build sizes (filePools file series) (listOf r) (g .base) i output)
+      (ap (λ (a : Answer). a .identity) (all .built-read g output buffer zero size))
+      ∙ events-alone sizes (filePools file series) (g .pools) (listOf r) (g .list) (g .base) (g .identity) output
+      (all .accepted-sound (g .base) file series buffer (c .bytes) (c .accepted) size) (g .isSound)
+      (accepted-events sizes (g .base) file buffer series (c .bytes) (c .accepted buffer size) ∙ rival-events sizes legal g file c)

@@ -1,5 +1,5 @@
--- The sections of Build's file keep the rules of a file, if no segment is unpackable: numbering by Numbers, events and sizes by Parts,
--- and what is said of all events by Held. Assumes nothing.
+-- The sections of Build's file keep the rules of a file, if no segment is unpackable: numbering by Numbers, events and sizes by
+-- Parts, and what is said of all events by Held. Assumes nothing.
 use mathlib.Core.Path.{_≡_}
 use mathlib.Core.Bool.{not}
 use mathlib.Core.List.{List, [], _∷_}
@@ -9,15 +9,15 @@ use lib.Dec.{T}
 use Rattle.eit.specs.Sizes.{Sizes, sectionOverhead}
 use Rattle.eit.specs.Events.{Event}
 use Rattle.eit.specs.declared.Identity.{Identity}
-use Rattle.sections.specs.Every.{Every}
 use Rattle.sections.specs.Section.{Section, sectionSize}
+use Rattle.sections.specs.Every.{Every}
 use Rattle.sections.specs.Rules.{IdentityRules, HeaderRules, EventRules, Alone, SectionRules, Rules}
 use Rattle.schedule.specs.Extent.{lastTableIdOf}
 use Rattle.schedule.specs.SectionsOf.{isUnpackable, sectionsOf}
 use Rattle.schedule.proofs.Every.{every-map}
 use Rattle.schedule.proofs.Extent.{tables-few}
-use Rattle.schedule.proofs.SoundEvents.{EventFacts, SoundEvents}
 use Rattle.schedule.proofs.Held.{sections-events}
+use Rattle.schedule.proofs.SoundEvents.{EventFacts, SoundEvents}
 use Rattle.schedule.proofs.Parts.{parts-filled, part-rules, part-sizes}
 use Rattle.schedule.proofs.Numbers.{sections-every, headers-keep, empty-alone, headers-ordered}
 

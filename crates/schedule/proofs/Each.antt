@@ -10,8 +10,8 @@ use lib.Dec.{T}
 use lib.ListN.{length, getD}
 use Rattle.eit.proofs.Test.{test-or, true-is, false-is, le-or-lt}
 use Rattle.sections.specs.Every.{Every}
-use Rattle.schedule.proofs.Every.{every-append}
 use Rattle.schedule.specs.Each.{each, lowest}
+use Rattle.schedule.proofs.Every.{every-append}
 
 module _ {A : Type 0} where
   pub each-length : (f : ℕ → A) (least n : ℕ) → length (each f least n) ≡ n

@@ -1,11 +1,11 @@
 -- The examples of specs/Examples.antt hold: each is computed. Assumes nothing.
 use mathlib.Core.Path.{refl}
+use Rattle.eit.specs.Crc.{crc32}
 use Rattle.eit.specs.Chain.{isChain}
 use Rattle.eit.specs.Pools.{choose}
 use Rattle.eit.specs.Records.{recordsOf}
 use Rattle.eit.specs.Events.{follows}
 use Rattle.eit.specs.Sound.{sound, eventsOf}
-use Rattle.eit.specs.Crc.{crc32}
 use Rattle.script.specs.Form.{formOf}
 use Rattle.script.specs.Struck.{unstruckIn}
 use Rattle.script.specs.Edit.{edit}
@@ -24,6 +24,7 @@ examples =
       gap-ids = refl;
       gap-plan = refl;
       gap-build = refl;
+      record-buffer = refl;
       room-left = refl;
       byte-short = refl;
       unsound-plan = refl;

@@ -4,35 +4,37 @@ use mathlib.Core.Path.{_≡_, refl, sym, ap, subst, _∙_}
 use mathlib.Core.Bool.{not}
 use mathlib.Core.Logic.{_⊎_, inl, inr, ⊎-elim}
 use mathlib.Core.List.{List, []}
-use Prim.Native.Nat.{ℕ, _≤_, _<_}
+use Prim.Native.Nat.{ℕ, _*_, _≤_, _<_}
 use native.Mathlib.Omega.{arith}
 use lib.Dec.{T}
 use lib.ListN.{length, replicate, length-replicate}
-use Rattle.eit.specs.Sizes.{broadcast}
+use Rattle.eit.specs.Sizes.{Sizes, sectionOverhead}
 use Rattle.eit.specs.Fields.{Bytes}
+use Rattle.eit.specs.Records.{recordSize}
 use Rattle.eit.specs.Events.{Event}
 use Rattle.eit.proofs.Test.{le-or-lt}
 use Rattle.eit.proofs.SameEvent.{same-lists}
 use Rattle.sections.specs.Section.{Section, sectionEvents, sectionSizes}
 use Rattle.sections.specs.Encode.{fileBytes}
-use Rattle.sections.specs.Decode.{cutSections}
 use Rattle.sections.specs.Rules.{Rules}
+use Rattle.sections.specs.Decode.{cutSections}
 use Rattle.sections.specs.Count.{firstSections, segmentSections, sectionsCounted, eventsCounted}
 use Rattle.sections.specs.Places.{filePools}
 use Rattle.sections.specs.Read.{Answer, checkFile, read, listOf}
-use Rattle.sections.proofs.Count.{sections-counted, events-counted}
-use Rattle.sections.proofs.Accepted.{accepted-check}
+use Rattle.sections.specs.Exact.{Accepted}
 use Rattle.sections.proofs.Exact.{accepted-rules, file-bytes, cut-sections-back, follows-accepted}
+use Rattle.sections.proofs.Accepted.{accepted-check}
 use Rattle.sections.proofs.FileSound.{accepted-sound, accepted-events}
+use Rattle.sections.proofs.Count.{sections-counted, events-counted}
 use Rattle.schedule.specs.SectionsOf.{isUnpackable, sectionsOf}
 use Rattle.schedule.specs.Build.{Built, refusal, written, buildEvents, fileOf}
-use Rattle.schedule.specs.Given.{Given, built, events, Accepted, Carries, EightHold}
-use Rattle.schedule.proofs.SoundEvents.{SoundEvents, sound-events}
+use Rattle.schedule.specs.Given.{Given, built, events, Carries, EightHold}
 use Rattle.schedule.proofs.Held.{sections-events}
-use Rattle.schedule.proofs.Rival.{segment-eight-hold}
-use Rattle.schedule.proofs.Packable.{packable-or}
+use Rattle.schedule.proofs.SoundEvents.{SoundEvents, sound-events}
 use Rattle.schedule.proofs.BuiltRules.{built-rules}
+use Rattle.schedule.proofs.Rival.{segment-eight-hold}
 use Rattle.schedule.proofs.Build.{build-sound, events-refused, events-written, written-short, written-file}
+use Rattle.schedule.proofs.Packable.{packable-or}
 
 -- a record buffer of any length
 some-buffer : (n : ℕ) → (buffer : List ℕ) × (length buffer ≡ n)
@@ -40,52 +42,57 @@ some-buffer n = (replicate n 0, length-replicate {A = ℕ} n 0)
 
 -- ---- accepted files
 
-module _ (base : ℕ) (file : List ℕ) (bytes : Bytes file) (accepted : Accepted base file) where
-  pub accepted-number : checkFile broadcast base file .number ≡ 0
-  accepted-number = accepted-check broadcast base file .0 accepted
+module _ (sizes : Sizes) (base : ℕ) (file : List ℕ) (bytes : Bytes file) (accepted : Accepted sizes base file) where
+  pub accepted-number : checkFile sizes base file .number ≡ 0
+  accepted-number = accepted-check sizes base file .0 accepted
 
-  pub shown-rules : Rules broadcast (checkFile broadcast base file .identity) (cutSections base file) × (fileBytes base (cutSections base file) ≡ file)
-  shown-rules = accepted-rules broadcast base file bytes accepted-number
+  pub shown-rules : Rules sizes (checkFile sizes base file .identity) (cutSections base file) × (fileBytes base (cutSections base file) ≡ file)
+  shown-rules = accepted-rules sizes base file bytes accepted-number
 
 -- ---- Build of what it is given
 
-module _ (g : Given) where
-  pub facts : SoundEvents broadcast (events g)
-  facts = sound-events (g .pools) (g .dayBytes) (g .seriesBytes) broadcast (g .list) (g .isSound)
+-- section sizes for which the demands hold: a section without events fits, and 12 bits of section_length reach
+pub record LegalSizes (sizes : Sizes) : Type 0 where
+  pub least : sectionOverhead ≤ sizes .sectionBytes
+  pub most : sizes .sectionBytes ≤ 4_096
+
+module _ (sizes : Sizes) (legal : LegalSizes sizes) (g : Given sizes) where
+  pub facts : SoundEvents sizes (events g)
+  facts = sound-events (g .pools) (g .dayBytes) (g .seriesBytes) sizes (g .list) (g .isSound)
 
   abbrev pub ownSections : List Section
-  ownSections = sectionsOf broadcast (g .identity) (events g)
+  ownSections = sectionsOf sizes (g .identity) (events g)
 
   -- the file is written where the output is long enough, for every output; or every output is answered with 10
-  pub build-or : (((index : ℕ) → T (not (isUnpackable broadcast (events g) index)))
+  pub build-or : (((index : ℕ) → T (not (isUnpackable sizes (events g) index)))
       × ((output : List ℕ) → built g output ≡ written (g .base) ownSections output))
-      ⊎ ((index : ℕ) × (index < 512) × T (isUnpackable broadcast (events g) index)
-      × ((lower : ℕ) → lower < index → T (not (isUnpackable broadcast (events g) lower)))
+      ⊎ ((index : ℕ) × (index < 512) × T (isUnpackable sizes (events g) index)
+      × ((lower : ℕ) → lower < index → T (not (isUnpackable sizes (events g) lower)))
       × ((output : List ℕ) → built g output ≡ refusal 10 index output))
   build-or =
-      let sounds : (output : List ℕ) → built g output ≡ buildEvents broadcast (g .base) (g .identity) (events g) output =
-      λ output. build-sound broadcast (g .pools) (g .list) (g .base) (g .identity) output (g .legalBase) (g .legalIdentity .version) (g .isSound) in
+      let sounds : (output : List ℕ) → built g output ≡ buildEvents sizes (g .base) (g .identity) (events g) output =
+      λ output. build-sound sizes (g .pools) (g .list) (g .base) (g .identity) output (g .legalBase) (g .legalIdentity .version) (g .isSound) in
       ⊎-elim
-      (λ (ends, fits). inl (fits, λ output. sounds output ∙ events-written broadcast (g .base) (g .identity) (events g) output ends))
+      (λ (ends, fits). inl (fits, λ output. sounds output ∙ events-written sizes (g .base) (g .identity) (events g) output ends))
       (λ (index, lowest, few, fails, before). inr (
         index,
         few,
         fails,
         before,
-        λ output. sounds output ∙ events-refused broadcast (g .base) (g .identity) (events g) output index lowest,
+        λ output. sounds output ∙ events-refused sizes (g .base) (g .identity) (events g) output index lowest,
       ))
-      (packable-or broadcast (events g) facts)
+      (packable-or sizes (events g) facts)
 
   -- ---- the file, where no segment is unpackable
 
   abbrev pub Fits : Type 0
-  Fits = (index : ℕ) → T (not (isUnpackable broadcast (events g) index))
+  Fits = (index : ℕ) → T (not (isUnpackable sizes (events g) index))
 
-  pub own-rules : Fits → Rules broadcast (g .identity) ownSections
-  own-rules fits = built-rules broadcast (g .identity) (events g) (omega arith) (g .legalIdentity) facts fits
+  pub own-rules : Fits → Rules sizes (g .identity) ownSections
+  own-rules fits = built-rules sizes (g .identity) (events g) (legal .least) (g .legalIdentity) facts fits
 
   pub own-events : Fits → sectionEvents ownSections ≡ events g
-  own-events fits = sections-events broadcast (g .identity) (events g) (facts .rises) fits
+  own-events fits = sections-events sizes (g .identity) (events g) (facts .rises) fits
 
   abbrev pub ownFile : List ℕ
   ownFile = fileBytes (g .base) ownSections
@@ -93,30 +100,30 @@ module _ (g : Given) where
   pub own-carries : Fits → Carries g ownFile
   own-carries fits =
       let rules = own-rules fits in
-      let accepted : Accepted (g .base) ownFile =
-      accepted-check broadcast (g .base) ownFile .1
-      (ap (λ (a : Answer). a .number) (follows-accepted broadcast (g .base) (omega arith) (g .legalBase) (g .identity) ownSections rules)) in
-      let bytes : Bytes ownFile = file-bytes broadcast (g .base) (omega arith) (g .legalBase) (g .identity) ownSections rules in
+      let accepted : Accepted sizes (g .base) ownFile =
+      accepted-check sizes (g .base) ownFile .1
+      (ap (λ (a : Answer). a .number) (follows-accepted sizes (g .base) (legal .most) (g .legalBase) (g .identity) ownSections rules)) in
+      let bytes : Bytes ownFile = file-bytes sizes (g .base) (legal .most) (g .legalBase) (g .identity) ownSections rules in
       record {
         bytes = bytes;
         accepted = accepted;
         sameEvents = λ buffer size.
-            same-lists broadcast (filePools ownFile []) (g .pools) (listOf (read broadcast (g .base) ownFile buffer)) (g .list)
-            (accepted-sound broadcast (g .base) ownFile buffer [] bytes (accepted buffer size)) (g .isSound) .0
-            (accepted-events broadcast (g .base) ownFile buffer [] bytes (accepted buffer size)
-            ∙ ap sectionEvents (cut-sections-back broadcast (g .base) (omega arith) (g .legalBase) (g .identity) ownSections rules)
+            same-lists sizes (filePools ownFile []) (g .pools) (listOf (read sizes (g .base) ownFile buffer)) (g .list)
+            (accepted-sound sizes (g .base) ownFile buffer [] bytes (accepted buffer size)) (g .isSound) .0
+            (accepted-events sizes (g .base) ownFile buffer [] bytes (accepted buffer size)
+            ∙ ap sectionEvents (cut-sections-back sizes (g .base) (legal .most) (g .legalBase) (g .identity) ownSections rules)
             ∙ own-events fits);
       }
 
   -- its sections and events, counted
   pub own-counted : Fits → (index : ℕ) → sectionsCounted (g .base) ownFile index ≡ length (segmentSections index ownSections)
   own-counted fits index =
-      sections-counted broadcast (g .base) (omega arith) (g .legalBase) (g .identity) ownSections (own-rules fits) index
+      sections-counted sizes (g .base) (legal .most) (g .legalBase) (g .identity) ownSections (own-rules fits) index
 
   pub own-held : Fits → (index k : ℕ)
       → eventsCounted (g .base) ownFile index k ≡ length (sectionEvents (firstSections index k ownSections))
   own-held fits index k =
-      events-counted broadcast (g .base) (omega arith) (g .legalBase) (g .identity) ownSections (own-rules fits) index k
+      events-counted sizes (g .base) (legal .most) (g .legalBase) (g .identity) ownSections (own-rules fits) index k
 
   -- what Build that succeeds has written
   pub writes : (output : List ℕ) → built g output .number ≡ 0
@@ -134,21 +141,21 @@ module _ (g : Given) where
   -- ---- a file that carries the events
 
   module _ (file : List ℕ) (c : Carries g file) where
-    pub rival-rules : Rules broadcast (checkFile broadcast (g .base) file .identity) (cutSections (g .base) file)
-    rival-rules = shown-rules (g .base) file (c .bytes) (c .accepted) .0
+    pub rival-rules : Rules sizes (checkFile sizes (g .base) file .identity) (cutSections (g .base) file)
+    rival-rules = shown-rules sizes (g .base) file (c .bytes) (c .accepted) .0
 
     pub rival-events : sectionEvents (cutSections (g .base) file) ≡ events g
     rival-events =
-        let (buffer, size) = some-buffer 12_288 in
-        let reads : read broadcast (g .base) file buffer .answer .number ≡ 0 = c .accepted buffer size in
-        sym (accepted-events broadcast (g .base) file buffer [] (c .bytes) reads)
-        ∙ same-lists broadcast (filePools file []) (g .pools) (listOf (read broadcast (g .base) file buffer)) (g .list)
-        (accepted-sound broadcast (g .base) file buffer [] (c .bytes) reads) (g .isSound) .1 (c .sameEvents buffer size)
+        let (buffer, size) = some-buffer (sizes .eventLimit * recordSize) in
+        let reads : read sizes (g .base) file buffer .answer .number ≡ 0 = c .accepted buffer size in
+        sym (accepted-events sizes (g .base) file buffer [] (c .bytes) reads)
+        ∙ same-lists sizes (filePools file []) (g .pools) (listOf (read sizes (g .base) file buffer)) (g .list)
+        (accepted-sound sizes (g .base) file buffer [] (c .bytes) reads) (g .isSound) .1 (c .sameEvents buffer size)
 
-    pub rival-eight : (index : ℕ) → EightHold broadcast (events g) index
+    pub rival-eight : (index : ℕ) → EightHold sizes (events g) index
     rival-eight index =
-        subst (λ (es : List Event). EightHold broadcast es index) rival-events
-        (segment-eight-hold broadcast (checkFile broadcast (g .base) file .identity) (cutSections (g .base) file) rival-rules index)
+        subst (λ (es : List Event). EightHold sizes es index) rival-events
+        (segment-eight-hold sizes (checkFile sizes (g .base) file .identity) (cutSections (g .base) file) rival-rules index)
 
     pub rival-counted : (index : ℕ)
         → sectionsCounted (g .base) file index ≡ length (segmentSections index (cutSections (g .base) file))

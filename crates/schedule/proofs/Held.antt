@@ -1,6 +1,6 @@
--- The sections of Build's file hold the list's events, all and in their order, if no segment is unpackable: in a list that rises, a
--- segment's events stand together, and behind each table's last segment none is left. By induction over the events, then over the
--- segments and the tables. Assumes nothing.
+-- The sections of Build's file hold the list's events, all and in their order, if no segment is unpackable: in a list that
+-- rises, a segment's events stand together, and behind each table's last segment none is left. By induction over the events,
+-- then over the segments and the tables. Assumes nothing.
 use mathlib.Core.Path.{_≡_, refl, sym, ap, ap₂, _∙_}
 use mathlib.Core.Bool.{true, false, not}
 use mathlib.Core.Logic.{⊎-elim}
@@ -16,9 +16,9 @@ use Rattle.eit.proofs.Test.{le-or-lt}
 use Rattle.eit.proofs.Events.{AllAfter, rising-rest, rising-after}
 use Rattle.packing.specs.Greedy.{joined, greedy, unpackable}
 use Rattle.packing.proofs.Greedy.{packable}
-use Rattle.sections.specs.Every.{Every}
 use Rattle.sections.specs.Segment.{firstSection}
 use Rattle.sections.specs.Section.{Section, sectionEvents, eventSize}
+use Rattle.sections.specs.Every.{Every}
 use Rattle.sections.specs.Count.{segmentEvents}
 use Rattle.sections.proofs.Count.{events-more, events-same}
 use Rattle.schedule.specs.Each.{each}

@@ -11,16 +11,16 @@ use Rattle.eit.specs.Events.{Event}
 use Rattle.eit.specs.declared.Identity.{Identity}
 use Rattle.eit.proofs.Test.{le-or-lt}
 use Rattle.packing.specs.Greedy.{NoneEmpty}
-use Rattle.sections.specs.Every.{Every}
 use Rattle.sections.specs.Segment.{firstSection, firstOf}
 use Rattle.sections.specs.Section.{Header, Section, headersOf}
+use Rattle.sections.specs.Every.{Every}
 use Rattle.sections.specs.Rules.{HeaderRules, Alone, Next, Ordered}
 use Rattle.schedule.specs.Extent.{lastTable, lastTableIdOf, lastSegment}
-use Rattle.schedule.specs.SectionsOf.{partsOf, segmentLast, tableLast, headerOf}
-use Rattle.schedule.specs.SectionsOf.{numberedFrom, segmentPart, tablePart, sectionsOf}
-use Rattle.schedule.proofs.Parts.{OneOrFilled, parts-some, parts-few}
+use Rattle.schedule.specs.SectionsOf.{partsOf, segmentLast, tableLast, headerOf, numberedFrom, segmentPart, tablePart}
+use Rattle.schedule.specs.SectionsOf.{sectionsOf}
 use Rattle.schedule.proofs.Each.{joined-every}
 use Rattle.schedule.proofs.Extent.{segment-in-table}
+use Rattle.schedule.proofs.Parts.{OneOrFilled, parts-some, parts-few}
 use Rattle.schedule.proofs.Linked.{Linked, one, more, linked-ordered, row-linked}
 
 module _ (sizes : Sizes) (identity : Identity) (es : List Event) where

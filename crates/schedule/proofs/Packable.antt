@@ -1,5 +1,5 @@
--- A segment is unpackable exactly if no eight sections hold its events; and of a sound list either no segment is, or there is a lowest
--- one. By the laws of greedy packing. Assumes nothing.
+-- A segment is unpackable exactly if no eight sections hold its events; and of a sound list either no segment is, or there is a
+-- lowest one. By the laws of greedy packing. Assumes nothing.
 use mathlib.Core.Path.{_≡_, refl, sym, subst, _∙_}
 use mathlib.Core.Bool.{Bool, not}
 use mathlib.Core.Logic.{_⊎_, inl, inr, ⊎-elim}
@@ -13,13 +13,13 @@ use Rattle.eit.specs.Events.{Event, rising}
 use Rattle.eit.proofs.Test.{le-or-lt}
 use Rattle.packing.specs.Greedy.{greedy, unpackable}
 use Rattle.packing.proofs.Greedy.{greedy-packable, packable, greedy-count}
-use Rattle.sections.specs.Every.{Every}
 use Rattle.sections.specs.Section.{eventSize}
+use Rattle.sections.specs.Every.{Every}
 use Rattle.sections.specs.Count.{segmentEvents}
 use Rattle.sections.proofs.Count.{events-same}
+use Rattle.schedule.specs.Extent.{lastIndex}
 use Rattle.schedule.specs.SectionsOf.{isUnpackable, lowestUnpackable}
 use Rattle.schedule.specs.Given.{EightHold}
-use Rattle.schedule.specs.Extent.{lastIndex}
 use Rattle.schedule.proofs.Every.{every-map}
 use Rattle.schedule.proofs.Each.{lowest-or}
 use Rattle.schedule.proofs.Extent.{startIndex, tables-few, last-most}

@@ -1,5 +1,5 @@
--- The sections of a segment that is not unpackable hold events that start in it, fit, and are not empty where the segment has events:
--- the laws of greedy packing, said of sections. Assumes nothing.
+-- The sections of a segment that is not unpackable hold events that start in it, fit, and are not empty where the segment has
+-- events: the laws of greedy packing, said of sections. Assumes nothing.
 use mathlib.Core.Path.{_≡_, refl, ap}
 use mathlib.Core.Bool.{not}
 use mathlib.Core.Logic.{_⊎_, inl, inr}
@@ -13,17 +13,17 @@ use Rattle.eit.specs.Events.{Event}
 use Rattle.eit.specs.declared.Identity.{Identity}
 use Rattle.packing.specs.Greedy.{NoneEmpty, AllFit, sizeOf, greedy, unpackable}
 use Rattle.packing.proofs.Greedy.{greedy-count, greedy-fits, greedy-nonempty}
-use Rattle.sections.specs.Every.{Every}
 use Rattle.sections.specs.Segment.{firstSection}
 use Rattle.sections.specs.Section.{Section, eventSize, eventSizes, sectionSize}
+use Rattle.sections.specs.Every.{Every}
 use Rattle.sections.specs.Rules.{EventRules}
 use Rattle.sections.specs.Count.{segmentEvents}
 use Rattle.sections.proofs.Count.{events-cases}
 use Rattle.schedule.specs.SectionsOf.{isUnpackable, packed, partsOf, headerOf, numberedFrom, segmentPart}
 use Rattle.schedule.proofs.Every.{every-map, every-parts}
 use Rattle.schedule.proofs.Extent.{startIndex}
-use Rattle.schedule.proofs.SoundEvents.{EventFacts}
 use Rattle.schedule.proofs.Held.{parts-events}
+use Rattle.schedule.proofs.SoundEvents.{EventFacts}
 
 -- ---- events
 

@@ -1,5 +1,5 @@
--- Plan's sixteen tables of thirty-two counts: what each entry is, and that those of a list without an unpackable segment are the sections
--- of Build's file. By the laws of numbers in a row. Assumes nothing.
+-- Plan's sixteen tables of thirty-two counts: what each entry is, and that those of a list without an unpackable segment are
+-- the sections of Build's file. By the laws of numbers in a row. Assumes nothing.
 use mathlib.Core.Path.{_≡_, refl, sym, ap, _∙_}
 use mathlib.Core.Bool.{not}
 use mathlib.Core.Logic.{⊎-elim}
@@ -24,9 +24,9 @@ use Rattle.schedule.specs.SectionsOf.{isUnpackable, partsOf, segmentPart
 use Rattle.schedule.specs.Plan.{sectionCount, tabled, plan, planned}
 use Rattle.schedule.proofs.Each.{each-length, each-at}
 use Rattle.schedule.proofs.Extent.{held-inside}
-use Rattle.schedule.proofs.Packable.{test-is}
-use Rattle.schedule.proofs.Parts.{parts-few}
 use Rattle.schedule.proofs.Segments.{sections-inside, sections-outside}
+use Rattle.schedule.proofs.Parts.{parts-few}
+use Rattle.schedule.proofs.Packable.{test-is}
 use Rattle.schedule.proofs.Best.{part-parts}
 
 -- ---- the tables

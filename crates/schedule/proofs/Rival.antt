@@ -1,5 +1,5 @@
--- Any file that keeps the rules, whoever made it: its sections in a segment are a packing of the events that start there, in at most
--- eight parts. By the laws of counting. Assumes nothing.
+-- Any file that keeps the rules, whoever made it: its sections in a segment are a packing of the events that start there, in at
+-- most eight parts. By the laws of counting. Assumes nothing.
 use mathlib.Core.Path.{_≡_, refl, sym, ap, _∙_}
 use mathlib.Core.Logic.{⊎-elim}
 use mathlib.Core.List.{List, [], _∷_, map}
@@ -11,8 +11,8 @@ use Rattle.eit.specs.Events.{Event}
 use Rattle.eit.specs.declared.Identity.{Identity}
 use Rattle.eit.proofs.Test.{test-or}
 use Rattle.packing.specs.Greedy.{joined, held, AllFit, Packing}
-use Rattle.sections.specs.Every.{Every}
 use Rattle.sections.specs.Section.{Section, sectionEvents, eventSize, sectionSize}
+use Rattle.sections.specs.Every.{Every}
 use Rattle.sections.specs.Rules.{SectionRules, Rules}
 use Rattle.sections.specs.Count.{isInFirst, firstSections, segmentEvents, segmentSections}
 use Rattle.sections.proofs.Count.{first-more, first-same, segment-holds}

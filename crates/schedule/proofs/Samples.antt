@@ -3,12 +3,12 @@ use mathlib.Core.Path.{_≡_, refl}
 use Prim.Native.Nat.{_+_, _*_}
 use mathlib.Core.List.{[]}
 use Rattle.eit.specs.Sizes.{sectionOverhead}
+use Rattle.eit.specs.Crc.{crc32}
 use Rattle.eit.specs.Chain.{isChain}
 use Rattle.eit.specs.Pools.{choose}
 use Rattle.eit.specs.Records.{recordsOf}
 use Rattle.eit.specs.Events.{follows}
 use Rattle.eit.specs.Sound.{sound, eventsOf}
-use Rattle.eit.specs.Crc.{crc32}
 use Rattle.script.specs.Form.{formOf}
 use Rattle.script.specs.Struck.{unstruckIn}
 use Rattle.script.specs.Edit.{edit}

@@ -1,5 +1,5 @@
--- Build's file has, in each segment inside the range, just the sections of that segment, and none in one outside: sections of another
--- segment have another table or other numbers. By the laws of numbers in a row. Assumes nothing.
+-- Build's file has, in each segment inside the range, just the sections of that segment, and none in one outside: sections of
+-- another segment have another table or other numbers. By the laws of numbers in a row. Assumes nothing.
 use mathlib.Core.Path.{_≡_, refl, ap, subst, _∙_}
 use mathlib.Core.Bool.{not}
 use mathlib.Core.List.{List, [], _∷_, flatten}

@@ -1,5 +1,5 @@
--- The events of a sound list, with pools of bytes, are in range, rise, differ and are few, and their chains are chains of bytes: each
--- part of soundness, said of events. Assumes nothing.
+-- The events of a sound list, with pools of bytes, are in range, rise, differ and are few, and their chains are chains of
+-- bytes: each part of soundness, said of events. Assumes nothing.
 use mathlib.Core.Path.{_≡_, refl, ap}
 use mathlib.Core.Bool.{Bool, true, false}
 use mathlib.Core.List.{List, [], _∷_}
@@ -9,9 +9,9 @@ use lib.ListN.{length}
 use Rattle.eit.specs.Sizes.{Sizes}
 use Rattle.eit.specs.Limits.{idMost, startLimit, durationLeast, durationMost}
 use Rattle.eit.specs.Fields.{Bytes}
-use Rattle.eit.specs.Among.{allDiffer}
 use Rattle.eit.specs.Chain.{isChain}
 use Rattle.eit.specs.Pools.{Pools, choose, marksSeries, poolOf}
+use Rattle.eit.specs.Among.{allDiffer}
 use Rattle.eit.specs.Records.{EventList, recordsOf}
 use Rattle.eit.specs.Events.{Event, eventsIn, rising}
 use Rattle.eit.specs.Sound.{allValid, idsOf, sound, eventsOf}
@@ -19,8 +19,8 @@ use Rattle.eit.specs.declared.Record.{Record}
 use Rattle.eit.proofs.Test.{tests}
 use Rattle.eit.proofs.Pools.{part-bytes}
 use Rattle.eit.proofs.Sound.{range-facts, sound-list, chain-facts, events-length}
-use Rattle.sections.specs.Every.{Every}
 use Rattle.sections.specs.Section.{eventIds}
+use Rattle.sections.specs.Every.{Every}
 
 -- an event in a record's range, with a chain of bytes
 pub record EventFacts (e : Event) : Type 0 where

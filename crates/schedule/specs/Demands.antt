@@ -1,14 +1,15 @@
--- Demands 2 and 3, and what demand 1 says of refusals: one record type, each field under the clause that it states. The value is
--- `demands` of proofs/Demands.antt. Everything is said of what the calls return and leave: `read`, `checkFile`, `build`, `plan`, `edit`.
--- "In 2 and 3 base day and version are legal, the base day is the same for both, and Read's record buffer has 12,288 numbers."
--- Assumes nothing.
+-- Demands 2 and 3, and what demand 1 says of refusals: one record type, each field under the clause that it states. The value
+-- is `demands` of proofs/Demands.antt. Everything is said of what the calls return and leave: `read`, `checkFile`, `build`,
+-- `plan`, `edit`; what the fields speak of is in specs/Given.antt. A segment is its index: table 0x50 + index ÷ 32, segment
+-- index mod 32. "In 2 and 3 base day and version are legal, the base day is the same for both, and Read's record buffer has
+-- 12,288 numbers." Assumes nothing.
 use mathlib.Core.Path.{_≡_}
 use mathlib.Core.Logic.{_↔_, _⊎_}
 use Prim.Native.Nat.{ℕ, _*_, _≤_, _<_}
 use mathlib.Core.List.{List, _++_}
 use lib.Dec.{T}
 use lib.ListN.{length, drop}
-use Rattle.eit.specs.Sizes.{broadcast}
+use Rattle.eit.specs.Sizes.{Sizes, broadcast}
 use Rattle.eit.specs.Limits.{baseMost}
 use Rattle.eit.specs.Fields.{Bytes}
 use Rattle.eit.specs.Pools.{Pools}
@@ -16,91 +17,97 @@ use Rattle.eit.specs.Records.{EventList, recordSize}
 use Rattle.eit.specs.Sound.{sound}
 use Rattle.eit.specs.declared.Identity.{Identity}
 use Rattle.eit.specs.declared.Record.{Record}
-use Rattle.sections.specs.Section.{Section}
-use Rattle.sections.specs.Encode.{fileBytes}
-use Rattle.sections.specs.Decode.{cutSections}
-use Rattle.sections.specs.Rules.{Rules}
-use Rattle.sections.specs.Count.{sectionsCounted, eventsCounted}
-use Rattle.sections.specs.Places.{filePools}
-use Rattle.sections.specs.Read.{checkFile, read, listOf}
-use Rattle.sections.specs.Exact.{FollowsRules, readingOf}
 use Rattle.script.specs.Form.{Edit, Command, commands, formOf}
 use Rattle.script.specs.Struck.{unstruck, unstruckIn}
 use Rattle.script.specs.Edit.{edit, Stopped}
+use Rattle.sections.specs.Section.{Section}
+use Rattle.sections.specs.Encode.{fileBytes}
+use Rattle.sections.specs.Rules.{Rules}
+use Rattle.sections.specs.Decode.{cutSections}
+use Rattle.sections.specs.Count.{sectionsCounted, eventsCounted}
+use Rattle.sections.specs.Places.{filePools}
+use Rattle.sections.specs.Read.{checkFile, read, listOf}
+use Rattle.sections.specs.Exact.{RecordBuffer, Accepted, FollowsRules, readingOf}
 use Rattle.schedule.specs.Plan.{plan, planned}
 use Rattle.schedule.specs.Build.{build, fileOf}
-use Rattle.schedule.specs.Given.{Given, built, events, Accepted, Carries, EightHold}
+use Rattle.schedule.specs.Given.{Given, built, events, Carries, EightHold}
 
-pub record Demands : Type 0 where
-  -- ---- 1. "Read accepts exactly the files that follow their rules, packing aside, and returns the identity and events that the file's
-  -- bytes carry"
+pub record DemandsFor (sizes : Sizes) : Type 0 where
+  -- ---- 1. "Read accepts exactly the files that follow their rules, packing aside, and returns the identity and events that
+  -- the file's bytes carry"
   pub accepted-exactly : (base : ℕ) (file : List ℕ) → base ≤ baseMost → Bytes file
-      → Accepted base file ↔ ((identity : Identity) × (rs : List Record) × FollowsRules broadcast base file identity rs)
+      → Accepted sizes base file ↔ ((identity : Identity) × (rs : List Record) × FollowsRules sizes base file identity rs)
   pub read-exact : (base : ℕ) (file buffer : List ℕ) (identity : Identity) (rs : List Record) → base ≤ baseMost → Bytes file
-      → (read broadcast base file buffer ≡ readingOf buffer identity rs)
-      ↔ (FollowsRules broadcast base file identity rs × (length rs * recordSize ≤ length buffer))
-  pub accepted-size : (base : ℕ) (file : List ℕ) → Bytes file → Accepted base file → length file ≤ 16 * 256 * 4_096
+      → (read sizes base file buffer ≡ readingOf buffer identity rs)
+      ↔ (FollowsRules sizes base file identity rs × (length rs * recordSize ≤ length buffer))
+  pub accepted-size : (base : ℕ) (file : List ℕ) → Bytes file → Accepted sizes base file → length file ≤ 16 * 256 * 4_096
   -- Read without a record buffer agrees in all but 27, which it never says
-  pub check-agrees : (base : ℕ) (file buffer : List ℕ) → (read broadcast base file buffer .answer .number ≡ 27 → ⊥)
-      → read broadcast base file buffer .answer ≡ checkFile broadcast base file
-  pub check-never-27 : (base : ℕ) (file : List ℕ) → checkFile broadcast base file .number ≡ 27 → ⊥
-  -- ---- 2. "whoever made it": the records of an accepted file are a sound list with the file as day pool, and Build of them says
-  -- neither 12 nor 10, whatever else it is given
-  pub accepted-sound : (base : ℕ) (file series buffer : List ℕ) → Bytes file → Accepted base file → length buffer ≡ 12_288
-      → T (sound broadcast (filePools file series) (listOf (read broadcast base file buffer)))
-  pub accepted-packable : (base : ℕ) (file series buffer : List ℕ) → Bytes file → Accepted base file → length buffer ≡ 12_288
+  pub check-agrees : (base : ℕ) (file buffer : List ℕ) → (read sizes base file buffer .answer .number ≡ 27 → ⊥)
+      → read sizes base file buffer .answer ≡ checkFile sizes base file
+  pub check-never-27 : (base : ℕ) (file : List ℕ) → checkFile sizes base file .number ≡ 27 → ⊥
+  -- ---- 2. "the identity and events that the file's bytes carry": the records of an accepted file are a sound list with the
+  -- file as day pool, and Build of them says neither 12 nor 10, whatever else it is given
+  pub accepted-sound : (base : ℕ) (file series buffer : List ℕ) → Bytes file → Accepted sizes base file → RecordBuffer sizes buffer
+      → T (sound sizes (filePools file series) (listOf (read sizes base file buffer)))
+  pub accepted-packable : (base : ℕ) (file series buffer : List ℕ) → Bytes file → Accepted sizes base file → RecordBuffer sizes buffer
       → (day : ℕ) (identity : Identity) (output : List ℕ)
-      → let b = build broadcast (filePools file series) (listOf (read broadcast base file buffer)) day identity output in
+      → let b = build sizes (filePools file series) (listOf (read sizes base file buffer)) day identity output in
       (b .number ≡ 12 → ⊥) × (b .number ≡ 10 → ⊥)
-  -- ---- 3. "Build writes, byte for byte, the file that EN 300 468, OP-58 and 01's packing rule define"; "for a built file these are the
-  -- ones Build was given"
-  pub built-carries : (g : Given) (output : List ℕ) → built g output .number ≡ 0 → Carries g (fileOf (built g output))
-  pub built-read : (g : Given) (output buffer : List ℕ) → built g output .number ≡ 0 → length buffer ≡ 12_288
-      → read broadcast (g .base) (fileOf (built g output)) buffer .answer
+  -- ---- 3. "Build writes, byte for byte, the file that EN 300 468, OP-58 and 01's packing rule define"; "for a built file
+  -- these are the ones Build was given"
+  pub built-carries : (g : Given sizes) (output : List ℕ) → built g output .number ≡ 0 → Carries g (fileOf (built g output))
+  pub built-read : (g : Given sizes) (output buffer : List ℕ) → built g output .number ≡ 0 → RecordBuffer sizes buffer
+      → read sizes (g .base) (fileOf (built g output)) buffer .answer
       ≡ record { number = 0; value = g .list .count; identity = g .identity; count = g .list .count }
   -- unless Build says 10 it gives the file's length for every output: with 0 where the file fits, with 11 where it does not
-  pub built-length : (g : Given) (output other : List ℕ) → (built g output .number ≡ 10 → ⊥)
+  pub built-length : (g : Given sizes) (output other : List ℕ) → (built g output .number ≡ 10 → ⊥)
       → let need = built g output .value in
       (need ≤ length other → (built g other .number ≡ 0) × (built g other .value ≡ need) × (length (fileOf (built g other)) ≡ need))
       × (length other < need → built g other ≡ record { number = 11; value = need; output = other })
-  pub built-same : (g : Given) (output other : List ℕ) → built g output .number ≡ 0 → built g other .number ≡ 0
+  pub built-same : (g : Given sizes) (output other : List ℕ) → built g output .number ≡ 0 → built g other .number ≡ 0
       → fileOf (built g output) ≡ fileOf (built g other)
   -- Plan's counts are the sections of Build's file in each segment, all 512
-  pub built-planned : (g : Given) (output : List ℕ) → built g output .number ≡ 0 → (index : ℕ) → index < 512
-      → planned (plan broadcast (g .pools) (g .list)) index ≡ sectionsCounted (g .base) (fileOf (built g output)) index
-  -- ---- 4. "For every sound list, and however long the output is, Build refuses the list as unpackable exactly when no accepted file, made
-  -- by anyone, carries its events"
-  pub unpackable-exactly : (g : Given) (output : List ℕ)
+  pub built-planned : (g : Given sizes) (output : List ℕ) → built g output .number ≡ 0 → (index : ℕ) → index < 512
+      → planned (plan sizes (g .pools) (g .list)) index ≡ sectionsCounted (g .base) (fileOf (built g output)) index
+  -- ---- 4. "For every sound list, and however long the output is, Build refuses the list as unpackable exactly when no
+  -- accepted file, made by anyone, carries its events"
+  pub unpackable-exactly : (g : Given sizes) (output : List ℕ)
       → (built g output .number ≡ 10) ↔ ((file : List ℕ) → Carries g file → ⊥)
   -- the index is that of the lowest segment that no eight sections hold
-  pub unpackable-lowest : (g : Given) (output : List ℕ) → built g output .number ≡ 10
+  pub unpackable-lowest : (g : Given sizes) (output : List ℕ) → built g output .number ≡ 10
       → let lowest = built g output .value in
-      (lowest < 512) × (EightHold broadcast (events g) lowest → ⊥) × ((index : ℕ) → index < lowest → EightHold broadcast (events g) index)
-  -- ---- 5. "Where Build writes, take any other accepted file that carries the same events, whoever made it and under whatever identity. In
-  -- every segment it has at least as many sections as Build's file"
-  pub fewest-sections : (g : Given) (output : List ℕ) → built g output .number ≡ 0 → (file : List ℕ) → Carries g file → (index : ℕ)
+      (lowest < 512) × (EightHold sizes (events g) lowest → ⊥) × ((index : ℕ) → index < lowest → EightHold sizes (events g) index)
+  -- ---- 5. "Where Build writes, take any other accepted file that carries the same events, whoever made it and under whatever
+  -- identity. In every segment it has at least as many sections as Build's file"
+  pub fewest-sections : (g : Given sizes) (output : List ℕ) → built g output .number ≡ 0
+      → (file : List ℕ) → Carries g file → (index : ℕ)
       → sectionsCounted (g .base) (fileOf (built g output)) index ≤ sectionsCounted (g .base) file index
-  -- "In every segment, and for every k from 1 to 8, its first k sections hold at most as many events as the first k of Build's file"
-  pub most-events : (g : Given) (output : List ℕ) → built g output .number ≡ 0 → (file : List ℕ) → Carries g file → (index k : ℕ)
-      → k ≤ 8
+  -- "In every segment, and for every k from 1 to 8, its first k sections hold at most as many events as the first k of Build's
+  -- file"
+  pub most-events : (g : Given sizes) (output : List ℕ) → built g output .number ≡ 0
+      → (file : List ℕ) → Carries g file → (index k : ℕ) → k ≤ 8
       → eventsCounted (g .base) file index k ≤ eventsCounted (g .base) (fileOf (built g output)) index k
   -- both count the sections that the file's bytes show: of joined sections that keep the rules, these sections
-  pub cut-back : (base : ℕ) (identity : Identity) (ss : List Section) → base ≤ baseMost → Rules broadcast identity ss
+  pub cut-back : (base : ℕ) (identity : Identity) (ss : List Section) → base ≤ baseMost → Rules sizes identity ss
       → cutSections base (fileBytes base ss) ≡ ss
   -- ---- 6. Demand 1: "A refusal leaves them untouched, except that a refused edit keeps the edits before it"
   pub build-leaves : (pools : Pools) (list : EventList) (base : ℕ) (identity : Identity) (output : List ℕ)
-      → let b = build broadcast pools list base identity output in
+      → let b = build sizes pools list base identity output in
       (b .number ≡ 0 → ⊥) → b .output ≡ output
   pub build-beyond : (pools : Pools) (list : EventList) (base : ℕ) (identity : Identity) (output : List ℕ)
-      → let b = build broadcast pools list base identity output in
+      → let b = build sizes pools list base identity output in
       b .number ≡ 0 → b .output ≡ fileOf b ++ drop (b .value) output
-  pub read-leaves : (base : ℕ) (file buffer : List ℕ) → (read broadcast base file buffer .answer .number ≡ 0 → ⊥)
-      → read broadcast base file buffer .buffer ≡ buffer
+  pub read-leaves : (base : ℕ) (file buffer : List ℕ) → (read sizes base file buffer .answer .number ≡ 0 → ⊥)
+      → read sizes base file buffer .buffer ≡ buffer
   pub edit-leaves : (pools : Pools) (list : EventList) (script : List ℕ)
-      → let o = edit broadcast pools list script in
+      → let o = edit sizes pools list script in
       (o .number ≡ 12) ⊎ ((o .number ≡ 3) ⊎ (o .number ≡ 4)) → o .list ≡ list
   -- 5 to 9: the list is as the edits before made it
   pub edit-keeps : (pools : Pools) (list : EventList) (script : List ℕ) (cs : List Command) (es : List Edit)
-      → T (sound broadcast pools list) → formOf script ≡ commands cs → unstruckIn cs ≡ unstruck es
-      → (edit broadcast pools list script .number ≡ 0 → ⊥)
-      → Stopped broadcast pools list es (edit broadcast pools list script)
+      → T (sound sizes pools list) → formOf script ≡ commands cs → unstruckIn cs ≡ unstruck es
+      → (edit sizes pools list script .number ≡ 0 → ⊥)
+      → Stopped sizes pools list es (edit sizes pools list script)
+
+-- for broadcast: sections of at most 4,096 bytes, at most 2,048 events, and so 12,288 numbers for Read's records
+abbrev pub Demands : Type 0
+Demands = DemandsFor broadcast

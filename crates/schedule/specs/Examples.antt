@@ -1,14 +1,14 @@
--- Build and Plan computed, where document 01 has no sample marked P: a gap behind a short segment, outputs at the limit, and which
--- refusal comes first. The value is in proofs/Examples.antt. Assumes nothing.
+-- Build and Plan computed, where document 01 has no sample marked P: a gap behind a short segment, outputs at the limit, and
+-- which refusal comes first. The value is in proofs/Examples.antt. Assumes nothing.
 use Prim.Native.Nat.{_+_, _*_}
 use mathlib.Core.Path.{_≡_}
 use mathlib.Core.List.{[], _∷_}
 use lib.ListN.{replicate}
-use Rattle.eit.specs.Sizes.{sectionOverhead}
+use Rattle.eit.specs.Sizes.{broadcast, sectionOverhead}
+use Rattle.eit.specs.Records.{recordSize}
 use Rattle.sections.specs.Section.{eventOverhead}
 use Rattle.schedule.specs.SampleLists.{bare, overlong, unsound, gap, emptyFile}
-use Rattle.schedule.specs.SampleCalls.{buildOf, answer, planOf, cuts, numbers, ids}
-use Rattle.schedule.specs.SampleCalls.{filled}
+use Rattle.schedule.specs.SampleCalls.{buildOf, answer, planOf, cuts, numbers, ids, filled}
 
 pub record Examples : Type 0 where
   -- a gap: section numbers 0, 1, 8 behind a short segment, an empty segment, an empty table; tables end with their last events
@@ -23,6 +23,8 @@ pub record Examples : Type 0 where
   pub gap-ids : ids gap ≡ (1 ∷ []) ∷ (2 ∷ []) ∷ [] ∷ (3 ∷ []) ∷ (4 ∷ []) ∷ [] ∷ [] ∷ (5 ∷ []) ∷ []
   pub gap-plan : planOf gap ≡ filled ((2 ∷ 1 ∷ 2 ∷ []) ∷ (1 ∷ []) ∷ (1 ∷ 1 ∷ []) ∷ [])
   pub gap-build : answer gap ≡ record { number = 11; value = 8 * sectionOverhead + (5 * eventOverhead + 2 * 4_055); output = [] }
+  -- Read's record buffer in the demands
+  pub record-buffer : broadcast .eventLimit * recordSize ≡ 12_288
   -- an output that is just long enough, and one that is a byte short
   pub room-left : buildOf (bare 0 0) 49_273 0 (replicate 18 0xAA) ≡ record { number = 0; value = 18; output = emptyFile }
   pub byte-short : buildOf (bare 0 0) 49_273 0 (replicate 17 0xAA) ≡ record { number = 11; value = 18; output = replicate 17 0xAA }

@@ -1,6 +1,6 @@
--- Which segments Build's file has (01, "Build, Read": "last_table_id is that of the last event, 0x50 for no events. Each table ends with
--- its last segment that has events, or with section 0 if it has none"). Tables are counted from 0 here: table 0x50 is 0. Laws:
--- proofs/Extent.antt. Assumes nothing.
+-- Which segments Build's file has (01, "Build, Read": "last_table_id is that of the last event, 0x50 for no events. Each table
+-- ends with its last segment that has events, or with section 0 if it has none"). Tables are counted from 0 here: table 0x50 is
+-- 0. Laws: proofs/Extent.antt. Assumes nothing.
 use Prim.Native.Nat.{ℕ, _*_, _/_}
 use mathlib.Core.Bool.{Bool, true, false, _&&_}
 use mathlib.Core.List.{List, [], _∷_}

@@ -1,11 +1,10 @@
--- What demands 2 and 3 speak of: what Build is given besides the output, files that are accepted and carry its events, and segments that
--- eight sections hold (01, "Build, Read"). The demands are in specs/Demands.antt. Assumes nothing.
-use mathlib.Core.Path.{_≡_}
+-- What demands 2 and 3 speak of: what Build is given besides the output, files that are accepted and carry its events, and
+-- segments that eight sections hold (01, "Build, Read"). The demands are in specs/Demands.antt. Assumes nothing.
 use Prim.Native.Nat.{ℕ, _≤_}
 use mathlib.Core.List.{List, []}
 use lib.Dec.{T}
 use lib.ListN.{length}
-use Rattle.eit.specs.Sizes.{Sizes, broadcast, room}
+use Rattle.eit.specs.Sizes.{Sizes, room}
 use Rattle.eit.specs.Limits.{baseMost}
 use Rattle.eit.specs.Fields.{Bytes}
 use Rattle.eit.specs.Pools.{Pools}
@@ -19,38 +18,36 @@ use Rattle.sections.specs.Rules.{IdentityRules}
 use Rattle.sections.specs.Count.{segmentEvents}
 use Rattle.sections.specs.Places.{filePools}
 use Rattle.sections.specs.Read.{read, listOf}
+use Rattle.sections.specs.Exact.{RecordBuffer, Accepted}
 use Rattle.schedule.specs.Build.{Built, build}
 
--- what Build takes besides the output: a sound list with its pools, a legal base day and a legal identity. Bytes are the calls' u8, ids
--- of two bytes (in `IdentityRules`) their u16
-pub record Given : Type 0 where
+-- what Build takes besides the output: a sound list with its pools, a legal base day and a legal identity. Bytes are the calls'
+-- u8, ids of two bytes (in `IdentityRules`) their u16
+pub record Given (sizes : Sizes) : Type 0 where
   pub pools : Pools
   pub list : EventList
   pub base : ℕ
   pub identity : Identity
   pub dayBytes : Bytes (pools .day)
   pub seriesBytes : Bytes (pools .series)
-  pub isSound : T (sound broadcast pools list)
+  pub isSound : T (sound sizes pools list)
   pub legalBase : base ≤ baseMost
   pub legalIdentity : IdentityRules identity
 
-abbrev pub built : Given → List ℕ → Built
-built g output = build broadcast (g .pools) (g .list) (g .base) (g .identity) output
+module _ {sizes : Sizes} where
+  abbrev pub built : Given sizes → List ℕ → Built
+  built g output = build sizes (g .pools) (g .list) (g .base) (g .identity) output
 
-abbrev pub events : Given → List Event
-events g = eventsOf (g .pools) (g .list)
+  abbrev pub events : Given sizes → List Event
+  events g = eventsOf (g .pools) (g .list)
 
--- 01's term: accepted. Read, with 12,288 numbers for records, succeeds on the file
-abbrev pub Accepted : ℕ → List ℕ → Type 0
-Accepted base file = (buffer : List ℕ) → length buffer ≡ 12_288 → read broadcast base file buffer .answer .number ≡ 0
-
--- 01's term: carries. The file is accepted, and Read then returns as many records as the list has, each the same event as the list's
--- record in that place; the file is the pool of what Read returns
-pub record Carries (g : Given) (file : List ℕ) : Type 0 where
-  pub bytes : Bytes file
-  pub accepted : Accepted (g .base) file
-  pub sameEvents : (buffer : List ℕ) → length buffer ≡ 12_288
-      → AllSame (filePools file []) (g .pools) (recordsOf (listOf (read broadcast (g .base) file buffer))) (recordsOf (g .list))
+  -- 01's term: carries. The file is accepted, and Read then returns as many records as the list has, each the same event as the
+  -- list's record in that place; the file is the pool of what Read returns
+  pub record Carries (g : Given sizes) (file : List ℕ) : Type 0 where
+    pub bytes : Bytes file
+    pub accepted : Accepted sizes (g .base) file
+    pub sameEvents : (buffer : List ℕ) → RecordBuffer sizes buffer
+        → AllSame (filePools file []) (g .pools) (recordsOf (listOf (read sizes (g .base) file buffer))) (recordsOf (g .list))
 
 -- at most eight sections hold the events that start in a segment, in their order
 abbrev pub EightHold : Sizes → List Event → ℕ → Type 0

@@ -1,5 +1,5 @@
--- Plan as one total function of list and pools (01, "Build, Read": "Plan takes list and pools and returns sixteen tables of thirty-two
--- section counts for a list, those of Build's packing"). Laws: proofs/Plan.antt. Assumes nothing.
+-- Plan as one total function of list and pools (01, "Build, Read": "Plan takes list and pools and returns sixteen tables of
+-- thirty-two section counts for a list, those of Build's packing"). Laws: proofs/Plan.antt. Assumes nothing.
 use Prim.Native.Nat.{ℕ, _+_, _*_, _/_, _%_}
 use mathlib.Core.Bool.{true, false}
 use mathlib.Core.List.{List, []}
@@ -13,8 +13,8 @@ use Rattle.schedule.specs.Each.{each}
 use Rattle.schedule.specs.Extent.{tables, tableSegments, isInside}
 use Rattle.schedule.specs.SectionsOf.{isUnpackable, partsOf}
 
--- 0 outside a table's range, 255 for an unpackable segment; else the number of its sections. An unpackable segment has events, so it is
--- inside
+-- 0 outside a table's range, 255 for an unpackable segment; else the number of its sections. An unpackable segment has events,
+-- so it is inside
 unfoldable pub sectionCount : Sizes → List Event → ℕ → ℕ
 unfolding isUnpackable partsOf
 sectionCount sizes es index =

@@ -1,5 +1,5 @@
--- What specs/Samples.antt asks of Build, Plan and Edit, and short forms of what it wants. Service, stream and network are 1, 2
--- and 3. Assumes nothing.
+-- What specs/Samples.antt and specs/Examples.antt ask of Build, Plan and Edit, and short forms of what they want. Service,
+-- stream and network are 1, 2 and 3. Assumes nothing.
 use Prim.Native.Nat.{ℕ, _+_, _*_}
 use mathlib.Core.List.{List, [], _++_, map}
 use lib.ListN.{length, take, drop, replicate}

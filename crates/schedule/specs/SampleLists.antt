@@ -1,4 +1,4 @@
--- Chains and lists for specs/Samples.antt. Assumes nothing.
+-- Chains and lists for specs/Samples.antt and specs/Examples.antt. Assumes nothing.
 use Prim.Native.Nat.{ℕ, zero, suc, _-_, _/_, _%_}
 use mathlib.Core.List.{List, [], _∷_, _++_}
 use lib.ListN.{length, replicate}
@@ -15,7 +15,7 @@ descriptor n = record { tag = 0x4D; body = replicate n 0 }
 unfoldable pub chainOf : ℕ → List ℕ
 chainOf n = chainBytes (replicate (n / 257) (descriptor 255) ++ (descriptor (n % 257 - 2) ∷ []))
 
--- n numbers from `least` on
+-- n numbers from `least` on; apart from `each`, which Build and Plan use
 unfoldable pub row : ℕ → ℕ → List ℕ
 row least zero = []
 row least (suc n) = least ∷ row (suc least) n

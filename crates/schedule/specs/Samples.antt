@@ -1,5 +1,5 @@
--- The samples that document 01 marks P ("Samples with the cuts marked"), each below its sentence: one table. Its one theorem is `samples`
--- of proofs/Samples.antt. Assumes nothing.
+-- The samples that document 01 marks P ("Samples with the cuts marked"), each below its sentence: one table. Its one theorem is
+-- `samples` of proofs/Samples.antt. Assumes nothing.
 use Prim.Native.Nat.{_+_, _*_}
 use mathlib.Core.Path.{_≡_}
 use mathlib.Core.List.{[], _∷_, _++_}

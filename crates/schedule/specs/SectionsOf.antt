@@ -1,5 +1,5 @@
--- The sections of Build's file of some events (01, "Build, Read"): which events each has, and its numbers S, G and L. No bytes. Laws:
--- proofs/Numbers.antt, proofs/Held.antt. Assumes nothing.
+-- The sections of Build's file of some events (01, "Build, Read"): which events each has, and its numbers S, G and L. No bytes.
+-- Laws: proofs/Numbers.antt, proofs/Held.antt. Assumes nothing.
 use Prim.Native.Nat.{ℕ, suc, _+_, _-_, _*_, _/_}
 use mathlib.Core.Bool.{Bool}
 use mathlib.Core.List.{List, [], _∷_, flatten}

@@ -16,11 +16,13 @@ use Rattle.sections.specs.Rules.{Rules}
 use Rattle.sections.specs.Places.{recordsFrom}
 use Rattle.sections.specs.Read.{Reading, success, read}
 
--- 01's term: accepted. Read succeeds on the file with 12,288 numbers for records, six for each event of the largest list, whatever
--- they were
+-- 12,288 numbers for records, six for each event of the largest list, whatever they are
+abbrev pub RecordBuffer : Sizes → List ℕ → Type 0
+RecordBuffer sizes buffer = length buffer ≡ sizes .eventLimit * recordSize
+
+-- 01's term: accepted. Read, with 12,288 numbers for records, succeeds on the file
 abbrev pub Accepted : Sizes → ℕ → List ℕ → Type 0
-Accepted sizes base file =
-    (buffer : List ℕ) → length buffer ≡ sizes .eventLimit * recordSize → read sizes base file buffer .answer .number ≡ 0
+Accepted sizes base file = (buffer : List ℕ) → RecordBuffer sizes buffer → read sizes base file buffer .answer .number ≡ 0
 
 -- the file is the joined bytes of some sections that keep the rules, and the records are their events at their places in it
 pub record FollowsRules (sizes : Sizes) (base : ℕ) (file : List ℕ) (identity : Identity) (rs : List Record) : Type 0 where
