@@ -17,7 +17,7 @@ use Rattle.eit.specs.Events.{Event}
 use Rattle.eit.specs.Sound.{eventsOf}
 use Rattle.eit.specs.declared.Record.{Record}
 use Rattle.eit.specs.declared.Identity.{Identity}
-use Rattle.eit.proofs.Test.{le-or-lt}
+use Rattle.eit.proofs.Test.{le-or-lt, test-or}
 use Rattle.eit.proofs.Sound.{sound-list, events-length}
 use Rattle.script.specs.Edit.{Edited, Stopped}
 use Rattle.script.proofs.Edit.{edit-runs, edit-leaves, run-stops}
@@ -35,16 +35,19 @@ use Rattle.sections.proofs.Frame.{read-leaves}
 use Rattle.sections.proofs.FileSize.{accepted-size}
 use Rattle.sections.proofs.Places.{records-count}
 use Rattle.sections.proofs.FileSound.{accepted-sound, accepted-events}
+use Rattle.schedule.specs.Extent.{isInside}
 use Rattle.schedule.specs.SectionsOf.{isUnpackable}
 use Rattle.schedule.specs.Plan.{sectionCount, plan, planned}
 use Rattle.schedule.specs.Build.{Built, refusal, build, fileOf}
 use Rattle.schedule.specs.Given.{Given, built, events, Carries, EightHold}
 use Rattle.schedule.specs.Demands.{DemandsFor, Demands}
+use Rattle.schedule.proofs.Parts.{parts-few}
 use Rattle.schedule.proofs.Rival.{segment-eight-hold}
 use Rattle.schedule.proofs.Build.{build-packs, build-leaves, build-beyond, written-short, written-fits, written-file}
 use Rattle.schedule.proofs.Packable.{eight-hold, held-packable, lowest-none}
 use Rattle.schedule.proofs.Best.{best-fewest, best-most}
-use Rattle.schedule.proofs.Plan.{plan-sound, tabled-at, count-sections}
+use Rattle.schedule.proofs.Plan.{plan-sound, plan-unsound, tabled-at, count-sections, count-inside, count-outside}
+use Rattle.schedule.proofs.Plan.{count-unpackable}
 use Rattle.schedule.proofs.Given.{LegalSizes, accepted-number, shown-rules, facts, ownSections, ownFile, build-or}
 use Rattle.schedule.proofs.Given.{own-rules, own-events, own-carries, writes, rival-rules, rival-events, rival-eight}
 use Rattle.schedule.proofs.Given.{own-counted, own-held, rival-counted, rival-held}
@@ -121,6 +124,23 @@ module _ (sizes : Sizes) (legal : LegalSizes sizes) where
         ∙ count-sections sizes (events g) index (g .identity) (fits index)
         ∙ sym (own-counted sizes legal g fits index)
         ∙ ap (λ (f : List ℕ). sectionsCounted (g .base) f index) (sym file)
+
+  plan-refuses : (g : Given sizes) (index : ℕ) → index < 512
+      → (planned (plan sizes (g .pools) (g .list)) index ≡ 255) ↔ (EightHold sizes (events g) index → ⊥)
+  plan-refuses g index few =
+      let es : List Event = events g in
+      let is : planned (plan sizes (g .pools) (g .list)) index ≡ sectionCount sizes es index =
+      ap (λ (counts : List (List ℕ)). planned counts index) (plan-sound sizes (g .pools) (g .list) (g .isSound))
+      ∙ tabled-at (sectionCount sizes es) index few in (
+        λ says eight.
+            let fits = held-packable sizes es index eight in
+            ⊎-elim (λ inside. omega (arith, is, says, count-inside sizes es index inside fits, parts-few sizes es index))
+            (λ outside. omega (arith, is, says, count-outside sizes es index outside))
+            (test-or (isInside es index)),
+        λ none. ⊎-elim (λ fails. is ∙ count-unpackable sizes es index (facts sizes legal g .rises) fails)
+            (λ fits. absurd (none (eight-hold sizes es index fits)))
+            (test-or (isUnpackable sizes es index)),
+      )
 
   lengths : (g : Given sizes) (output other : List ℕ) → (built g output .number ≡ 10 → ⊥)
       → let need = built g output .value in
@@ -227,6 +247,10 @@ module _ (sizes : Sizes) (legal : LegalSizes sizes) where
         built-length = lengths;
         built-same = λ g output other zero also. writes sizes legal g output zero .3 ∙ sym (writes sizes legal g other also .3);
         built-planned = planned-sections;
+        plan-unpackable = plan-refuses;
+        plan-unsound = λ pools list unsound index few.
+            ap (λ (counts : List (List ℕ)). planned counts index) (plan-unsound sizes pools list unsound)
+            ∙ tabled-at (λ (index : ℕ). 254) index few;
         unpackable-exactly = unpackable;
         unpackable-lowest = lowest;
         fewest-sections = fewest;

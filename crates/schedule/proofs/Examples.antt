@@ -1,5 +1,8 @@
--- The examples of specs/Examples.antt hold: each is computed. Assumes nothing.
+-- The examples of specs/Examples.antt hold: each is computed; and what the demands speak of is there. Assumes nothing.
 use mathlib.Core.Path.{refl}
+use native.Mathlib.Omega.{arith}
+use lib.ListN.{replicate}
+use Rattle.eit.specs.Sizes.{broadcast}
 use Rattle.eit.specs.Crc.{crc32}
 use Rattle.eit.specs.Chain.{isChain}
 use Rattle.eit.specs.Pools.{choose}
@@ -12,8 +15,11 @@ use Rattle.script.specs.Edit.{edit}
 use Rattle.sections.specs.Encode.{versionOf}
 use Rattle.schedule.specs.Plan.{plan}
 use Rattle.schedule.specs.Build.{build}
-use Rattle.schedule.specs.SampleLists.{chainOf, row}
+use Rattle.schedule.specs.Given.{Given, Carries}
+use Rattle.schedule.specs.SampleLists.{chainOf, row, bare, emptyFile}
+use Rattle.schedule.specs.SampleCalls.{versioned}
 use Rattle.schedule.specs.Examples.{Examples}
+use Rattle.schedule.proofs.Demands.{demands}
 
 pub examples : Examples
 unfolding build plan edit formOf unstruckIn sound eventsOf recordsOf follows choose isChain crc32 versionOf chainOf row
@@ -25,7 +31,11 @@ examples =
       gap-plan = refl;
       gap-build = refl;
       record-buffer = refl;
-      room-left = refl;
+      three-cuts = refl;
+      later-plan = refl;
+      later-build = refl;
+      version-most = refl;
+      just-enough = refl;
       byte-short = refl;
       unsound-plan = refl;
       unsound-build = refl;
@@ -36,3 +46,24 @@ examples =
       unsound-first = refl;
       unpackable = refl;
     }
+
+-- ---- what the demands speak of is there: a list without events, and the file that carries it
+
+pub nothing : Given broadcast
+unfolding sound recordsOf row
+nothing =
+    record {
+      pools = bare 0 0 .pools;
+      list = bare 0 0 .list;
+      base = 49_273;
+      identity = versioned 0;
+      dayBytes = tt;
+      seriesBytes = tt;
+      isSound = tt;
+      legalBase = omega arith;
+      legalIdentity = record { service = omega arith; stream = omega arith; network = omega arith; version = omega arith };
+    }
+
+pub carried : Carries nothing emptyFile
+unfolding build sound eventsOf recordsOf crc32 versionOf row nothing
+carried = demands .built-carries nothing (replicate 18 0xAA) refl

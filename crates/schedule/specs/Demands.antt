@@ -1,9 +1,11 @@
--- Demands 2 and 3, and what demand 1 says of refusals: one record type, each field under the clause that it states. The value
--- is `demands` of proofs/Demands.antt. Everything is said of what the calls return and leave: `read`, `checkFile`, `build`,
--- `plan`, `edit`; what the fields speak of is in specs/Given.antt. A segment is its index: table 0x50 + index ÷ 32, segment
--- index mod 32. "In 2 and 3 base day and version are legal, the base day is the same for both, and Read's record buffer has
--- 12,288 numbers." Assumes nothing.
+-- Demands 2 and 3, and what demand 1 says of refusals: one record type, its fields in groups, each group under the clauses that
+-- it states. The value is `demands` of proofs/Demands.antt. Everything is said of what the calls return and leave: `read`,
+-- `checkFile`, `build`, `plan`, `edit`; what the fields speak of is in specs/Given.antt. Which refusal comes, and with which
+-- value, is in the definitions of the calls, as Edit's plain machine is; each call's contract equates it with its definition.
+-- A segment is its index: table 0x50 + index ÷ 32, segment index mod 32. "In 2 and 3 base day and version are legal, the base
+-- day is the same for both, and Read's record buffer has 12,288 numbers." Assumes nothing.
 use mathlib.Core.Path.{_≡_}
+use mathlib.Core.Bool.{not}
 use mathlib.Core.Logic.{_↔_, _⊎_}
 use Prim.Native.Nat.{ℕ, _*_, _≤_, _<_}
 use mathlib.Core.List.{List, _++_}
@@ -33,27 +35,28 @@ use Rattle.schedule.specs.Build.{build, fileOf}
 use Rattle.schedule.specs.Given.{Given, built, events, Carries, EightHold}
 
 pub record DemandsFor (sizes : Sizes) : Type 0 where
-  -- ---- 1. "Read accepts exactly the files that follow their rules, packing aside, and returns the identity and events that
-  -- the file's bytes carry"
+  -- ---- Demand 2: "Read accepts exactly the files that follow their rules, packing aside, and returns the identity and events
+  -- that the file's bytes carry"
   pub accepted-exactly : (base : ℕ) (file : List ℕ) → base ≤ baseMost → Bytes file
       → Accepted sizes base file ↔ ((identity : Identity) × (rs : List Record) × FollowsRules sizes base file identity rs)
   pub read-exact : (base : ℕ) (file buffer : List ℕ) (identity : Identity) (rs : List Record) → base ≤ baseMost → Bytes file
       → (read sizes base file buffer ≡ readingOf buffer identity rs)
       ↔ (FollowsRules sizes base file identity rs × (length rs * recordSize ≤ length buffer))
+  -- 16 tables of 256 sections of 4,096 bytes: how long a buffer for any accepted file must be
   pub accepted-size : (base : ℕ) (file : List ℕ) → Bytes file → Accepted sizes base file → length file ≤ 16 * 256 * 4_096
   -- Read without a record buffer agrees in all but 27, which it never says
   pub check-agrees : (base : ℕ) (file buffer : List ℕ) → (read sizes base file buffer .answer .number ≡ 27 → ⊥)
       → read sizes base file buffer .answer ≡ checkFile sizes base file
   pub check-never-27 : (base : ℕ) (file : List ℕ) → checkFile sizes base file .number ≡ 27 → ⊥
-  -- ---- 2. "the identity and events that the file's bytes carry": the records of an accepted file are a sound list with the
-  -- file as day pool, and Build of them says neither 12 nor 10, whatever else it is given
+  -- ---- Demand 2: "the identity and events that the file's bytes carry": the records of an accepted file are a sound list with
+  -- the file as day pool, and Build of them says neither 12 nor 10, whatever else it is given
   pub accepted-sound : (base : ℕ) (file series buffer : List ℕ) → Bytes file → Accepted sizes base file → RecordBuffer sizes buffer
       → T (sound sizes (filePools file series) (listOf (read sizes base file buffer)))
   pub accepted-packable : (base : ℕ) (file series buffer : List ℕ) → Bytes file → Accepted sizes base file → RecordBuffer sizes buffer
       → (day : ℕ) (identity : Identity) (output : List ℕ)
       → let b = build sizes (filePools file series) (listOf (read sizes base file buffer)) day identity output in
       (b .number ≡ 12 → ⊥) × (b .number ≡ 10 → ⊥)
-  -- ---- 3. "Build writes, byte for byte, the file that EN 300 468, OP-58 and 01's packing rule define"; "for a built file
+  -- ---- Demand 2: "Build writes, byte for byte, the file that EN 300 468, OP-58 and 01's packing rule define"; "for a built file
   -- these are the ones Build was given"
   pub built-carries : (g : Given sizes) (output : List ℕ) → built g output .number ≡ 0 → Carries g (fileOf (built g output))
   pub built-read : (g : Given sizes) (output buffer : List ℕ) → built g output .number ≡ 0 → RecordBuffer sizes buffer
@@ -64,12 +67,18 @@ pub record DemandsFor (sizes : Sizes) : Type 0 where
       → let need = built g output .value in
       (need ≤ length other → (built g other .number ≡ 0) × (built g other .value ≡ need) × (length (fileOf (built g other)) ≡ need))
       × (length other < need → built g other ≡ record { number = 11; value = need; output = other })
+  -- and it is the same file for every output
   pub built-same : (g : Given sizes) (output other : List ℕ) → built g output .number ≡ 0 → built g other .number ≡ 0
       → fileOf (built g output) ≡ fileOf (built g other)
   -- Plan's counts are the sections of Build's file in each segment, all 512
   pub built-planned : (g : Given sizes) (output : List ℕ) → built g output .number ≡ 0 → (index : ℕ) → index < 512
       → planned (plan sizes (g .pools) (g .list)) index ≡ sectionsCounted (g .base) (fileOf (built g output)) index
-  -- ---- 4. "For every sound list, and however long the output is, Build refuses the list as unpackable exactly when no
+  -- "255 for an unpackable segment. Every entry is 254 if the list is unsound"
+  pub plan-unpackable : (g : Given sizes) (index : ℕ) → index < 512
+      → (planned (plan sizes (g .pools) (g .list)) index ≡ 255) ↔ (EightHold sizes (events g) index → ⊥)
+  pub plan-unsound : (pools : Pools) (list : EventList) → T (not (sound sizes pools list)) → (index : ℕ) → index < 512
+      → planned (plan sizes pools list) index ≡ 254
+  -- ---- Demand 3: "For every sound list, and however long the output is, Build refuses the list as unpackable exactly when no
   -- accepted file, made by anyone, carries its events"
   pub unpackable-exactly : (g : Given sizes) (output : List ℕ)
       → (built g output .number ≡ 10) ↔ ((file : List ℕ) → Carries g file → ⊥)
@@ -77,8 +86,8 @@ pub record DemandsFor (sizes : Sizes) : Type 0 where
   pub unpackable-lowest : (g : Given sizes) (output : List ℕ) → built g output .number ≡ 10
       → let lowest = built g output .value in
       (lowest < 512) × (EightHold sizes (events g) lowest → ⊥) × ((index : ℕ) → index < lowest → EightHold sizes (events g) index)
-  -- ---- 5. "Where Build writes, take any other accepted file that carries the same events, whoever made it and under whatever
-  -- identity. In every segment it has at least as many sections as Build's file"
+  -- ---- Demand 3: "Where Build writes, take any other accepted file that carries the same events, whoever made it and under
+  -- whatever identity. In every segment it has at least as many sections as Build's file"
   pub fewest-sections : (g : Given sizes) (output : List ℕ) → built g output .number ≡ 0
       → (file : List ℕ) → Carries g file → (index : ℕ)
       → sectionsCounted (g .base) (fileOf (built g output)) index ≤ sectionsCounted (g .base) file index
@@ -90,7 +99,7 @@ pub record DemandsFor (sizes : Sizes) : Type 0 where
   -- both count the sections that the file's bytes show: of joined sections that keep the rules, these sections
   pub cut-back : (base : ℕ) (identity : Identity) (ss : List Section) → base ≤ baseMost → Rules sizes identity ss
       → cutSections base (fileBytes base ss) ≡ ss
-  -- ---- 6. Demand 1: "A refusal leaves them untouched, except that a refused edit keeps the edits before it"
+  -- ---- Demand 1: "A refusal leaves them untouched, except that a refused edit keeps the edits before it"
   pub build-leaves : (pools : Pools) (list : EventList) (base : ℕ) (identity : Identity) (output : List ℕ)
       → let b = build sizes pools list base identity output in
       (b .number ≡ 0 → ⊥) → b .output ≡ output

@@ -1,4 +1,4 @@
--- Build and Plan computed, where document 01 has no sample marked P: a gap behind a short segment, outputs at the limit, and
+-- Build and Plan computed, where document 01 has no sample marked P: a gap after a short segment, outputs at the limit, and
 -- which refusal comes first. The value is in proofs/Examples.antt. Assumes nothing.
 use Prim.Native.Nat.{_+_, _*_}
 use mathlib.Core.Path.{_≡_}
@@ -7,11 +7,11 @@ use lib.ListN.{replicate}
 use Rattle.eit.specs.Sizes.{broadcast, sectionOverhead}
 use Rattle.eit.specs.Records.{recordSize}
 use Rattle.sections.specs.Section.{eventOverhead}
-use Rattle.schedule.specs.SampleLists.{bare, overlong, unsound, gap, emptyFile}
-use Rattle.schedule.specs.SampleCalls.{buildOf, answer, planOf, cuts, numbers, ids, filled}
+use Rattle.schedule.specs.SampleLists.{bare, overlong, overlongLater, unsound, gap, emptyFile}
+use Rattle.schedule.specs.SampleCalls.{buildOf, answer, headerAfter, planOf, cuts, numbers, ids, filled}
 
 pub record Examples : Type 0 where
-  -- a gap: section numbers 0, 1, 8 behind a short segment, an empty segment, an empty table; tables end with their last events
+  -- a gap: section numbers 0, 1, 8 after a short segment, an empty segment, an empty table; tables end with their last events
   pub gap-cuts :
       cuts gap
       ≡ (0x50, 0, 1) ∷ (0x50, 1, 1) ∷ (0x50, 8, 0) ∷ (0x50, 16, 1) ∷ (0x50, 17, 1)
@@ -25,10 +25,19 @@ pub record Examples : Type 0 where
   pub gap-build : answer gap ≡ record { number = 11; value = 8 * sectionOverhead + (5 * eventOverhead + 2 * 4_055); output = [] }
   -- Read's record buffer in the demands
   pub record-buffer : broadcast .eventLimit * recordSize ≡ 12_288
+  -- three sections in a segment, the first two full
+  pub three-cuts : cuts (bare 0 679) ≡ (0x50, 0, 339) ∷ (0x50, 1, 339) ∷ (0x50, 2, 1) ∷ []
+  -- an unpackable segment after one that is not
+  pub later-plan : planOf overlongLater ≡ filled ((1 ∷ []) ∷ (1 ∷ 255 ∷ []) ∷ [])
+  pub later-build : answer overlongLater ≡ record { number = 10; value = 33; output = [] }
+  -- the highest version
+  pub version-most :
+      headerAfter 0 (buildOf (bare 0 0) 49_273 31 (replicate 18 0xAA))
+      ≡ 0x50 ∷ 0xF0 ∷ 0x0F ∷ 0x00 ∷ 0x01 ∷ 0xFF ∷ 0x00 ∷ 0x00 ∷ 0x00 ∷ 0x02 ∷ 0x00 ∷ 0x03 ∷ 0x00 ∷ 0x50 ∷ []
   -- an output that is just long enough, and one that is a byte short
-  pub room-left : buildOf (bare 0 0) 49_273 0 (replicate 18 0xAA) ≡ record { number = 0; value = 18; output = emptyFile }
+  pub just-enough : buildOf (bare 0 0) 49_273 0 (replicate 18 0xAA) ≡ record { number = 0; value = 18; output = emptyFile }
   pub byte-short : buildOf (bare 0 0) 49_273 0 (replicate 17 0xAA) ≡ record { number = 11; value = 18; output = replicate 17 0xAA }
-  -- Plan of an unsound list; Build's refusals 1, 2, 12 and 10, whatever the output, and each before those behind it
+  -- Plan of an unsound list; Build's refusals 1, 2, 12 and 10, whatever the output, and each before those that follow it
   pub unsound-plan : planOf unsound ≡ replicate 16 (replicate 32 254)
   pub unsound-build : buildOf unsound 65_472 31 (replicate 99 0xAA) ≡ record { number = 12; value = 0; output = replicate 99 0xAA }
   pub base : buildOf (bare 0 0) 65_473 0 (replicate 99 0xAA) ≡ record { number = 1; value = 0; output = replicate 99 0xAA }

@@ -37,7 +37,7 @@ lastTableIdOf es = tableOf (lastIndex 0 es)
 abbrev pub lastSegment : List Event → ℕ → ℕ
 lastSegment es table = lastIndex (table * tableSegments) (tableEvents table es)
 
--- whether a segment is inside the range: its table is not behind the last one, and it is not behind its table's last segment
+-- whether a segment is inside the range: its table is not past the last one, and it is not past its table's last segment
 abbrev pub isInside : List Event → ℕ → Bool
 isInside es index =
     leb (index / tableSegments) (lastTable es) && leb index (lastSegment es (index / tableSegments))

@@ -42,7 +42,7 @@ module _ {sizes : Sizes} where
   events g = eventsOf (g .pools) (g .list)
 
   -- 01's term: carries. The file is accepted, and Read then returns as many records as the list has, each the same event as the
-  -- list's record in that place; the file is the pool of what Read returns
+  -- list's record in that place; the file is the pool of what Read returns, and what the record buffer held does not matter
   pub record Carries (g : Given sizes) (file : List ℕ) : Type 0 where
     pub bytes : Bytes file
     pub accepted : Accepted sizes (g .base) file

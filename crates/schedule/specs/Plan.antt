@@ -13,8 +13,7 @@ use Rattle.schedule.specs.Each.{each}
 use Rattle.schedule.specs.Extent.{tables, tableSegments, isInside}
 use Rattle.schedule.specs.SectionsOf.{isUnpackable, partsOf}
 
--- 0 outside a table's range, 255 for an unpackable segment; else the number of its sections. An unpackable segment has events,
--- so it is inside
+-- 0 outside a table's range, 255 for an unpackable segment (which is inside: `count-unpackable`); else the number of its sections
 unfoldable pub sectionCount : Sizes → List Event → ℕ → ℕ
 unfolding isUnpackable partsOf
 sectionCount sizes es index =

@@ -28,18 +28,18 @@ buildOf c base version output = build broadcast (c .pools) (c .list) base (versi
 abbrev pub answer : Case → Built
 answer c = buildOf c 49_273 0 []
 
--- the header, and the first event, of the section behind n empty ones in Build's file
-abbrev pub headerBehind : ℕ → Built → List ℕ
-headerBehind n built = take headerSize (drop (n * sectionOverhead) (fileOf built))
+-- the header, and the first event, of the section after n empty ones in Build's file
+abbrev pub headerAfter : ℕ → Built → List ℕ
+headerAfter n built = take headerSize (drop (n * sectionOverhead) (fileOf built))
 
-abbrev pub eventBehind : ℕ → Built → List ℕ
-eventBehind n built = take eventOverhead (drop (n * sectionOverhead + headerSize) (fileOf built))
+abbrev pub eventAfter : ℕ → Built → List ℕ
+eventAfter n built = take eventOverhead (drop (n * sectionOverhead + headerSize) (fileOf built))
 
 -- Plan
 abbrev pub planOf : Case → List (List ℕ)
 planOf c = plan broadcast (c .pools) (c .list)
 
--- something of each section of Build's file: table_id, section_number and number of events; S, G, L and last_table_id; ids
+-- something of each section that Build writes: table_id, section_number and number of events; S, G, L and last_table_id; ids
 abbrev pub ofSections : {A : Type 0} → (Section → A) → Case → List A
 ofSections f c = map f (sectionsOf broadcast (versioned 0) (eventsOf (c .pools) (c .list)))
 
@@ -62,6 +62,6 @@ emptySegments table n = map (λ (segment : ℕ). (table, 8 * segment, 0)) (row 0
 abbrev pub emptyTables : ℕ → ℕ → List (ℕ × ℕ × ℕ)
 emptyTables table n = map (λ (t : ℕ). (t, 0, 0)) (row table n)
 
--- sixteen tables of thirty-two counts: those given, and 0 behind them
+-- sixteen tables of thirty-two counts: those given, and 0 after them
 abbrev pub filled : List (List ℕ) → List (List ℕ)
 filled counts = take 16 (map (λ (cs : List ℕ). take 32 (cs ++ replicate 32 0)) counts ++ replicate 16 (replicate 32 0))

@@ -58,6 +58,10 @@ overlong = chained (chainOf 4_067) (356_400 ∷ [])
 abbrev pub overlongs : Case
 overlongs = chained (chainOf 4_067) (0 ∷ 356_400 ∷ [])
 
+-- an event without descriptors at 0, and one with a chain of 4,067 bytes at segment index 33
+abbrev pub overlongLater : Case
+overlongLater = caseOf (chainOf 4_067) [] (event 1 0 0 0 ∷ event 2 356_400 0 4_067 ∷ [])
+
 -- an unsound list, two events with one start; with chains of 4,067 bytes, too
 abbrev pub unsound : Case
 unsound = chained (chainOf 4_067) (0 ∷ 0 ∷ [])

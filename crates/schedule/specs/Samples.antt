@@ -10,20 +10,20 @@ use Rattle.eit.specs.Crc.{crc32}
 use Rattle.sections.specs.Section.{eventOverhead}
 use Rattle.schedule.specs.Build.{fileOf}
 use Rattle.schedule.specs.SampleLists.{bare, long, overlong, overlongs, pair, programme, zeros, emptyFile}
-use Rattle.schedule.specs.SampleCalls.{buildOf, answer, headerBehind, eventBehind, planOf, cuts, numbers, editOf}
+use Rattle.schedule.specs.SampleCalls.{buildOf, answer, headerAfter, eventAfter, planOf, cuts, numbers, editOf}
 use Rattle.schedule.specs.SampleCalls.{emptySegments, emptyTables, filled}
 
 pub record Samples : Type 0 where
   -- "1993-10-13 12:45:00 is C0 79 12 45 00 (EN 300 468, 5.2.4); 01:45:30 is 01 45 30." That day is MJD 49,273; then by a base day
-  -- two days before it; then as an event of Build's file, behind four empty segments and behind twenty
+  -- two days before it; then as an event of Build's file, after four empty segments and after twenty
   pub date : startBytes 49_273 45_900 ≡ 0xC0 ∷ 0x79 ∷ 0x12 ∷ 0x45 ∷ 0x00 ∷ []
   pub date-later : startBytes 49_271 (2 * 86_400 + 45_900) ≡ 0xC0 ∷ 0x79 ∷ 0x12 ∷ 0x45 ∷ 0x00 ∷ []
   pub lasting : durationBytes 6_330 ≡ 0x01 ∷ 0x45 ∷ 0x30 ∷ []
   pub date-built :
-      eventBehind 4 (buildOf (programme 45_900) 49_273 0 (replicate 102 0xAA))
+      eventAfter 4 (buildOf (programme 45_900) 49_273 0 (replicate 102 0xAA))
       ≡ 0x00 ∷ 0x01 ∷ 0xC0 ∷ 0x79 ∷ 0x12 ∷ 0x45 ∷ 0x00 ∷ 0x01 ∷ 0x45 ∷ 0x30 ∷ 0x00 ∷ 0x00 ∷ []
   pub date-later-built :
-      eventBehind 20 (buildOf (programme (2 * 86_400 + 45_900)) 49_271 0 (replicate 390 0xAA))
+      eventAfter 20 (buildOf (programme (2 * 86_400 + 45_900)) 49_271 0 (replicate 390 0xAA))
       ≡ 0x00 ∷ 0x01 ∷ 0xC0 ∷ 0x79 ∷ 0x12 ∷ 0x45 ∷ 0x00 ∷ 0x01 ∷ 0x45 ∷ 0x30 ∷ 0x00 ∷ 0x00 ∷ []
   -- "start 10,799: segment 0; 10,800: section 8."
   pub segment-end : cuts (bare 10_799 1) ≡ (0x50, 0, 1) ∷ []
@@ -43,10 +43,10 @@ pub record Samples : Type 0 where
   pub table-next-plan : planOf (bare 345_600 1) ≡ filled ((1 ∷ []) ∷ (1 ∷ []) ∷ [])
   pub table-next-build : answer (bare 345_600 1) ≡ record { number = 11; value = 2 * sectionOverhead + eventOverhead; output = [] }
   pub table-next-first :
-      headerBehind 0 (buildOf (bare 345_600 1) 49_273 0 (replicate 48 0xAA))
+      headerAfter 0 (buildOf (bare 345_600 1) 49_273 0 (replicate 48 0xAA))
       ≡ 0x50 ∷ 0xF0 ∷ 0x0F ∷ 0x00 ∷ 0x01 ∷ 0xC1 ∷ 0x00 ∷ 0x00 ∷ 0x00 ∷ 0x02 ∷ 0x00 ∷ 0x03 ∷ 0x00 ∷ 0x51 ∷ []
   pub table-next-second :
-      headerBehind 1 (buildOf (bare 345_600 1) 49_273 0 (replicate 48 0xAA))
+      headerAfter 1 (buildOf (bare 345_600 1) 49_273 0 (replicate 48 0xAA))
       ≡ 0x51 ∷ 0xF0 ∷ 0x1B ∷ 0x00 ∷ 0x01 ∷ 0xC1 ∷ 0x00 ∷ 0x00 ∷ 0x00 ∷ 0x02 ∷ 0x00 ∷ 0x03 ∷ 0x00 ∷ 0x51 ∷ []
   -- "5,529,599: 0x5F, segment 31; 5,529,600: refusal 5." Fifteen tables of one empty section lie before it; PUT by its bytes
   pub start-most : cuts (bare 5_529_599 1) ≡ emptyTables 0x50 15 ++ emptySegments 0x5F 31 ++ ((0x5F, 248, 1) ∷ [])

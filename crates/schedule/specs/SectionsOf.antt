@@ -24,7 +24,7 @@ unfoldable pub isUnpackable : Sizes → List Event → ℕ → Bool
 unfolding reach
 isUnpackable sizes es index = unpackable eventSize (room sizes) segmentMost (segmentEvents index es)
 
--- the lowest such segment index; behind the last event's segment there is none
+-- the lowest such segment index; past the last event's segment there is none
 unfoldable pub lowestUnpackable : Sizes → List Event → Option ℕ
 unfolding lowest isUnpackable
 lowestUnpackable sizes es = lowest (isUnpackable sizes es) 0 (suc (lastIndex 0 es))
