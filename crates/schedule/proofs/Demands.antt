@@ -53,7 +53,7 @@ use Rattle.schedule.proofs.Given.{own-rules, own-events, own-carries, w
 use Rattle.schedule.proofs.Given.{own-counted, own-held, rival-counted, rival-held}
 
 module _ (sizes : Sizes) (legal : LegalSizes sizes) where
-  -- ---- 1 and 2: accepted files
+  -- ---- Demand 2: accepted files
 
   module _ (base : ℕ) (file : List ℕ) (bytes : Bytes file) where
     accepts : base ≤ baseMost
@@ -82,7 +82,7 @@ module _ (sizes : Sizes) (legal : LegalSizes sizes) where
         build-packs sizes pools list day identity output
         (accepted-sound sizes base file buffer series bytes zero) (lowest-none sizes (eventsOf pools list) fits)
 
-  -- ---- 3: built files
+  -- ---- Demand 2: built files
 
   module _ (g : Given sizes) (output : List ℕ) where
     carries : built g output .number ≡ 0 → Carries g (fileOf (built g output))
@@ -166,11 +166,11 @@ module _ (sizes : Sizes) (legal : LegalSizes sizes) where
       (λ (index, few, fails, before, is). absurd (not-10 (ap (λ (b : Built). b .number) (is output))))
       (build-or sizes legal g)
 
-  -- ---- 4: unpackable exactly
+  -- ---- Demand 3: unpackable exactly
 
   module _ (g : Given sizes) (output : List ℕ) where
-    unpackable : (built g output .number ≡ 10) ↔ ((file : List ℕ) → Carries g file → ⊥)
-    unpackable =
+    refused-exactly : (built g output .number ≡ 10) ↔ ((file : List ℕ) → Carries g file → ⊥)
+    refused-exactly =
         ⊎-elim
         (λ (fits, is). (
           λ ten. absurd (⊎-elim
@@ -186,12 +186,12 @@ module _ (sizes : Sizes) (legal : LegalSizes sizes) where
         ))
         (build-or sizes legal g)
 
-    lowest : built g output .number ≡ 10
+    refused-lowest : built g output .number ≡ 10
         → let index = built g output .value in
         (index < 512) × (EightHold sizes (events g) index → ⊥) × ((lower : ℕ) → lower < index → EightHold sizes (events g) lower)
-    lowest ten =
+    refused-lowest ten =
         ⊎-elim
-        (λ (fits, is). absurd (unpackable .0 ten (ownFile sizes legal g) (own-carries sizes legal g fits)))
+        (λ (fits, is). absurd (refused-exactly .0 ten (ownFile sizes legal g) (own-carries sizes legal g fits)))
         (λ (index, few, fails, before, is).
         let value : built g output .value ≡ index = ap (λ (b : Built). b .value) (is output) in
         subst
@@ -203,7 +203,7 @@ module _ (sizes : Sizes) (legal : LegalSizes sizes) where
         ))
         (build-or sizes legal g)
 
-  -- ---- 5: best
+  -- ---- Demand 3: best
 
   module _ (g : Given sizes) (output : List ℕ) (zero : built g output .number ≡ 0) (file : List ℕ) (c : Carries g file) (index : ℕ) where
     fewest : sectionsCounted (g .base) (fileOf (built g output)) index ≤ sectionsCounted (g .base) file index
@@ -251,8 +251,8 @@ module _ (sizes : Sizes) (legal : LegalSizes sizes) where
         plan-unsound = λ pools list unsound index few.
             ap (λ (counts : List (List ℕ)). planned counts index) (plan-unsound sizes pools list unsound)
             ∙ tabled-at (λ (index : ℕ). 254) index few;
-        unpackable-exactly = unpackable;
-        unpackable-lowest = lowest;
+        unpackable-exactly = refused-exactly;
+        unpackable-lowest = refused-lowest;
         fewest-sections = fewest;
         most-events = most;
         cut-back = λ base identity ss day rules. cut-sections-back sizes base (legal .most) day identity ss rules;

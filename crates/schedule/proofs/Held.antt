@@ -156,11 +156,11 @@ pub parts-events : (sizes : Sizes) (es : List Event) (index : ℕ) → T (not (i
 unfolding partsOf isUnpackable
 parts-events sizes es index fits = packed-all sizes (segmentEvents index es) fits
 
-events-append : (ss ts : List Section) → sectionEvents (ss ++ ts) ≡ sectionEvents ss ++ sectionEvents ts
+held-append : (ss ts : List Section) → sectionEvents (ss ++ ts) ≡ sectionEvents ss ++ sectionEvents ts
 unfolding sectionEvents
-events-append [] ts = refl
-events-append (s ∷ ss) ts =
-    ap (λ (es : List Event). s .events ++ es) (events-append ss ts)
+held-append [] ts = refl
+held-append (s ∷ ss) ts =
+    ap (λ (es : List Event). s .events ++ es) (held-append ss ts)
     ∙ sym (append-assoc (s .events) (sectionEvents ss) (sectionEvents ts))
 
 module _ (sizes : Sizes) (identity : Identity) (es : List Event) where
@@ -195,9 +195,9 @@ module _ (sizes : Sizes) (identity : Identity) (es : List Event) where
       let first : ℕ = table * tableSegments in
       let n : ℕ = suc (lastSegment es table - first) in
       ap sectionEvents (table-is table)
-      ∙ joined-map sectionEvents no-events events-append (segmentPart sizes identity es) first n
+      ∙ joined-map sectionEvents no-events held-append (segmentPart sizes identity es) first n
       ∙ ap flatten (each-same _ (segmentHeld es rises) first n (λ index. part-events index (fits index))) in
       ap sectionEvents file-is
-      ∙ joined-map sectionEvents no-events events-append (tablePart sizes identity es) 0 (suc (lastTable es))
+      ∙ joined-map sectionEvents no-events held-append (tablePart sizes identity es) 0 (suc (lastTable es))
       ∙ ap flatten (each-same _ (tableHeld es rises) 0 (suc (lastTable es)) held)
       ∙ all-held es rises

@@ -13,7 +13,7 @@ use Rattle.eit.proofs.Test.{test-or}
 use Rattle.packing.specs.Greedy.{joined, held, AllFit, Packing}
 use Rattle.sections.specs.Section.{Section, sectionEvents, eventSize, sectionSize}
 use Rattle.sections.specs.Every.{Every}
-use Rattle.sections.specs.Rules.{SectionRules, Rules}
+use Rattle.sections.specs.Rules.{Rules}
 use Rattle.sections.specs.Count.{isInFirst, firstSections, segmentEvents, segmentSections}
 use Rattle.sections.proofs.Count.{first-more, first-same, segment-holds}
 use Rattle.sections.proofs.SegmentOrder.{first-take, segment-eight}
@@ -49,9 +49,6 @@ parts-fit sizes [] fit = tt
 parts-fit sizes (s ∷ ss) fit = (omega (arith, fit .0, sizes-same (s .events)), parts-fit sizes ss (fit .1))
 
 module _ (sizes : Sizes) (identity : Identity) (ss : List Section) (rules : Rules sizes identity ss) (index : ℕ) where
-  Kept : Section → Type 0
-  Kept s = SectionRules sizes identity (rules .lastTableId) s
-
   -- the sections in a segment pack the events that start there
   pub segment-packing : Packing eventSize (room sizes) (segmentEvents index (sectionEvents ss)) (partsIn (segmentSections index ss))
   segment-packing =

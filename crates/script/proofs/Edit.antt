@@ -132,12 +132,12 @@ module _ (sizes : Sizes) (pools : Pools) where
         behind = rest .behind;
         split = ap (λ (fs : List Edit). e ∷ fs) (rest .split);
         carriedOut = run-done list e (rest .before) next does ∙ rest .carriedOut;
-        refusal = rest .refusal;
+        refuses = rest .refuses;
         offset = rest .offset;
       }))
       (λ (number, says).
       subst (λ (o : Edited). Stopped sizes pools list (e ∷ es) o) (sym (run-refused list e es number says))
-      (record { before = []; stop = e; behind = es; split = refl; carriedOut = refl; refusal = says; offset = refl }))
+      (record { before = []; stop = e; behind = es; split = refl; carriedOut = refl; refuses = says; offset = refl }))
       (step-or (step sizes pools list (e .act)))
 
   -- ---- the call, refusal by refusal

@@ -55,5 +55,5 @@ pub record Stopped (sizes : Sizes) (pools : Pools) (list : EventList) (es : List
   pub behind : List Edit
   pub split : before ++ stop ∷ behind ≡ es
   pub carriedOut : run sizes pools list before ≡ record { number = 0; value = o .list .count; list = o .list }
-  pub refusal : step sizes pools (o .list) (stop .act) ≡ refused (o .number)
+  pub refuses : step sizes pools (o .list) (stop .act) ≡ refused (o .number)
   pub offset : o .value ≡ stop .at
