@@ -2,12 +2,12 @@
 pub mod Every
 -- functions of numbers in a row
 pub mod Each
+-- the events of a sound list
+pub mod SoundEvents
 -- which segments Build's file has
 pub mod Extent
 -- the sections of Build's file hold the list's events
 pub mod Held
--- the events of a sound list
-pub mod SoundEvents
 -- the sections of Build's file in a segment
 pub mod Segments
 -- what the sections of a segment hold
@@ -34,6 +34,8 @@ pub mod Given
 pub mod Demands
 -- three laws of Build's file
 pub mod BuiltFile
+-- under its identity it is the only best one
+pub mod Only
 -- the samples marked P, computed
 pub mod Samples
 -- the examples, computed

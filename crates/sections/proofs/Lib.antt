@@ -46,5 +46,7 @@ pub mod Count
 pub mod SegmentOrder
 -- without a segment skipped
 pub mod SegmentBetween
+-- which file has given events in each section
+pub mod Only
 -- the examples, computed
 pub mod Examples

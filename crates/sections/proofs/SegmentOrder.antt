@@ -25,7 +25,7 @@ use Rattle.sections.proofs.Count.{in-first, first-in, first-more, first
 -- ---- places of a segment's sections
 
 -- the place of a segment's first section
-abbrev segmentPlace : ℕ → ℕ
+abbrev pub segmentPlace : ℕ → ℕ
 segmentPlace index = tableOf index * 256 + firstSection index
 
 -- a place among a segment's first k tells table and section_number
@@ -50,7 +50,7 @@ module _ (index k : ℕ) (few : k ≤ 8) (s : Section) (ss : List Section) (byte
       (λ inside. let (table, low, high) = in-first index k (s .header) inside in outside (omega arith) (omega arith)))
 
 -- the next section has the next place in the segment, or is the first of a later segment
-next-place : (g h : Header) → Numbered g → Next g h
+pub next-place : (g h : Header) → Numbered g → Next g h
     → ((g .sectionNumber < g .segmentLastSectionNumber) × (sectionPlace h ≡ sectionPlace g + 1)) ⊎ (sectionPlace h % 8 ≡ 0)
 next-place g h n next =
     ⊎-elim
@@ -151,7 +151,7 @@ module _ (sizes : Sizes) (identity : Identity) (lastTableId index : ℕ) where
   abbrev Kept : Section → Type 0
   Kept s = SectionRules sizes identity lastTableId s
 
-  byte-number : (s : Section) → Kept s → s .header .sectionNumber < 256
+  pub byte-number : (s : Section) → Kept s → s .header .sectionNumber < 256
   byte-number s rules =
       let h = rules .headerRules in
       omega (arith, h .numbered .segment, h .numbered .table, h .byte)
@@ -160,7 +160,7 @@ module _ (sizes : Sizes) (identity : Identity) (lastTableId index : ℕ) where
   later s t rules next = next-later (s .header) (t .header) (rules .headerRules .numbered) (rules .headerRules .byte) next
 
   -- none of the first k from a place behind them on
-  behind-none : (k : ℕ) → k ≤ 8 → (s : Section) (ss : List Section) → Every Kept (s ∷ ss) → Succeeding (s .header) (headersOf ss)
+  pub behind-none : (k : ℕ) → k ≤ 8 → (s : Section) (ss : List Section) → Every Kept (s ∷ ss) → Succeeding (s .header) (headersOf ss)
       → segmentPlace index + k ≤ sectionPlace (s .header)
       → firstSections index k (s ∷ ss) ≡ []
   behind-none k few s [] rules succeeding behind =
