@@ -103,6 +103,7 @@ pub record DemandsFor (sizes : Sizes) : Type 0 where
   pub build-leaves : (pools : Pools) (list : EventList) (base : ℕ) (identity : Identity) (output : List ℕ)
       → let b = build sizes pools list base identity output in
       (b .number ≡ 0 → ⊥) → b .output ≡ output
+  -- "Bytes beyond the file stay"
   pub build-beyond : (pools : Pools) (list : EventList) (base : ℕ) (identity : Identity) (output : List ℕ)
       → let b = build sizes pools list base identity output in
       b .number ≡ 0 → b .output ≡ fileOf b ++ drop (b .value) output
