@@ -1,2 +1,4 @@
 -- greedy packing is the best packing in order: after any number of parts none is ahead of it, and none has fewer parts
 pub mod Greedy
+-- what parts hold tells the parts
+pub mod Joined

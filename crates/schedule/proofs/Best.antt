@@ -17,18 +17,18 @@ use Rattle.eit.proofs.Test.{test-or, le-or-lt}
 use Rattle.packing.specs.Greedy.{joined, held, greedy, Packing}
 use Rattle.packing.proofs.Greedy.{greedy-fewest, greedy-dominates, greedy-held, reach-length}
 use Rattle.sections.specs.Segment.{firstSection}
-use Rattle.sections.specs.Section.{Section, sectionEvents, eventSize}
+use Rattle.sections.specs.Section.{Section, partsIn, sectionEvents, eventSize}
 use Rattle.sections.specs.Rules.{IdentityRules, Rules}
 use Rattle.sections.specs.Count.{firstSections, segmentEvents, segmentSections}
 use Rattle.sections.proofs.SegmentBetween.{segment-begins, segment-between}
 use Rattle.schedule.specs.Extent.{lastIndex, lastSegment, isInside}
 use Rattle.schedule.specs.SectionsOf.{isUnpackable, packed, partsOf, numberedFrom, segmentPart, sectionsOf}
-use Rattle.schedule.proofs.Extent.{segment-in-table, segment-held, table-held, inside-is, held-inside}
 use Rattle.schedule.proofs.SoundEvents.{SoundEvents}
-use Rattle.schedule.proofs.Segments.{sections-inside, sections-outside}
+use Rattle.schedule.proofs.Extent.{segment-in-table, segment-held, table-held, inside-is, held-inside}
 use Rattle.schedule.proofs.Parts.{parts-few}
+use Rattle.schedule.proofs.Segments.{sections-inside, sections-outside}
 use Rattle.schedule.proofs.BuiltRules.{built-rules}
-use Rattle.schedule.proofs.Rival.{partsIn, joined-parts, segment-packing, first-held}
+use Rattle.schedule.proofs.Rival.{joined-parts, segment-packing, first-held}
 
 -- ---- Build's sections in a segment
 
@@ -54,9 +54,9 @@ module _ (sizes : Sizes) (identity : Identity) (es : List Event) where
   unfolding segmentPart
   part-parts index = numbered-parts index (firstSection index) (partsOf sizes es index)
 
-  parts-are : (index : ℕ) → partsOf sizes es index ≡ packed sizes (segmentEvents index es)
-  unfolding partsOf
-  parts-are index = refl
+parts-are : (sizes : Sizes) (es : List Event) (index : ℕ) → partsOf sizes es index ≡ packed sizes (segmentEvents index es)
+unfolding partsOf
+parts-are sizes es index = refl
 
 some-sections : (ss : List Section) → 0 < length (sectionEvents ss) → 0 < length ss
 unfolding sectionEvents
@@ -104,7 +104,7 @@ module _ (sizes : Sizes) (es : List Event) (facts : SoundEvents sizes es)
         let built : length (segmentSections index (sectionsOf sizes identity es)) ≡ length (packed sizes (segmentEvents index es)) =
         ap length (sections-inside sizes identity es index (parts-few sizes es) inside)
         ∙ sym (length-map (segmentPart sizes identity es index) (λ (s : Section). s .events))
-        ∙ ap length (part-parts sizes identity es index ∙ parts-are sizes identity es index) in
+        ∙ ap length (part-parts sizes identity es index ∙ parts-are sizes es index) in
         let rival : length (partsIn (segmentSections index ss)) ≡ length (segmentSections index ss) =
         length-map (segmentSections index ss) (λ (s : Section). s .events) in
         omega (
@@ -137,7 +137,7 @@ module _ (sizes : Sizes) (es : List Event) (facts : SoundEvents sizes es)
         let parts : partsIn (segmentSections index B) ≡ packed sizes xs =
         ap partsIn (sections-inside sizes identity es index (parts-few sizes es) inside)
         ∙ part-parts sizes identity es index
-        ∙ parts-are sizes identity es index in
+        ∙ parts-are sizes es index in
         omega (arith, packed-held sizes k xs, ap (held k) parts))
         (λ outside. ⊎-elim
         (λ none-there. omega (arith, greedy-held eventSize (room sizes) k 8 xs few, reach-length eventSize (room sizes) k xs))

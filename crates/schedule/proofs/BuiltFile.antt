@@ -61,17 +61,17 @@ module _ (sizes : Sizes) (legal : LegalSizes sizes) (g : Given sizes) (output : 
   pub built-bytes : built g output .value
       ≡ 18 * length (cutSections (g .base) (fileOf (built g output))) + eventSizes (events g)
   built-bytes =
-      let (fits, is, enough, file) = writes sizes legal g output zero in
-      let ss : List Section = ownSections sizes legal g in
+      let (fits, is, enough, file) = writes g output zero in
+      let ss : List Section = ownSections g in
       let shown : cutSections (g .base) (fileOf (built g output)) ≡ ss =
       ap (cutSections (g .base)) file
-      ∙ cut-sections-back sizes (g .base) (legal .most) (g .legalBase) (g .identity) ss (own-rules sizes legal g fits) in
+      ∙ cut-sections-back sizes (g .base) (legal .most) (g .legalBase) (g .identity) ss (own-rules legal g fits) in
       omega (
         arith,
         ap (λ (b : Built). b .value) (is ∙ written-fits (g .base) ss output enough),
         sizes-split ss,
         ap length shown,
-        ap eventSizes (own-events sizes legal g fits),
+        ap eventSizes (own-events g fits),
       )
 
   -- Read of the file, built again under the identity read, gives the same answer and the same output
@@ -87,4 +87,4 @@ module _ (sizes : Sizes) (legal : LegalSizes sizes) (g : Given sizes) (output : 
       (ap (λ (a : Answer). a .identity) (all .built-read g output buffer zero size))
       ∙ events-alone sizes (filePools file series) (g .pools) (listOf r) (g .list) (g .base) (g .identity) output
       (all .accepted-sound (g .base) file series buffer (c .bytes) (c .accepted) size) (g .isSound)
-      (accepted-events sizes (g .base) file buffer series (c .bytes) (c .accepted buffer size) ∙ rival-events sizes legal g file c)
+      (accepted-events sizes (g .base) file buffer series (c .bytes) (c .accepted buffer size) ∙ rival-events g file c)

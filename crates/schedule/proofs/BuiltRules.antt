@@ -12,13 +12,13 @@ use Rattle.eit.specs.declared.Identity.{Identity}
 use Rattle.sections.specs.Section.{Section, sectionSize}
 use Rattle.sections.specs.Every.{Every}
 use Rattle.sections.specs.Rules.{IdentityRules, HeaderRules, EventRules, Alone, SectionRules, Rules}
+use Rattle.sections.proofs.Every.{every-map}
 use Rattle.schedule.specs.Extent.{lastTableIdOf}
 use Rattle.schedule.specs.SectionsOf.{isUnpackable, sectionsOf}
-use Rattle.schedule.proofs.Every.{every-map}
-use Rattle.schedule.proofs.Extent.{tables-few}
-use Rattle.schedule.proofs.Held.{sections-events}
 use Rattle.schedule.proofs.SoundEvents.{EventFacts, SoundEvents}
+use Rattle.schedule.proofs.Extent.{tables-few}
 use Rattle.schedule.proofs.Parts.{parts-filled, part-rules, part-sizes}
+use Rattle.schedule.proofs.Held.{sections-events}
 use Rattle.schedule.proofs.Numbers.{sections-every, headers-keep, empty-alone, headers-ordered}
 
 -- the four rules of a section, each shown of every section
@@ -49,7 +49,7 @@ built-rules sizes identity es roomy legal facts fits =
           all-four sizes identity (lastTableIdOf es) (sectionsOf sizes identity es)
           (headers-keep sizes identity es)
           (sections-every sizes identity es _ (λ index table inside. part-rules sizes identity es index (facts .facts) (fits index)))
-          (empty-alone sizes identity es (λ index. parts-filled sizes identity es index (fits index)))
+          (empty-alone sizes identity es (λ index. parts-filled sizes es index (fits index)))
           (sections-every sizes identity es _ (λ index table inside. part-sizes sizes identity es index roomy));
       ordered = headers-ordered sizes identity es;
       rises = rw all (facts .rises);

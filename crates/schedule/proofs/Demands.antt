@@ -30,11 +30,12 @@ use Rattle.sections.specs.Exact.{RecordBuffer, Accepted, FollowsRules}
 use Rattle.sections.proofs.Lengths.{file-length}
 use Rattle.sections.proofs.Read.{read-agrees, check-below-27}
 use Rattle.sections.proofs.Exact.{accepted-follows, cut-sections-back, follows-read, read-exact}
-use Rattle.sections.proofs.Accepted.{accepted-exactly}
+use Rattle.sections.proofs.Accepted.{accepted-check, accepted-exactly}
 use Rattle.sections.proofs.Frame.{read-leaves}
 use Rattle.sections.proofs.FileSize.{accepted-size}
 use Rattle.sections.proofs.Places.{records-count}
 use Rattle.sections.proofs.FileSound.{accepted-sound, accepted-events}
+use Rattle.sections.proofs.Count.{counted-is, held-is}
 use Rattle.schedule.specs.Extent.{isInside}
 use Rattle.schedule.specs.SectionsOf.{isUnpackable}
 use Rattle.schedule.specs.Plan.{sectionCount, plan, planned}
@@ -48,9 +49,8 @@ use Rattle.schedule.proofs.Packable.{eight-hold, held-packable, lowest-
 use Rattle.schedule.proofs.Best.{best-fewest, best-most}
 use Rattle.schedule.proofs.Plan.{plan-sound, plan-unsound, tabled-at, count-sections, count-inside, count-outside}
 use Rattle.schedule.proofs.Plan.{count-unpackable}
-use Rattle.schedule.proofs.Given.{LegalSizes, accepted-number, shown-rules, facts, ownSections, ownFile, build-or}
-use Rattle.schedule.proofs.Given.{own-rules, own-events, own-carries, writes, rival-rules, rival-events, rival-eight}
-use Rattle.schedule.proofs.Given.{own-counted, own-held, rival-counted, rival-held}
+use Rattle.schedule.proofs.Given.{LegalSizes, shown-rules, facts, ownSections, ownFile, build-or, own-rules, own-events}
+use Rattle.schedule.proofs.Given.{own-carries, writes, rival-rules, rival-events, rival-eight, own-counted, own-held}
 
 module _ (sizes : Sizes) (legal : LegalSizes sizes) where
   -- ---- Demand 2: accepted files
@@ -60,7 +60,7 @@ module _ (sizes : Sizes) (legal : LegalSizes sizes) where
         → Accepted sizes base file ↔ ((identity : Identity) × (rs : List Record) × FollowsRules sizes base file identity rs)
     accepts day = (
       λ accepted.
-          let zero = accepted-number sizes base file bytes accepted in
+          let zero = accepted-check sizes base file .0 accepted in
           (checkFile sizes base file .identity, fileRecords base file, accepted-follows sizes base file bytes zero),
       λ (identity, rs, f).
           accepted-exactly sizes base file (legal .most) day bytes .1 (identity, f .sections, f .rules, f .bytes),
@@ -86,26 +86,26 @@ module _ (sizes : Sizes) (legal : LegalSizes sizes) where
 
   module _ (g : Given sizes) (output : List ℕ) where
     carries : built g output .number ≡ 0 → Carries g (fileOf (built g output))
-    carries zero = let (fits, is, enough, file) = writes sizes legal g output zero in subst (Carries g) (sym file) (own-carries sizes legal g fits)
+    carries zero = let (fits, is, enough, file) = writes g output zero in subst (Carries g) (sym file) (own-carries legal g fits)
 
     reads : (buffer : List ℕ) → built g output .number ≡ 0 → RecordBuffer sizes buffer
         → read sizes (g .base) (fileOf (built g output)) buffer .answer
         ≡ record { number = 0; value = g .list .count; identity = g .identity; count = g .list .count }
     reads buffer zero size =
-        let (fits, is, enough, file) = writes sizes legal g output zero in
-        let ss : List Section = ownSections sizes legal g in
+        let (fits, is, enough, file) = writes g output zero in
+        let ss : List Section = ownSections g in
         let count : length (recordsFrom 0 ss) ≡ g .list .count =
-        records-count 0 ss ∙ ap length (own-events sizes legal g fits) ∙ events-length (g .pools) (g .list) in
+        records-count 0 ss ∙ ap length (own-events g fits) ∙ events-length (g .pools) (g .list) in
         let few : g .list .count ≤ sizes .eventLimit = sound-list sizes (g .pools) (g .list) (g .isSound) .few in
         ap (λ (f : List ℕ). read sizes (g .base) f buffer .answer) file
         ∙ ap (λ (r : Reading). r .answer)
-        (follows-read sizes (g .base) (legal .most) (g .legalBase) (g .identity) ss (own-rules sizes legal g fits) buffer (omega arith))
+        (follows-read sizes (g .base) (legal .most) (g .legalBase) (g .identity) ss (own-rules legal g fits) buffer (omega arith))
         ∙ ap (success (g .identity)) count
 
     -- the value is the file's length, with 0 and with 11
-    values : (built g output .number ≡ 10 → ⊥) → built g output .value ≡ sectionSizes (ownSections sizes legal g)
+    values : (built g output .number ≡ 10 → ⊥) → built g output .value ≡ sectionSizes (ownSections g)
     values not-10 =
-        let ss : List Section = ownSections sizes legal g in
+        let ss : List Section = ownSections g in
         ⊎-elim
         (λ (fits, is).
         ap (λ (b : Built). b .value) (is output)
@@ -113,16 +113,16 @@ module _ (sizes : Sizes) (legal : LegalSizes sizes) where
         (λ short. ap (λ (b : Built). b .value) (written-short (g .base) ss output short))
         (le-or-lt (sectionSizes ss) (length output)))
         (λ (index, few, fails, before, is). absurd (not-10 (ap (λ (b : Built). b .number) (is output))))
-        (build-or sizes legal g)
+        (build-or g)
 
     planned-sections : built g output .number ≡ 0 → (index : ℕ) → index < 512
         → planned (plan sizes (g .pools) (g .list)) index ≡ sectionsCounted (g .base) (fileOf (built g output)) index
     planned-sections zero index few =
-        let (fits, is, enough, file) = writes sizes legal g output zero in
+        let (fits, is, enough, file) = writes g output zero in
         ap (λ (counts : List (List ℕ)). planned counts index) (plan-sound sizes (g .pools) (g .list) (g .isSound))
         ∙ tabled-at (sectionCount sizes (events g)) index few
         ∙ count-sections sizes (events g) index (g .identity) (fits index)
-        ∙ sym (own-counted sizes legal g fits index)
+        ∙ sym (own-counted legal g fits index)
         ∙ ap (λ (f : List ℕ). sectionsCounted (g .base) f index) (sym file)
 
   plan-refuses : (g : Given sizes) (index : ℕ) → index < 512
@@ -137,7 +137,7 @@ module _ (sizes : Sizes) (legal : LegalSizes sizes) where
             ⊎-elim (λ inside. omega (arith, is, says, count-inside sizes es index inside fits, parts-few sizes es index))
             (λ outside. omega (arith, is, says, count-outside sizes es index outside))
             (test-or (isInside es index)),
-        λ none. ⊎-elim (λ fails. is ∙ count-unpackable sizes es index (facts sizes legal g .rises) fails)
+        λ none. ⊎-elim (λ fails. is ∙ count-unpackable sizes es index (facts g .rises) fails)
             (λ fits. absurd (none (eight-hold sizes es index fits)))
             (test-or (isUnpackable sizes es index)),
       )
@@ -147,7 +147,7 @@ module _ (sizes : Sizes) (legal : LegalSizes sizes) where
       (need ≤ length other → (built g other .number ≡ 0) × (built g other .value ≡ need) × (length (fileOf (built g other)) ≡ need))
       × (length other < need → built g other ≡ record { number = 11; value = need; output = other })
   lengths g output other not-10 =
-      let ss : List Section = ownSections sizes legal g in
+      let ss : List Section = ownSections g in
       let need : built g output .value ≡ sectionSizes ss = values g output not-10 in
       ⊎-elim
       (λ (fits, is). (
@@ -164,7 +164,7 @@ module _ (sizes : Sizes) (legal : LegalSizes sizes) where
             ∙ ap (λ (n : ℕ). refusal 11 n other) (sym need),
       ))
       (λ (index, few, fails, before, is). absurd (not-10 (ap (λ (b : Built). b .number) (is output))))
-      (build-or sizes legal g)
+      (build-or g)
 
   -- ---- Demand 3: unpackable exactly
 
@@ -173,25 +173,23 @@ module _ (sizes : Sizes) (legal : LegalSizes sizes) where
     refused-exactly =
         ⊎-elim
         (λ (fits, is). (
-          λ ten. absurd (⊎-elim
-              (λ enough. omega (arith, ap (λ (b : Built). b .number) (is output ∙ written-fits (g .base) (ownSections sizes legal g) output enough)))
-              (λ short. omega (arith, ap (λ (b : Built). b .number) (is output ∙ written-short (g .base) (ownSections sizes legal g) output short)))
-              (le-or-lt (sectionSizes (ownSections sizes legal g)) (length output))),
-          λ nobody. absurd (nobody (ownFile sizes legal g) (own-carries sizes legal g fits)),
+          λ ten. absurd
+              (build-packs sizes (g .pools) (g .list) (g .base) (g .identity) output (g .isSound) (lowest-none sizes (events g) fits) .1 ten),
+          λ nobody. absurd (nobody (ownFile g) (own-carries legal g fits)),
         ))
         (λ (index, few, fails, before, is). (
           λ ten file c.
-              T-not (isUnpackable sizes (events g) index) (held-packable sizes (events g) index (rival-eight sizes legal g file c index)) fails,
+              T-not (isUnpackable sizes (events g) index) (held-packable sizes (events g) index (rival-eight g file c index)) fails,
           λ nobody. ap (λ (b : Built). b .number) (is output),
         ))
-        (build-or sizes legal g)
+        (build-or g)
 
     refused-lowest : built g output .number ≡ 10
         → let index = built g output .value in
         (index < 512) × (EightHold sizes (events g) index → ⊥) × ((lower : ℕ) → lower < index → EightHold sizes (events g) lower)
     refused-lowest ten =
         ⊎-elim
-        (λ (fits, is). absurd (refused-exactly .0 ten (ownFile sizes legal g) (own-carries sizes legal g fits)))
+        (λ (fits, is). absurd (refused-exactly .0 ten (ownFile g) (own-carries legal g fits)))
         (λ (index, few, fails, before, is).
         let value : built g output .value ≡ index = ap (λ (b : Built). b .value) (is output) in
         subst
@@ -201,33 +199,33 @@ module _ (sizes : Sizes) (legal : LegalSizes sizes) where
           λ eight. T-not (isUnpackable sizes (events g) index) (held-packable sizes (events g) index eight) fails,
           λ lower less. eight-hold sizes (events g) lower (before lower less),
         ))
-        (build-or sizes legal g)
+        (build-or g)
 
   -- ---- Demand 3: best
 
   module _ (g : Given sizes) (output : List ℕ) (zero : built g output .number ≡ 0) (file : List ℕ) (c : Carries g file) (index : ℕ) where
     fewest : sectionsCounted (g .base) (fileOf (built g output)) index ≤ sectionsCounted (g .base) file index
     fewest =
-        let (fits, is, enough, own) = writes sizes legal g output zero in
+        let (fits, is, enough, own) = writes g output zero in
         omega (
           arith,
           ap (λ (f : List ℕ). sectionsCounted (g .base) f index) own,
-          own-counted sizes legal g fits index,
-          rival-counted sizes legal g file c index,
-          best-fewest sizes (events g) (facts sizes legal g) (checkFile sizes (g .base) file .identity) (cutSections (g .base) file)
-              (rival-rules sizes legal g file c) (rival-events sizes legal g file c) (g .identity) index,
+          own-counted legal g fits index,
+          counted-is (g .base) file index,
+          best-fewest sizes (events g) (facts g) (checkFile sizes (g .base) file .identity) (cutSections (g .base) file)
+              (rival-rules g file c) (rival-events g file c) (g .identity) index,
         )
 
     most : (k : ℕ) → k ≤ 8 → eventsCounted (g .base) file index k ≤ eventsCounted (g .base) (fileOf (built g output)) index k
     most k few =
-        let (fits, is, enough, own) = writes sizes legal g output zero in
+        let (fits, is, enough, own) = writes g output zero in
         omega (
           arith,
           ap (λ (f : List ℕ). eventsCounted (g .base) f index k) own,
-          own-held sizes legal g fits index k,
-          rival-held sizes legal g file c index k,
-          best-most sizes (events g) (facts sizes legal g) (checkFile sizes (g .base) file .identity) (cutSections (g .base) file)
-              (rival-rules sizes legal g file c) (rival-events sizes legal g file c) (g .identity) index (legal .least) (g .legalIdentity) fits k few,
+          own-held legal g fits index k,
+          held-is (g .base) file index k,
+          best-most sizes (events g) (facts g) (checkFile sizes (g .base) file .identity) (cutSections (g .base) file)
+              (rival-rules g file c) (rival-events g file c) (g .identity) index (legal .least) (g .legalIdentity) fits k few,
         )
 
   -- ---- all of it, for every section size that can be
@@ -237,7 +235,7 @@ module _ (sizes : Sizes) (legal : LegalSizes sizes) where
       record {
         accepted-exactly = λ base file day bytes. accepts base file bytes day;
         read-exact = λ base file buffer identity rs day bytes. read-exact sizes base file buffer identity rs (legal .most) day bytes;
-        accepted-size = λ base file bytes accepted. accepted-size sizes base file (legal .most) bytes (accepted-number sizes base file bytes accepted);
+        accepted-size = λ base file bytes accepted. accepted-size sizes base file (legal .most) bytes (accepted-check sizes base file .0 accepted);
         check-agrees = λ base file buffer not-27. read-agrees sizes base file buffer not-27;
         check-never-27 = λ base file says. omega (arith, check-below-27 sizes base file);
         accepted-sound = λ base file series buffer bytes accepted size. accepted-sound sizes base file buffer series bytes (accepted buffer size);
@@ -245,7 +243,7 @@ module _ (sizes : Sizes) (legal : LegalSizes sizes) where
         built-carries = carries;
         built-read = reads;
         built-length = lengths;
-        built-same = λ g output other zero also. writes sizes legal g output zero .3 ∙ sym (writes sizes legal g other also .3);
+        built-same = λ g output other zero also. writes g output zero .3 ∙ sym (writes g other also .3);
         built-planned = planned-sections;
         plan-unpackable = plan-refuses;
         plan-unsound = λ pools list unsound index few.

@@ -10,8 +10,8 @@ use lib.Dec.{T}
 use lib.ListN.{length, getD}
 use Rattle.eit.proofs.Test.{test-or, true-is, false-is, le-or-lt}
 use Rattle.sections.specs.Every.{Every}
+use Rattle.sections.proofs.Every.{every-append}
 use Rattle.schedule.specs.Each.{each, lowest}
-use Rattle.schedule.proofs.Every.{every-append}
 
 module _ {A : Type 0} where
   pub each-length : (f : ℕ → A) (least n : ℕ) → length (each f least n) ≡ n
@@ -72,7 +72,7 @@ joined-split {A = A} f rest splits least (suc n) =
     ∙ ap (λ (xs : List A). f least ++ xs) (joined-split f rest splits (suc least) n ∙ ap (λ (k : ℕ). flatten (each f (suc least) n) ++ rest k) (omega arith))
     ∙ sym (append-assoc (f least) (flatten (each f (suc least) n)) (rest (least + suc n)))
 
--- what holds of joined lists: a function that takes joined lists to joined lists does so here
+-- a function that keeps the joining of two lists keeps that of a row
 pub joined-map : {A B : Type 0} (h : List A → List B) → h [] ≡ [] → ((xs ys : List A) → h (xs ++ ys) ≡ h xs ++ h ys)
     → (f : ℕ → List A) (least n : ℕ) → h (flatten (each f least n)) ≡ flatten (each (λ (k : ℕ). h (f k)) least n)
 unfolding each flatten

@@ -15,9 +15,9 @@ use Rattle.eit.proofs.Events.{AllAfter, rising-rest, rising-after, after-rising
 use Rattle.sections.specs.Segment.{segmentIndex}
 use Rattle.sections.specs.Every.{Every}
 use Rattle.sections.specs.Count.{segmentEvents}
+use Rattle.sections.proofs.Every.{every-map}
 use Rattle.sections.proofs.Count.{events-more, events-same, events-cases}
 use Rattle.schedule.specs.Extent.{lastIndex, tableEvents, lastTable, lastSegment, isInside}
-use Rattle.schedule.proofs.Every.{every-map}
 
 abbrev pub startIndex : Event → ℕ
 startIndex e = segmentIndex (e .start)

@@ -1,6 +1,6 @@
 -- What Build does with what it is given, and what any accepted file that carries the events does: the two sides that the demands
 -- compare. Assumes nothing.
-use mathlib.Core.Path.{_≡_, refl, sym, ap, subst, _∙_}
+use mathlib.Core.Path.{_≡_, sym, ap, subst, _∙_}
 use mathlib.Core.Bool.{not}
 use mathlib.Core.Logic.{_⊎_, inl, inr, ⊎-elim}
 use mathlib.Core.List.{List, []}
@@ -29,8 +29,8 @@ use Rattle.sections.proofs.Count.{sections-counted, events-counted}
 use Rattle.schedule.specs.SectionsOf.{isUnpackable, sectionsOf}
 use Rattle.schedule.specs.Build.{Built, refusal, written, buildEvents, fileOf}
 use Rattle.schedule.specs.Given.{Given, built, events, Carries, EightHold}
-use Rattle.schedule.proofs.Held.{sections-events}
 use Rattle.schedule.proofs.SoundEvents.{SoundEvents, sound-events}
+use Rattle.schedule.proofs.Held.{sections-events}
 use Rattle.schedule.proofs.BuiltRules.{built-rules}
 use Rattle.schedule.proofs.Rival.{segment-eight-hold}
 use Rattle.schedule.proofs.Build.{build-sound, events-refused, events-written, written-short, written-file}
@@ -42,30 +42,33 @@ some-buffer n = (replicate n 0, length-replicate {A = ℕ} n 0)
 
 -- ---- accepted files
 
-module _ (sizes : Sizes) (base : ℕ) (file : List ℕ) (bytes : Bytes file) (accepted : Accepted sizes base file) where
-  pub accepted-number : checkFile sizes base file .number ≡ 0
-  accepted-number = accepted-check sizes base file .0 accepted
-
-  pub shown-rules : Rules sizes (checkFile sizes base file .identity) (cutSections base file) × (fileBytes base (cutSections base file) ≡ file)
-  shown-rules = accepted-rules sizes base file bytes accepted-number
+-- the sections that the bytes of an accepted file show keep the rules, and their joined bytes are the file
+pub shown-rules : (sizes : Sizes) (base : ℕ) (file : List ℕ) → Bytes file → Accepted sizes base file
+    → Rules sizes (checkFile sizes base file .identity) (cutSections base file) × (fileBytes base (cutSections base file) ≡ file)
+shown-rules sizes base file bytes accepted = accepted-rules sizes base file bytes (accepted-check sizes base file .0 accepted)
 
 -- ---- Build of what it is given
 
--- section sizes for which the demands hold: a section without events fits, and 12 bits of section_length reach
-pub record LegalSizes (sizes : Sizes) : Type 0 where
-  pub least : sectionOverhead ≤ sizes .sectionBytes
-  pub most : sizes .sectionBytes ≤ 4_096
-
-module _ (sizes : Sizes) (legal : LegalSizes sizes) (g : Given sizes) where
+module _ {sizes : Sizes} (g : Given sizes) where
   pub facts : SoundEvents sizes (events g)
   facts = sound-events (g .pools) (g .dayBytes) (g .seriesBytes) sizes (g .list) (g .isSound)
 
+  -- the sections and the bytes of its file
   abbrev pub ownSections : List Section
   ownSections = sectionsOf sizes (g .identity) (events g)
 
+  abbrev pub ownFile : List ℕ
+  ownFile = fileBytes (g .base) ownSections
+
+  -- no segment is unpackable
+  abbrev pub Fits : Type 0
+  Fits = (index : ℕ) → T (not (isUnpackable sizes (events g) index))
+
+  pub own-events : Fits → sectionEvents ownSections ≡ events g
+  own-events fits = sections-events sizes (g .identity) (events g) (facts .rises) fits
+
   -- the file is written where the output is long enough, for every output; or every output is answered with 10
-  pub build-or : (((index : ℕ) → T (not (isUnpackable sizes (events g) index)))
-      × ((output : List ℕ) → built g output ≡ written (g .base) ownSections output))
+  pub build-or : (Fits × ((output : List ℕ) → built g output ≡ written (g .base) ownSections output))
       ⊎ ((index : ℕ) × (index < 512) × T (isUnpackable sizes (events g) index)
       × ((lower : ℕ) → lower < index → T (not (isUnpackable sizes (events g) lower)))
       × ((output : List ℕ) → built g output ≡ refusal 10 index output))
@@ -83,48 +86,6 @@ module _ (sizes : Sizes) (legal : LegalSizes sizes) (g : Given sizes) where
       ))
       (packable-or sizes (events g) facts)
 
-  -- ---- the file, where no segment is unpackable
-
-  abbrev pub Fits : Type 0
-  Fits = (index : ℕ) → T (not (isUnpackable sizes (events g) index))
-
-  pub own-rules : Fits → Rules sizes (g .identity) ownSections
-  own-rules fits = built-rules sizes (g .identity) (events g) (legal .least) (g .legalIdentity) facts fits
-
-  pub own-events : Fits → sectionEvents ownSections ≡ events g
-  own-events fits = sections-events sizes (g .identity) (events g) (facts .rises) fits
-
-  abbrev pub ownFile : List ℕ
-  ownFile = fileBytes (g .base) ownSections
-
-  pub own-carries : Fits → Carries g ownFile
-  own-carries fits =
-      let rules = own-rules fits in
-      let accepted : Accepted sizes (g .base) ownFile =
-      accepted-check sizes (g .base) ownFile .1
-      (ap (λ (a : Answer). a .number) (follows-accepted sizes (g .base) (legal .most) (g .legalBase) (g .identity) ownSections rules)) in
-      let bytes : Bytes ownFile = file-bytes sizes (g .base) (legal .most) (g .legalBase) (g .identity) ownSections rules in
-      record {
-        bytes = bytes;
-        accepted = accepted;
-        sameEvents = λ buffer size.
-            same-lists sizes (filePools ownFile []) (g .pools) (listOf (read sizes (g .base) ownFile buffer)) (g .list)
-            (accepted-sound sizes (g .base) ownFile buffer [] bytes (accepted buffer size)) (g .isSound) .0
-            (accepted-events sizes (g .base) ownFile buffer [] bytes (accepted buffer size)
-            ∙ ap sectionEvents (cut-sections-back sizes (g .base) (legal .most) (g .legalBase) (g .identity) ownSections rules)
-            ∙ own-events fits);
-      }
-
-  -- its sections and events, counted
-  pub own-counted : Fits → (index : ℕ) → sectionsCounted (g .base) ownFile index ≡ length (segmentSections index ownSections)
-  own-counted fits index =
-      sections-counted sizes (g .base) (legal .most) (g .legalBase) (g .identity) ownSections (own-rules fits) index
-
-  pub own-held : Fits → (index k : ℕ)
-      → eventsCounted (g .base) ownFile index k ≡ length (sectionEvents (firstSections index k ownSections))
-  own-held fits index k =
-      events-counted sizes (g .base) (legal .most) (g .legalBase) (g .identity) ownSections (own-rules fits) index k
-
   -- what Build that succeeds has written
   pub writes : (output : List ℕ) → built g output .number ≡ 0
       → Fits × (built g output ≡ written (g .base) ownSections output) × (sectionSizes ownSections ≤ length output)
@@ -138,31 +99,60 @@ module _ (sizes : Sizes) (legal : LegalSizes sizes) (g : Given sizes) where
       (λ (index, few, fails, before, is). absurd (omega (arith, ap (λ (b : Built). b .number) (is output))))
       build-or
 
-  -- ---- a file that carries the events
+-- ---- its file, where no segment is unpackable
 
-  module _ (file : List ℕ) (c : Carries g file) where
-    pub rival-rules : Rules sizes (checkFile sizes (g .base) file .identity) (cutSections (g .base) file)
-    rival-rules = shown-rules sizes (g .base) file (c .bytes) (c .accepted) .0
+-- section sizes for which the demands hold: a section without events fits, and 12 bits of section_length reach
+pub record LegalSizes (sizes : Sizes) : Type 0 where
+  pub least : sectionOverhead ≤ sizes .sectionBytes
+  pub most : sizes .sectionBytes ≤ 4_096
 
-    pub rival-events : sectionEvents (cutSections (g .base) file) ≡ events g
-    rival-events =
-        let (buffer, size) = some-buffer (sizes .eventLimit * recordSize) in
-        let reads : read sizes (g .base) file buffer .answer .number ≡ 0 = c .accepted buffer size in
-        sym (accepted-events sizes (g .base) file buffer [] (c .bytes) reads)
-        ∙ same-lists sizes (filePools file []) (g .pools) (listOf (read sizes (g .base) file buffer)) (g .list)
-        (accepted-sound sizes (g .base) file buffer [] (c .bytes) reads) (g .isSound) .1 (c .sameEvents buffer size)
+module _ {sizes : Sizes} (legal : LegalSizes sizes) (g : Given sizes) where
+  pub own-rules : Fits g → Rules sizes (g .identity) (ownSections g)
+  own-rules fits = built-rules sizes (g .identity) (events g) (legal .least) (g .legalIdentity) (facts g) fits
 
-    pub rival-eight : (index : ℕ) → EightHold sizes (events g) index
-    rival-eight index =
-        subst (λ (es : List Event). EightHold sizes es index) rival-events
-        (segment-eight-hold sizes (checkFile sizes (g .base) file .identity) (cutSections (g .base) file) rival-rules index)
+  pub own-carries : Fits g → Carries g (ownFile g)
+  own-carries fits =
+      let rules = own-rules fits in
+      let accepted : Accepted sizes (g .base) (ownFile g) =
+      accepted-check sizes (g .base) (ownFile g) .1
+      (ap (λ (a : Answer). a .number) (follows-accepted sizes (g .base) (legal .most) (g .legalBase) (g .identity) (ownSections g) rules)) in
+      let bytes : Bytes (ownFile g) = file-bytes sizes (g .base) (legal .most) (g .legalBase) (g .identity) (ownSections g) rules in
+      record {
+        bytes = bytes;
+        accepted = accepted;
+        sameEvents = λ buffer size.
+            same-lists sizes (filePools (ownFile g) []) (g .pools) (listOf (read sizes (g .base) (ownFile g) buffer)) (g .list)
+            (accepted-sound sizes (g .base) (ownFile g) buffer [] bytes (accepted buffer size)) (g .isSound) .0
+            (accepted-events sizes (g .base) (ownFile g) buffer [] bytes (accepted buffer size)
+            ∙ ap sectionEvents (cut-sections-back sizes (g .base) (legal .most) (g .legalBase) (g .identity) (ownSections g) rules)
+            ∙ own-events g fits);
+      }
 
-    pub rival-counted : (index : ℕ)
-        → sectionsCounted (g .base) file index ≡ length (segmentSections index (cutSections (g .base) file))
-    unfolding sectionsCounted
-    rival-counted index = refl
+  -- its sections and events, counted
+  pub own-counted : Fits g → (index : ℕ) → sectionsCounted (g .base) (ownFile g) index ≡ length (segmentSections index (ownSections g))
+  own-counted fits index =
+      sections-counted sizes (g .base) (legal .most) (g .legalBase) (g .identity) (ownSections g) (own-rules fits) index
 
-    pub rival-held : (index k : ℕ)
-        → eventsCounted (g .base) file index k ≡ length (sectionEvents (firstSections index k (cutSections (g .base) file)))
-    unfolding eventsCounted
-    rival-held index k = refl
+  pub own-held : Fits g → (index k : ℕ)
+      → eventsCounted (g .base) (ownFile g) index k ≡ length (sectionEvents (firstSections index k (ownSections g)))
+  own-held fits index k =
+      events-counted sizes (g .base) (legal .most) (g .legalBase) (g .identity) (ownSections g) (own-rules fits) index k
+
+-- ---- a file that carries the events
+
+module _ {sizes : Sizes} (g : Given sizes) (file : List ℕ) (c : Carries g file) where
+  pub rival-rules : Rules sizes (checkFile sizes (g .base) file .identity) (cutSections (g .base) file)
+  rival-rules = shown-rules sizes (g .base) file (c .bytes) (c .accepted) .0
+
+  pub rival-events : sectionEvents (cutSections (g .base) file) ≡ events g
+  rival-events =
+      let (buffer, size) = some-buffer (sizes .eventLimit * recordSize) in
+      let reads : read sizes (g .base) file buffer .answer .number ≡ 0 = c .accepted buffer size in
+      sym (accepted-events sizes (g .base) file buffer [] (c .bytes) reads)
+      ∙ same-lists sizes (filePools file []) (g .pools) (listOf (read sizes (g .base) file buffer)) (g .list)
+      (accepted-sound sizes (g .base) file buffer [] (c .bytes) reads) (g .isSound) .1 (c .sameEvents buffer size)
+
+  pub rival-eight : (index : ℕ) → EightHold sizes (events g) index
+  rival-eight index =
+      subst (λ (es : List Event). EightHold sizes es index) rival-events
+      (segment-eight-hold sizes (checkFile sizes (g .base) file .identity) (cutSections (g .base) file) rival-rules index)

@@ -1,17 +1,17 @@
--- a property of every element of a list
-pub mod Every
 -- functions of numbers in a row
 pub mod Each
 -- the events of a sound list
 pub mod SoundEvents
 -- which segments Build's file has
 pub mod Extent
+-- the events of a list, segment by segment
+pub mod EventsFrom
+-- what the sections of a segment hold
+pub mod Parts
 -- the sections of Build's file hold the list's events
 pub mod Held
 -- the sections of Build's file in a segment
 pub mod Segments
--- what the sections of a segment hold
-pub mod Parts
 -- headers in the order of the rules, joined
 pub mod Linked
 -- the numbers of Build's sections keep the rules

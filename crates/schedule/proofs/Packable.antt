@@ -16,14 +16,14 @@ use Rattle.packing.proofs.Greedy.{greedy-packable, packable, greedy-count}
 use Rattle.sections.specs.Section.{eventSize}
 use Rattle.sections.specs.Every.{Every}
 use Rattle.sections.specs.Count.{segmentEvents}
+use Rattle.sections.proofs.Every.{every-map}
 use Rattle.sections.proofs.Count.{events-same}
 use Rattle.schedule.specs.Extent.{lastIndex}
 use Rattle.schedule.specs.SectionsOf.{isUnpackable, lowestUnpackable}
 use Rattle.schedule.specs.Given.{EightHold}
-use Rattle.schedule.proofs.Every.{every-map}
 use Rattle.schedule.proofs.Each.{lowest-or}
-use Rattle.schedule.proofs.Extent.{startIndex, tables-few, last-most}
 use Rattle.schedule.proofs.SoundEvents.{EventFacts, SoundEvents}
+use Rattle.schedule.proofs.Extent.{startIndex, tables-few, last-most}
 
 -- the test of a segment
 pub test-is : (sizes : Sizes) (es : List Event) (index : ℕ)

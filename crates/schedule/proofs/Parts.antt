@@ -1,6 +1,6 @@
 -- The sections of a segment that is not unpackable hold events that start in it, fit, and are not empty where the segment has
 -- events: the laws of greedy packing, said of sections. Assumes nothing.
-use mathlib.Core.Path.{_≡_, refl, ap}
+use mathlib.Core.Path.{_≡_, refl, sym, ap, _∙_}
 use mathlib.Core.Bool.{not}
 use mathlib.Core.Logic.{_⊎_, inl, inr}
 use mathlib.Core.List.{List, [], _∷_, flatten}
@@ -12,18 +12,18 @@ use Rattle.eit.specs.Sizes.{Sizes, sectionOverhead, room}
 use Rattle.eit.specs.Events.{Event}
 use Rattle.eit.specs.declared.Identity.{Identity}
 use Rattle.packing.specs.Greedy.{NoneEmpty, AllFit, sizeOf, greedy, unpackable}
-use Rattle.packing.proofs.Greedy.{greedy-count, greedy-fits, greedy-nonempty}
+use Rattle.packing.proofs.Greedy.{packable, greedy-count, greedy-fits, greedy-nonempty}
+use Rattle.packing.proofs.Joined.{joined-flatten}
 use Rattle.sections.specs.Segment.{firstSection}
 use Rattle.sections.specs.Section.{Section, eventSize, eventSizes, sectionSize}
 use Rattle.sections.specs.Every.{Every}
 use Rattle.sections.specs.Rules.{EventRules}
 use Rattle.sections.specs.Count.{segmentEvents}
+use Rattle.sections.proofs.Every.{every-map, every-parts}
 use Rattle.sections.proofs.Count.{events-cases}
 use Rattle.schedule.specs.SectionsOf.{isUnpackable, packed, partsOf, headerOf, numberedFrom, segmentPart}
-use Rattle.schedule.proofs.Every.{every-map, every-parts}
-use Rattle.schedule.proofs.Extent.{startIndex}
-use Rattle.schedule.proofs.Held.{parts-events}
 use Rattle.schedule.proofs.SoundEvents.{EventFacts}
+use Rattle.schedule.proofs.Extent.{startIndex}
 
 -- ---- events
 
@@ -66,6 +66,13 @@ module _ (sizes : Sizes) where
   packed-nonempty [] fits = inl refl
   packed-nonempty (e ∷ es) fits = inr (greedy-nonempty eventSize (room sizes) 8 (e ∷ es) fits)
 
+  -- the parts of events that are not unpackable are these events
+  packed-all : (es : List Event) → T (not (unpackable eventSize (room sizes) 8 es)) → flatten (packed sizes es) ≡ es
+  unfolding packed flatten
+  packed-all [] fits = refl
+  packed-all (e ∷ es) fits =
+      sym (joined-flatten (greedy eventSize (room sizes) 8 (e ∷ es))) ∙ packable eventSize (room sizes) 8 (e ∷ es) fits .ordered
+
   packed-some : (es : List Event) → 0 < length (packed sizes es)
   unfolding packed greedy
   packed-some [] = omega arith
@@ -88,12 +95,17 @@ module _ (sizes : Sizes) (es : List Event) (index : ℕ) where
   unfolding partsOf
   parts-few = packed-few sizes (segmentEvents index es)
 
-module _ (sizes : Sizes) (identity : Identity) (es : List Event) (index : ℕ) where
+  -- together they hold the segment's events, if it is not unpackable
+  pub parts-events : T (not (isUnpackable sizes es index)) → flatten (partsOf sizes es index) ≡ segmentEvents index es
+  unfolding partsOf isUnpackable
+  parts-events fits = packed-all sizes (segmentEvents index es) fits
+
   -- there is one, without events, or each has events
   pub parts-filled : T (not (isUnpackable sizes es index)) → OneOrFilled (partsOf sizes es index)
   unfolding partsOf isUnpackable
   parts-filled fits = packed-nonempty sizes (segmentEvents index es) fits
 
+module _ (sizes : Sizes) (identity : Identity) (es : List Event) (index : ℕ) where
   numbered-rules : (S : ℕ) (ps : List (List Event)) → Every (Every (StartsIn index)) ps
       → firstSection index ≤ S → S + length ps ≤ firstSection index + 8
       → Every (λ (s : Section). Every (EventRules (s .header)) (s .events)) (numberedFrom sizes identity es index S ps)

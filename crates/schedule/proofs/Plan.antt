@@ -24,8 +24,8 @@ use Rattle.schedule.specs.SectionsOf.{isUnpackable, partsOf, segmentPart
 use Rattle.schedule.specs.Plan.{sectionCount, tabled, plan, planned}
 use Rattle.schedule.proofs.Each.{each-length, each-at}
 use Rattle.schedule.proofs.Extent.{held-inside}
-use Rattle.schedule.proofs.Segments.{sections-inside, sections-outside}
 use Rattle.schedule.proofs.Parts.{parts-few}
+use Rattle.schedule.proofs.Segments.{sections-inside, sections-outside}
 use Rattle.schedule.proofs.Packable.{test-is}
 use Rattle.schedule.proofs.Best.{part-parts}
 

@@ -2,7 +2,7 @@
 -- most eight parts. By the laws of counting. Assumes nothing.
 use mathlib.Core.Path.{_≡_, refl, sym, ap, _∙_}
 use mathlib.Core.Logic.{⊎-elim}
-use mathlib.Core.List.{List, [], _∷_, map}
+use mathlib.Core.List.{List, [], _∷_}
 use Prim.Native.Nat.{ℕ, zero, suc, _≤_}
 use native.Mathlib.Omega.{arith}
 use lib.ListN.{length, take, length-map}
@@ -11,20 +11,16 @@ use Rattle.eit.specs.Events.{Event}
 use Rattle.eit.specs.declared.Identity.{Identity}
 use Rattle.eit.proofs.Test.{test-or}
 use Rattle.packing.specs.Greedy.{joined, held, AllFit, Packing}
-use Rattle.sections.specs.Section.{Section, sectionEvents, eventSize, sectionSize}
+use Rattle.packing.proofs.Joined.{joined-flatten}
+use Rattle.sections.specs.Section.{Section, partsIn, sectionEvents, eventSize, sectionSize}
 use Rattle.sections.specs.Every.{Every}
 use Rattle.sections.specs.Rules.{Rules}
 use Rattle.sections.specs.Count.{isInFirst, firstSections, segmentEvents, segmentSections}
+use Rattle.sections.proofs.Every.{every-map}
 use Rattle.sections.proofs.Count.{first-more, first-same, segment-holds}
 use Rattle.sections.proofs.SegmentOrder.{first-take, segment-eight}
 use Rattle.schedule.specs.Given.{EightHold}
-use Rattle.schedule.proofs.Every.{every-map}
-use Rattle.schedule.proofs.Held.{joined-flatten}
 use Rattle.schedule.proofs.Parts.{sizes-same}
-
--- the events of each of some sections
-abbrev pub partsIn : List Section → List (List Event)
-partsIn ss = map (λ (s : Section). s .events) ss
 
 pub joined-parts : (ss : List Section) → joined (partsIn ss) ≡ sectionEvents ss
 unfolding sectionEvents

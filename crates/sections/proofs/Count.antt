@@ -19,7 +19,7 @@ use Rattle.sections.specs.Every.{Every}
 use Rattle.sections.specs.Segment.{tableLeast, segmentIndex, tableOf, segmentOf, firstSection, firstOf}
 use Rattle.sections.specs.Section.{Header, Section, sectionEvents}
 use Rattle.sections.specs.Encode.{fileBytes}
-use Rattle.sections.specs.Decode.{headerIn, cutEvents, sectionIn, cutFile}
+use Rattle.sections.specs.Decode.{headerIn, cutEvents, sectionIn, cutFile, cutSections}
 use Rattle.sections.specs.Rules.{EventRules, Rules}
 use Rattle.sections.specs.Count.{isInFirst, firstSections, segmentEvents, segmentSections, sectionsCounted, eventsCounted}
 use Rattle.sections.proofs.Exact.{cut-sections-back}
@@ -63,18 +63,30 @@ in-segment index h = (
 
 -- ---- counting from bytes is counting sections
 
+-- the sections that the bytes show
+module _ (base : ℕ) (file : List ℕ) (index : ℕ) where
+  pub counted-is : sectionsCounted base file index ≡ length (segmentSections index (cutSections base file))
+  unfolding sectionsCounted
+  counted-is = refl
+
+  pub held-is : (k : ℕ) → eventsCounted base file index k ≡ length (sectionEvents (firstSections index k (cutSections base file)))
+  unfolding eventsCounted
+  held-is k = refl
+
+-- and of the joined bytes of sections that keep the rules, these sections
+
 module _ (sizes : Sizes) (base : ℕ) (lengthFits : sizes .sectionBytes ≤ 4_096) (legal : base ≤ baseMost)
     (identity : Identity) (ss : List Section) (rules : Rules sizes identity ss) where
   pub sections-counted : (index : ℕ) → sectionsCounted base (fileBytes base ss) index ≡ length (segmentSections index ss)
-  unfolding sectionsCounted
   sections-counted index =
-      ap (λ (ts : List Section). length (segmentSections index ts)) (cut-sections-back sizes base lengthFits legal identity ss rules)
+      counted-is base (fileBytes base ss) index
+      ∙ ap (λ (ts : List Section). length (segmentSections index ts)) (cut-sections-back sizes base lengthFits legal identity ss rules)
 
   pub events-counted : (index k : ℕ)
       → eventsCounted base (fileBytes base ss) index k ≡ length (sectionEvents (firstSections index k ss))
-  unfolding eventsCounted
   events-counted index k =
-      ap (λ (ts : List Section). length (sectionEvents (firstSections index k ts)))
+      held-is base (fileBytes base ss) index k
+      ∙ ap (λ (ts : List Section). length (sectionEvents (firstSections index k ts)))
       (cut-sections-back sizes base lengthFits legal identity ss rules)
 
 -- ---- a segment's sections, with one section more

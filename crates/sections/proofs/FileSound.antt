@@ -3,7 +3,7 @@
 use mathlib.Core.Path.{_≡_, sym, ap, subst, _∙_}
 use Prim.Native.Nat.{ℕ, _*_, _≤_}
 use native.Mathlib.Omega.{arith}
-use mathlib.Core.List.{List, [], _∷_, append-nil}
+use mathlib.Core.List.{List, [], append-nil}
 use lib.Dec.{T}
 use lib.ListN.{length}
 use Rattle.eit.specs.Sizes.{Sizes}
@@ -21,10 +21,11 @@ use Rattle.sections.specs.Every.{Every}
 use Rattle.sections.specs.Section.{Section, sectionEvents}
 use Rattle.sections.specs.Encode.{fileBytes}
 use Rattle.sections.specs.Decode.{cutSections}
-use Rattle.sections.specs.Rules.{EventRules, SectionRules, Rules}
+use Rattle.sections.specs.Rules.{EventRules, Rules}
 use Rattle.sections.specs.Places.{recordsFrom, filePools}
 use Rattle.sections.specs.Read.{checkFile, Reading, read, listOf}
 use Rattle.sections.specs.Exact.{readingOf}
+use Rattle.sections.proofs.Every.{every-map}
 use Rattle.sections.proofs.Exact.{records-are, accepted-rules, read-accepted}
 use Rattle.sections.proofs.Places.{records-count, records-ids, records-events, records-valid}
 
@@ -36,12 +37,6 @@ module _ (base : ℕ) (ss : List Section) (series : List ℕ) where
   whole-valid : Every (λ (s : Section). Every (EventRules (s .header)) (s .events)) ss
       → T (allValid (filePools (fileBytes base ss) series) (recordsFrom 0 ss))
   whole-valid = rw (append-nil (fileBytes base ss)) at (records-valid base [] ss [] series)
-
-event-rules : (sizes : Sizes) (identity : Identity) (lastTableId : ℕ) (ss : List Section)
-    → Every (SectionRules sizes identity lastTableId) ss
-    → Every (λ (s : Section). Every (EventRules (s .header)) (s .events)) ss
-event-rules sizes identity lastTableId [] r = tt
-event-rules sizes identity lastTableId (s ∷ ss) r = (r .0 .eventRules, event-rules sizes identity lastTableId ss (r .1))
 
 -- its events are the sections'
 pub file-events : (base : ℕ) (ss : List Section) (series buffer : List ℕ)
@@ -63,7 +58,7 @@ file-sound sizes base identity ss series buffer rules fits =
     let list : EventList = record { buffer = overwrite buffer 0 (numbersOfAll rs); count = length rs } in
     let facts : RecordFacts (filePools (fileBytes base ss) series) rs =
     record {
-      valid = whole-valid base ss series (event-rules sizes identity (rules .lastTableId) ss (rules .sections));
+      valid = whole-valid base ss series (every-map (λ s r. r .eventRules) ss (rules .sections));
       rises = rw (whole-events base ss series) (rules .rises);
       differ = rw (records-ids 0 ss) (rules .differ);
     } in

@@ -1,3 +1,5 @@
+-- a property of every element of a list
+pub mod Every
 -- how long the bytes of events, sections and files are
 pub mod Lengths
 -- bytes cut into pieces, and pieces joined

@@ -29,6 +29,7 @@ use Rattle.sections.specs.JudgeHeader.{isTable, isFramed, isClosed, hasF
 use Rattle.sections.specs.JudgeHeader.{isSameFile, isHeader, isNumbered, isNext, isInPlace}
 use Rattle.sections.specs.JudgeEvents.{isFilledOrAlone, areEvents, areNew, isEventLoop, isWithinLimit}
 use Rattle.sections.specs.Walk.{Progress, behind}
+use Rattle.sections.proofs.Every.{every-map}
 use Rattle.sections.proofs.Lengths.{loop-length, header-length, section-length}
 use Rattle.sections.proofs.Cut.{Stated}
 use Rattle.sections.proofs.EventBytes.{Short}
@@ -58,16 +59,12 @@ section-parts base s =
     ∙ ap (λ (ds : List ℕ). ds ++ crcBytes base s) (covered-is base s)
     ∙ append-assoc (headerBytes (sectionSize s) (s .header)) (eventLoopBytes base (s .events)) (crcBytes base s)
 
-chains-bytes : (h : Header) (es : List Event) → Every (EventRules h) es → Every (λ (e : Event). Bytes (e .chain)) es
-chains-bytes h [] rules = tt
-chains-bytes h (e ∷ es) rules = (rules .0 .bytes, chains-bytes h es (rules .1))
-
 covered-bytes : (base : ℕ) (s : Section) → Every (EventRules (s .header)) (s .events) → Bytes (coveredBytes base s)
 covered-bytes base s rules =
     rw (covered-is base s)
     (bytes-append (headerBytes (sectionSize s) (s .header)) (eventLoopBytes base (s .events))
     (header-bytes (sectionSize s) (s .header))
-    (loop-bytes base (s .events) (chains-bytes (s .header) (s .events) rules)))
+    (loop-bytes base (s .events) (every-map (λ e r. r .bytes) (s .events) rules)))
 
 -- a section's bytes are bytes
 pub section-bytes : (base : ℕ) (s : Section) → Every (EventRules (s .header)) (s .events) → Bytes (sectionBytes base s)

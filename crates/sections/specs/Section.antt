@@ -45,13 +45,16 @@ abbrev pub sectionSizes : List Section → ℕ
 sectionSizes [] = 0
 sectionSizes (s ∷ ss) = sectionSize s + sectionSizes ss
 
--- the headers and the events of some sections, in their order
+-- the headers of some sections, the events of each, and all their events, in their order
 abbrev pub headersOf : List Section → List Header
 headersOf ss = map (λ (s : Section). s .header) ss
 
+abbrev pub partsIn : List Section → List (List Event)
+partsIn ss = map (λ (s : Section). s .events) ss
+
 unfoldable pub sectionEvents : List Section → List Event
 unfolding flatten
-sectionEvents ss = flatten (map (λ (s : Section). s .events) ss)
+sectionEvents ss = flatten (partsIn ss)
 
 -- the ids of some events
 abbrev pub eventIds : List Event → List ℕ
