@@ -5,13 +5,13 @@ use mathlib.Core.Bool.{not}
 use Prim.Native.Nat.{ℕ, suc, _≤_, _<_}
 use native.Mathlib.Omega.{arith}
 use mathlib.Core.List.{List, [], _∷_}
-use lib.Dec.{T, eqb, ltb}
+use lib.Dec.{T, not-T, eqb, ltb}
 use lib.ListN.{length}
 use Rattle.eit.specs.Among.{isAmong}
 use Rattle.eit.specs.Find.{indexOf, placeOf}
 use Rattle.eit.specs.Sound.{idsOf}
 use Rattle.eit.specs.declared.Record.{Record}
-use Rattle.eit.proofs.Test.{or-other, test-or, true-is, false-is}
+use Rattle.eit.proofs.Test.{or-left, or-right, or-other, test-or, true-is, false-is}
 
 -- ---- the two cases of each place
 
@@ -41,3 +41,14 @@ index-length id (r ∷ rs) a =
     ⊎-elim (λ t. rw (index-here id r rs t) (omega arith))
     (λ t. rw (index-later id r rs t) (omega (arith, index-length id rs (or-other (eqb id (r .id)) (isAmong id (idsOf rs)) t a))))
     (test-or (eqb id (r .id)))
+
+-- and an id is present where its place is not behind all records
+pub index-among : (id : ℕ) (rs : List Record) → indexOf id rs < length rs → T (isAmong id (idsOf rs))
+index-among id [] h = absurd (omega arith)
+index-among id (r ∷ rs) h =
+    ⊎-elim (λ t. or-left (eqb id (r .id)) (isAmong id (idsOf rs)) t)
+    (λ t. or-right (eqb id (r .id)) (isAmong id (idsOf rs)) (index-among id rs (omega (arith, index-later id r rs t))))
+    (test-or (eqb id (r .id)))
+
+pub index-absent : (id : ℕ) (rs : List Record) → length rs ≤ indexOf id rs → T (not (isAmong id (idsOf rs)))
+index-absent id rs h = not-T (isAmong id (idsOf rs)) (λ a. omega (arith, index-length id rs a))

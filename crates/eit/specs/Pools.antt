@@ -11,6 +11,10 @@ pub record Pools : Type 0 where
   pub day : List ℕ
   pub series : List ℕ
 
+-- the pools that a call is lent
+abbrev pub lentPools : List ℕ → List ℕ → Pools
+lentPools day series = record { day = day; series = series }
+
 -- whether a bit is set: the bit of value 1 of `odd marks`, of value 2 of `odd (marks / 2)`, and so on
 abbrev pub odd : ℕ → Bool
 odd n = eqb (n % 2) 1

@@ -10,6 +10,10 @@ pub record EventList : Type 0 where
   pub buffer : List ℕ
   pub count : ℕ
 
+-- the list that a call is lent
+abbrev pub lentList : List ℕ → ℕ → EventList
+lentList buffer count = record { buffer = buffer; count = count }
+
 -- how many numbers a record has
 abbrev pub recordSize : ℕ
 recordSize = 6

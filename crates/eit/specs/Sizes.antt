@@ -12,6 +12,10 @@ pub record Sizes : Type 0 where
 abbrev pub broadcast : Sizes
 broadcast = record { sectionBytes = 4096; eventLimit = 2048 }
 
+-- a list does not see the section's size: sizes with another limit of events
+abbrev pub limitedTo : ℕ → Sizes
+limitedTo limit = record { sectionBytes = broadcast .sectionBytes; eventLimit = limit }
+
 -- bytes of a section around its events: 14 before them, and the four of CRC_32
 abbrev pub sectionOverhead : ℕ
 sectionOverhead = 18

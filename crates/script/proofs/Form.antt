@@ -35,7 +35,7 @@ form-skip (suc k) at (b ∷ bs) h =
 pub form-end : (at : ℕ) → formFrom 0 at [] ≡ commands []
 form-end at = refl
 
-whole-room : (code : ℕ) (bs : List ℕ) → T (isWhole code bs) → operandBytes code ≤ length bs
+pub whole-room : (code : ℕ) (bs : List ℕ) → T (isWhole code bs) → operandBytes code ≤ length bs
 whole-room code bs whole =
     leb→le (operandBytes code) (length bs) (and-right (isCommand code) (leb (operandBytes code) (length bs)) whole)
 
@@ -112,7 +112,7 @@ form-back cs h = back-from 0 cs h
 -- ---- forth
 
 -- the known commands are four
-by-code : (P : ℕ → Type 0) → P 0x01 → P 0x02 → P 0x03 → P 0x04 → (code : ℕ) → T (isCommand code) → P code
+pub by-code : (P : ℕ → Type 0) → P 0x01 → P 0x02 → P 0x03 → P 0x04 → (code : ℕ) → T (isCommand code) → P code
 by-code P one two three four zero t = absurd t
 by-code P one two three four (suc zero) t = one
 by-code P one two three four (suc (suc zero)) t = two
@@ -171,7 +171,7 @@ module _ (bs : List ℕ) (bytes : Bytes bs) where
           let h : 6 ≤ length bs = whole-room 0x03 bs whole in
           (refl, (field-fits bs bytes 0 2 (omega arith), field-fits bs bytes 2 4 h), ap (λ (operands : List ℕ). 0x03 ∷ operands) (move-forth h))
 
-before-only : (c : Command) (form : Form) (cs : List Command)
+pub before-only : (c : Command) (form : Form) (cs : List Command)
     → before c form ≡ commands cs
     → (ds : List Command) × (form ≡ commands ds) × (cs ≡ c ∷ ds)
 before-only c (commands ds) cs h = (ds, refl, cc)

@@ -6,7 +6,7 @@ use Prim.Native.Nat.{ℕ, suc, _+_, _-_, _≤_}
 use native.Mathlib.Omega.{arith}
 use mathlib.Core.List.{List, [], _∷_, _++_}
 use lib.Dec.{T, eqb, ltb}
-use lib.ListN.{length, take, drop}
+use lib.ListN.{length, take, drop, getD}
 use lib.Seq.{length-take-le, take-append-le, take-take, drop-append-add, drop-drop}
 use Rattle.eit.specs.Find.{indexOf, placeOf}
 use Rattle.eit.specs.Among.{isAmong}
@@ -14,8 +14,8 @@ use Rattle.eit.specs.Sound.{idsOf}
 use Rattle.eit.specs.declared.Record.{Record}
 use Rattle.eit.proofs.Test.{test-or}
 use Rattle.eit.proofs.Find.{place-here, place-later, place-length, index-here, index-later, index-length}
-use Rattle.script.specs.Machine.{insert, without}
-use Rattle.script.proofs.Placing.{insert-here, insert-later, without-here, without-later, among-later}
+use Rattle.script.specs.Machine.{insert, find, without}
+use Rattle.script.proofs.Placing.{insert-here, insert-later, without-here, without-later, find-here, find-later, among-later}
 
 -- ---- the records around the place
 
@@ -33,6 +33,13 @@ without-index id (r ∷ rs) a =
     (λ t.
     rw (index-later id r rs t, without-later id r rs t)
     (ap (λ (ss : List Record). r ∷ ss) (without-index id rs (among-later id r rs t a))))
+    (test-or (eqb id (r .id)))
+
+pub find-at : (id : ℕ) (rs : List Record) (d : Record) → T (isAmong id (idsOf rs)) → find id rs ≡ getD rs (indexOf id rs) d
+find-at id [] d a = absurd a
+find-at id (r ∷ rs) d a =
+    ⊎-elim (λ t. rw (find-here id r rs t, index-here id r rs t))
+    (λ t. rw (find-later id r rs t, index-later id r rs t) (find-at id rs d (among-later id r rs t a)))
     (test-or (eqb id (r .id)))
 
 -- lists around a place p: what stands before it, and what stands behind it

@@ -1,0 +1,2 @@
+-- The face's structs as the definitions' outcomes.
+pub mod Face

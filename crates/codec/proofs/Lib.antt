@@ -1,0 +1,10 @@
+-- a write that leaves all where it does not fit, and how such writes compose
+pub mod WriteLaws
+-- fields, byte by byte
+pub mod FieldLaws
+-- chains, from any place of some bytes on
+pub mod ChainSteps
+-- a set of numbers holds what was added to it
+pub mod SeenLaws
+-- CRC_32 by the table
+pub mod CrcLaws

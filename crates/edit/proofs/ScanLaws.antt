@@ -1,0 +1,68 @@
+-- What the answers of the passes over a script say of it: the script's commands, the edits that are left, and whether an edit is one
+-- of them. Assumes nothing.
+use mathlib.Core.Path.{_≡_, refl, sym, ap, _∙_}
+use mathlib.Core.Bool.{true, false}
+use mathlib.Core.List.{List, _∷_}
+use Prim.Native.Nat.{ℕ, zero, suc}
+use native.Mathlib.Omega.{arith}
+use lib.Dec.{ltb}
+use borrow.Author.Tests.{ltb-true, ltb-false}
+use Rattle.script.specs.Form.{Edit, Command, doEdit, Form, commands, broken, formOf}
+use Rattle.script.specs.Struck.{Unstruck, unstruck, nothingAt, unstruckIn, passed, unlessStruck, live}
+use Rattle.script.proofs.Struck.{struck-live}
+use Rattle.edit.specs.Commands.{formTold, strikesTold, commandsAt}
+use Rattle.edit.specs.declared.scan.Form.the-variants.{Whole, Broken}
+use Rattle.edit.specs.declared.scan.Strikes.the-variants.{Enough, NothingAt}
+use Rattle.edit.proofs.CommandLaws.{commands-are}
+
+-- ---- 3 over the script
+
+told-whole : (form : Form) → formTold form ≡ Whole → (cs : List Command) × (form ≡ commands cs)
+told-whole (commands cs) e = (cs, refl)
+told-whole (broken at) e = let never : _≡_ {A = ℕ} 0 1 = cc in absurd (omega arith)
+
+pub form-whole-is : (script : List ℕ) → formTold (formOf script) ≡ Whole → formOf script ≡ commands (commandsAt 0 script)
+form-whole-is script e =
+    let (cs, is) = told-whole (formOf script) e in
+    is ∙ ap commands (sym (commands-are script cs is))
+
+told-broken : (form : Form) (at : ℕ) → formTold form ≡ Broken at → form ≡ broken at
+told-broken (commands cs) at e = cc
+told-broken (broken there) at e = cc
+
+pub form-broken-is : (script : List ℕ) (at : ℕ) → formTold (formOf script) ≡ Broken at → formOf script ≡ broken at
+form-broken-is script at e = told-broken (formOf script) at e
+
+-- ---- 4 over the script
+
+told-enough : (u : Unstruck) → strikesTold u ≡ Enough → (es : List Edit) × (u ≡ unstruck es)
+told-enough (unstruck es) e = (es, refl)
+told-enough (nothingAt at) e = let never : _≡_ {A = ℕ} 0 1 = cc in absurd (omega arith)
+
+pub strikes-enough-is : (cs : List Command) → strikesTold (unstruckIn cs) ≡ Enough → unstruckIn cs ≡ unstruck (live 0 cs)
+strikes-enough-is cs e =
+    let (es, is) = told-enough (unstruckIn cs) e in
+    is ∙ ap unstruck (struck-live cs es is)
+
+told-nothing : (u : Unstruck) (at : ℕ) → strikesTold u ≡ NothingAt at → u ≡ nothingAt at
+told-nothing (unstruck es) at e = cc
+told-nothing (nothingAt there) at e = cc
+
+pub strikes-nothing-is : (cs : List Command) (at : ℕ) → strikesTold (unstruckIn cs) ≡ NothingAt at → unstruckIn cs ≡ nothingAt at
+strikes-nothing-is cs at e = told-nothing (unstruckIn cs) at e
+
+-- ---- an edit is struck, or is one of those that are left
+
+unless-struck : (p : ℕ) (e : Edit) (es : List Edit) → ltb 0 p ≡ true → unlessStruck p e es ≡ es
+unless-struck zero e es t = absurd (omega (arith, ltb-true 0 0 t))
+unless-struck (suc p) e es t = refl
+
+pub live-struck : (e : Edit) (cs : List Command) → ltb 0 (passed 0 cs) ≡ true → live 0 (doEdit e ∷ cs) ≡ live 0 cs
+live-struck e cs t = unless-struck (passed 0 cs) e (live 0 cs) t
+
+unless-left : (p : ℕ) (e : Edit) (es : List Edit) → ltb 0 p ≡ false → unlessStruck p e es ≡ e ∷ es
+unless-left zero e es t = refl
+unless-left (suc p) e es t = absurd (omega (arith, ltb-false 0 (suc p) t))
+
+pub live-left : (e : Edit) (cs : List Command) → ltb 0 (passed 0 cs) ≡ false → live 0 (doEdit e ∷ cs) ≡ e ∷ live 0 cs
+live-left e cs t = unless-left (passed 0 cs) e (live 0 cs) t

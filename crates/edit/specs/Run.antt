@@ -1,0 +1,24 @@
+-- What the machine's functions carry out, in the words of `run` of script: one command, and the live edits from an offset on. Laws:
+-- proofs/RunLaws.antt. Assumes nothing.
+use Prim.Native.Nat.{ℕ}
+use mathlib.Core.List.{List, [], _∷_}
+use Rattle.eit.specs.Sizes.{limitedTo}
+use Rattle.eit.specs.Pools.{lentPools}
+use Rattle.eit.specs.Records.{EventList}
+use Rattle.script.specs.Form.{Edit, Command, doEdit, undo}
+use Rattle.script.specs.Struck.{live}
+use Rattle.script.specs.Edit.{Edited, run}
+use Rattle.edit.specs.Commands.{commandsAt}
+
+-- an UNDO carries nothing out: it strikes by the script, before anything runs
+abbrev pub editsOf : Command → List Edit
+editsOf (doEdit e) = e ∷ []
+editsOf (undo at) = []
+
+-- the list after one command
+abbrev pub runOne : ℕ → List ℕ → List ℕ → EventList → Command → Edited
+runOne limit day series list c = run (limitedTo limit) (lentPools day series) list (editsOf c)
+
+-- and after the live edits among the commands from the offset `at` on
+abbrev pub runFrom : ℕ → List ℕ → List ℕ → EventList → ℕ → List ℕ → Edited
+runFrom limit day series list at script = run (limitedTo limit) (lentPools day series) list (live 0 (commandsAt at script))

@@ -1,0 +1,64 @@
+// What Edit says: a case for each cause of 01's table ("When a call says no"), with the offset of the command's byte where it returns one.
+ghost use mathlib.Core.Path.{_≡_};
+ghost use Rattle.edit.specs.Told.{numberOf, valueOf};
+
+pub enum EditAnswer {
+    // The edits are carried out.
+    Done,
+    // 12: the list is unsound.
+    Unsound,
+    // 3: an unknown command or a cut operand.
+    Broken(usize),
+    // 4: an UNDO with nothing to strike.
+    NothingToStrike(usize),
+    // 5: a value out of range.
+    OutOfRange(usize),
+    // 6: the id is present (PUT), or absent (WITHDRAW, MOVE).
+    WrongId(usize),
+    // 7: the start of another event.
+    StartTaken(usize),
+    // 8: the list is at its limit.
+    ListFull(usize),
+    // 9: the part is outside its pool, or no chain.
+    NoChain(usize),
+}
+
+// The answer, and the count then held.
+pub struct Edited {
+    pub answer: EditAnswer,
+    pub count: usize,
+}
+
+// 01's number of an answer.
+pub fn number_of(answer: EditAnswer) -> u32
+    ensures { λ r. ⌜ r ≡ numberOf answer ⌝ }
+{
+    match answer {
+        EditAnswer::Done => 0,
+        EditAnswer::Unsound => 12,
+        EditAnswer::Broken(_) => 3,
+        EditAnswer::NothingToStrike(_) => 4,
+        EditAnswer::OutOfRange(_) => 5,
+        EditAnswer::WrongId(_) => 6,
+        EditAnswer::StartTaken(_) => 7,
+        EditAnswer::ListFull(_) => 8,
+        EditAnswer::NoChain(_) => 9,
+    }
+}
+
+// 01's value of an answer, with the count then held.
+pub fn value_of(answer: EditAnswer, count: usize) -> usize
+    ensures { λ r. ⌜ r ≡ valueOf count answer ⌝ }
+{
+    match answer {
+        EditAnswer::Done => count,
+        EditAnswer::Unsound => 0,
+        EditAnswer::Broken(at) => at,
+        EditAnswer::NothingToStrike(at) => at,
+        EditAnswer::OutOfRange(at) => at,
+        EditAnswer::WrongId(at) => at,
+        EditAnswer::StartTaken(at) => at,
+        EditAnswer::ListFull(at) => at,
+        EditAnswer::NoChain(at) => at,
+    }
+}

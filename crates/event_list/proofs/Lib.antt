@@ -1,0 +1,12 @@
+-- the records that some numbers hold, and one put in or taken out
+pub mod HeldLaws
+-- records found by id and by start
+pub mod FindLaws
+-- numbers that move by the length of a record
+pub mod ShiftLaws
+-- the records from a place on
+pub mod RestLaws
+-- what one pass over the records asks is what soundness asks of them
+pub mod ForwardLaws
+-- that pass, with the ids in a set of bits, record by record
+pub mod PassLaws

@@ -1,0 +1,5 @@
+// The event list in a lent buffer: its records, soundness, and records put in and taken out in place.
+pub mod find;
+pub mod place;
+pub mod records;
+pub mod sound;

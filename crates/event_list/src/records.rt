@@ -1,0 +1,31 @@
+// A record out of the lent buffer (01, "Event record and sound list").
+use eit::Record;
+ghost use mathlib.Core.Path.{_≡_};
+ghost use Prim.Native.Nat.{_*_};
+ghost use lib.ListN.{getD, drop};
+ghost use Rattle.eit.specs.Records.{recordSize, frontRecord};
+
+// A number of the buffer, 0 beyond its end.
+fn number_at(list: &[u32], k: usize) -> u32
+    ensures { λ r. ⌜ r ≡ getD (now (list .entry)) k 0 ⌝ }
+{
+    if k < list.len() { list[k] } else { 0 }
+}
+
+// Record i: six numbers, each 0 where the buffer ends before it.
+pub fn record_at(list: &[u32], i: usize) -> Record
+    ensures { λ r. ⌜ r ≡ frontRecord (drop (i * recordSize) (now (list .entry))) ⌝ }
+{
+    let mut rest = &list[0..0];
+    if i <= list.len() / 6 {
+        rest = &list[i * 6..];
+    }
+    Record {
+        id: number_at(rest, 0),
+        start: number_at(rest, 1),
+        duration: number_at(rest, 2),
+        marks: number_at(rest, 3),
+        offset: number_at(rest, 4),
+        chain_length: number_at(rest, 5),
+    }
+}

@@ -1,0 +1,53 @@
+// 01's term: sound ("Event record and sound list").
+use crate::records;
+use codec::pools;
+use codec::seen;
+use eit::Record;
+use eit::Time;
+ghost use mathlib.Core.Path.{_≡_};
+ghost use Rattle.eit.specs.Sizes.{limitedTo};
+ghost use Rattle.eit.specs.Pools.{lentPools};
+ghost use Rattle.eit.specs.Records.{lentList};
+ghost use Rattle.eit.specs.Sound.{inRange, sound};
+
+// Values are in range.
+pub fn is_in_range(event: Record) -> bool
+    ensures { λ r. ⌜ r ≡ inRange event ⌝ }
+{
+    event.id <= 65_535
+        && Time::is_start(event.start)
+        && Time::is_duration(event.duration)
+        && event.marks <= 7
+}
+
+// Whether the list is sound, in one pass: starts rise from `least` on, and ids are kept in a set.
+pub fn is_sound<'a>(
+    list: &[u32],
+    count: usize,
+    day: &'a [u8],
+    series: &'a [u8],
+    event_limit: usize,
+) -> bool
+    ensures { λ r. ⌜ r ≡ sound (limitedTo «event_limit») (lentPools (now (day .entry)) (now (series .entry))) (lentList (now (list .entry)) count) ⌝ }
+{
+    if event_limit < count || list.len() / 6 < count {
+        return false;
+    }
+    let mut seen = [0u64; 1024];
+    let mut least = 0;
+    let mut i = 0;
+    while i < count {
+        let r = records::record_at(list, i);
+        if !is_in_range(r)
+            || !pools::has_chain(r, day, series)
+            || r.start < least
+            || seen::is_seen(&seen, r.id)
+        {
+            return false;
+        }
+        seen::add_seen(&mut seen, r.id);
+        least = r.start + 1;
+        i += 1;
+    }
+    true
+}

@@ -1,0 +1,8 @@
+-- the times that bytes show, as they are read
+pub mod TimeReadLaws
+-- an event's bytes, field by field
+pub mod EventWriteLaws
+-- the event that bytes show, as it is read
+pub mod EventReadLaws
+-- a header's bytes, part by part
+pub mod HeaderLaws

@@ -1,0 +1,162 @@
+//! Makers of lists: sound ones, sound ones with a value at its limit, and unsound ones of every kind.
+
+use crate::pools::Pools;
+use crate::random::Random;
+use std::collections::{BTreeSet, HashSet};
+
+pub const NUMBERS: usize = 6;
+pub const EVENTS_MAX: usize = 2_048;
+pub const START_END: u32 = 5_529_600;
+pub const DURATION_MAX: u32 = 359_999;
+
+// A record's fields.
+pub const ID: usize = 0;
+pub const START: usize = 1;
+pub const DURATION: usize = 2;
+pub const MARKS: usize = 3;
+pub const OFFSET: usize = 4;
+
+/// A buffer and a count, as they are lent to Edit.
+#[derive(Clone)]
+pub struct List {
+    pub numbers: Vec<u32>,
+    pub count: usize,
+}
+
+impl List {
+    /// A sound list of `count` events in a buffer of so many numbers, which are at least 6 × count. Behind the list are zeros,
+    /// numbers of any kind, or its own records again.
+    pub fn sound(random: &mut Random, pools: &Pools, count: usize, numbers: usize) -> List {
+        let mut list = List { numbers: Vec::with_capacity(numbers), count };
+        let crowded = random.one_in(2);
+        let mut ids = HashSet::new();
+        for start in starts(random, count, crowded) {
+            let mut record = record(random, pools);
+            record[ID] = new_id(random, &mut ids, if crowded { count + 8 } else { 65_536 });
+            record[START] = start;
+            list.numbers.extend(record);
+        }
+        match random.below(3) {
+            0 => list.numbers.resize(numbers, 0),
+            1 => list.numbers.resize_with(numbers, || random.number()),
+            _ => list.numbers = list.numbers.iter().copied().chain([0; 6]).cycle().take(numbers).collect(),
+        }
+        list
+    }
+
+    pub fn set(&mut self, place: usize, field: usize, values: &[u32]) {
+        let at = NUMBERS * place + field;
+        self.numbers[at..at + values.len()].copy_from_slice(values);
+    }
+
+    pub fn get(&self, place: usize, field: usize) -> u32 {
+        self.numbers[NUMBERS * place + field]
+    }
+
+    fn with(&self, place: usize, field: usize, values: &[u32]) -> List {
+        let mut changed = self.clone();
+        changed.set(place, field, values);
+        changed
+    }
+
+    fn with_count(&self, count: usize) -> List {
+        List { count, ..self.clone() }
+    }
+}
+
+/// A record in range whose part is a chain.
+pub fn record(random: &mut Random, pools: &Pools) -> [u32; NUMBERS] {
+    let start = random.below(START_END as usize) as u32;
+    let duration = 1 + random.below(DURATION_MAX as usize) as u32;
+    let marks = random.below(8) as u32;
+    let [offset, length] = pools.of_marks(marks).chain(random);
+    [random.number() & 0xFFFF, start, duration, marks, offset, length]
+}
+
+fn new_id(random: &mut Random, ids: &mut HashSet<u32>, end: usize) -> u32 {
+    loop {
+        let id = random.below(end) as u32;
+        if ids.insert(id) {
+            return id;
+        }
+    }
+}
+
+/// That many starts, rising; crowded ones stand close together.
+fn starts(random: &mut Random, count: usize, crowded: bool) -> BTreeSet<u32> {
+    let end = if crowded { 2 * count + 8 } else { START_END as usize };
+    let mut starts = BTreeSet::new();
+    while starts.len() < count {
+        starts.insert(random.below(end) as u32);
+    }
+    starts
+}
+
+/// The list, of at least one event, with one value at its limit each: all are sound.
+pub fn at_limits(random: &mut Random, pools: &Pools, list: &List) -> Vec<List> {
+    let place = random.below(list.count);
+    let last = list.count - 1;
+    let mut lists = vec![
+        list.with(0, START, &[0]),
+        list.with(last, START, &[START_END - 1]),
+        list.with(place, DURATION, &[1]),
+        list.with(place, DURATION, &[DURATION_MAX]),
+        list.with(place, MARKS, &[7, pools.series.bytes().len() as u32, 0]),
+        list.with(place, MARKS, &[0, pools.day.bytes().len() as u32, 0]),
+    ];
+    for id in [0, 65_535] {
+        if (0..list.count).all(|other| list.get(other, ID) != id) {
+            lists.push(list.with(place, ID, &[id]));
+        }
+    }
+    for marks in [5, 2] {
+        if let Some([offset, length]) = pools.of_marks(marks).last_descriptor() {
+            lists.push(list.with(place, MARKS, &[marks, offset, length]));
+        }
+    }
+    lists
+}
+
+/// The sound list, of at least one event, with one thing wrong each: none is sound.
+pub fn unsound(random: &mut Random, pools: &Pools, list: &List) -> Vec<(&'static str, List)> {
+    let place = random.below(list.count);
+    let last = list.count - 1;
+    let mut lists = vec![
+        ("id one beyond", list.with(place, ID, &[65_536])),
+        ("id far beyond", list.with(place, ID, &[list.get(place, ID) | 1 << 31])),
+        ("start one beyond", list.with(last, START, &[START_END])),
+        ("start far beyond", list.with(last, START, &[list.get(last, START) | 1 << 31])),
+        ("no duration", list.with(place, DURATION, &[0])),
+        ("duration one beyond", list.with(place, DURATION, &[DURATION_MAX + 1])),
+        ("duration far beyond", list.with(place, DURATION, &[list.get(place, DURATION) | 1 << 31])),
+        ("marks one beyond", list.with(place, MARKS, &[8, 0, 0])),
+        ("marks one beyond, series", list.with(place, MARKS, &[10, 0, 0])),
+        ("marks far beyond", list.with(place, MARKS, &[1 << 31, 0, 0])),
+        ("count beyond the buffer", list.with_count(list.numbers.len() / NUMBERS + 1)),
+        ("count 2,049", list.with_count(EVENTS_MAX + 1)),
+        ("count 2^32", list.with_count(1 << 32)),
+        ("count 2^63", list.with_count(1 << 63)),
+        ("count of which six wrap to 2", list.with_count(usize::MAX / NUMBERS + 1)),
+        ("highest count", list.with_count(usize::MAX)),
+    ];
+    for marks in [5, 2] {
+        let mut parts = pools.of_marks(marks).no_chains(random);
+        parts.extend([[0, 1 << 16], [0, 1 << 31], [1, u32::MAX], [u32::MAX, u32::MAX]]);
+        for [offset, length] in parts {
+            lists.push(("no chain", list.with(place, MARKS, &[marks, offset, length])));
+        }
+    }
+    if last > 0 {
+        let next = 1 + random.below(last);
+        let (before, start) = (list.get(next - 1, START), list.get(next, START));
+        let mut falling = list.with(next, START, &[before]);
+        falling.set(next - 1, START, &[start]);
+        lists.push(("starts fall", falling));
+        lists.push(("starts equal", list.with(next, START, &[before])));
+        lists.push(("ids of neighbours equal", list.with(next, ID, &[list.get(next - 1, ID)])));
+    }
+    if last > 1 {
+        lists.push(("ids far apart equal", list.with(0, ID, &[list.get(last, ID)])));
+    }
+    lists
+}

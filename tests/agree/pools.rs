@@ -1,0 +1,126 @@
+//! Makers of pools, of parts that are chains, and of parts that are none.
+
+use crate::guarded::Guarded;
+use crate::random::Random;
+
+/// A lent pool, most often one chain from end to end.
+pub struct Pool {
+    lent: Guarded<u8>,
+    as_made: Guarded<u8>,
+    /// Where a descriptor starts, and last the pool's end.
+    cuts: Vec<usize>,
+}
+
+impl Pool {
+    pub fn new(bytes: &[u8], cuts: Vec<usize>) -> Pool {
+        let lent = Guarded::new(bytes, 0);
+        Pool { as_made: lent.clone(), lent, cuts }
+    }
+
+    /// A chain of that many bytes, which are not 1: no chain has one byte.
+    pub fn of_length(random: &mut Random, length: usize) -> Pool {
+        let mut bytes: Vec<u8> = Vec::with_capacity(length);
+        let mut cuts = vec![0];
+        while bytes.len() < length {
+            let left = length - bytes.len();
+            let most = if random.one_in(4) { 257 } else { 16 };
+            let mut descriptor = (2 + random.below(most - 1)).min(left);
+            if left - descriptor == 1 {
+                // One byte would stay, which is no descriptor.
+                descriptor = if descriptor > 2 { descriptor - 1 } else { left };
+            }
+            bytes.push(random.byte());
+            bytes.push((descriptor - 2) as u8);
+            bytes.extend((2..descriptor).map(|_| random.byte()));
+            cuts.push(bytes.len());
+        }
+        Pool::new(&bytes, cuts)
+    }
+
+    /// The same pool with one descriptor's length byte one off, which leaves no chain up to the end if it is the last one's.
+    pub fn with_length_off(&self, descriptor: usize) -> Pool {
+        let mut bytes = self.bytes().to_vec();
+        let length = &mut bytes[self.cuts[descriptor] + 1];
+        *length = if *length == 255 { 254 } else { *length + 1 };
+        Pool::new(&bytes, self.cuts.clone())
+    }
+
+    /// This pool's bytes, and the other's behind them.
+    pub fn followed_by(&self, other: &Pool) -> Pool {
+        let behind = other.cuts[1..].iter().map(|cut| self.bytes().len() + cut);
+        Pool::new(&[self.bytes(), other.bytes()].concat(), self.cuts.iter().copied().chain(behind).collect())
+    }
+
+    pub fn descriptors(&self) -> usize {
+        self.cuts.len() - 1
+    }
+
+    pub fn bytes(&self) -> &[u8] {
+        self.lent.inside()
+    }
+
+    pub fn is_untouched(&self) -> bool {
+        self.lent == self.as_made
+    }
+
+    /// Offset and length of some chain in the pool, of at most a few descriptors.
+    pub fn chain(&self, random: &mut Random) -> [u32; 2] {
+        if random.one_in(8) {
+            return [random.below(self.bytes().len() + 1) as u32, 0];
+        }
+        let first = random.below(self.cuts.len());
+        let end = (first + random.below(6)).min(self.cuts.len() - 1);
+        self.between(first, end, 0)
+    }
+
+    /// Offset and length of the last descriptor, if there is one.
+    pub fn last_descriptor(&self) -> Option<[u32; 2]> {
+        let last = self.cuts.len() - 1;
+        (last > 0).then(|| self.between(last - 1, last, 0))
+    }
+
+    /// Offsets and lengths (of two bytes, as PUT has them) that are outside the pool or no chain.
+    pub fn no_chains(&self, random: &mut Random) -> Vec<[u32; 2]> {
+        let end = self.bytes().len() as u32;
+        let mut parts =
+            vec![[end, 1], [end + 1, 0], [u32::MAX, 0], [u32::MAX, 1], [u32::MAX - 1, 4], [u32::MAX, 65_535]];
+        // With a high bit of its offset lost, this one would be a chain.
+        let [offset, length] = self.chain(random);
+        parts.push([offset + random.pick(&[1 << 17, 1 << 24, 1 << 31]), length]);
+        let last = self.cuts.len() - 1;
+        if last > 0 {
+            let one = random.below(last);
+            parts.push([self.cuts[one] as u32, 1]);
+            parts.push(self.between(one, one + 1, -1));
+            parts.push(self.between(one, one + 1, 1));
+            parts.push(self.between(last - 1, last, 1));
+        }
+        parts
+    }
+
+    fn between(&self, first: usize, end: usize, more: i64) -> [u32; 2] {
+        let length = (self.cuts[end] - self.cuts[first]) as i64 + more;
+        [self.cuts[first] as u32, length as u32]
+    }
+}
+
+pub struct Pools {
+    pub day: Pool,
+    pub series: Pool,
+}
+
+impl Pools {
+    /// Pools of those lengths, neither of which is 1.
+    pub fn of_lengths(random: &mut Random, day: usize, series: usize) -> Pools {
+        Pools { day: Pool::of_length(random, day), series: Pool::of_length(random, series) }
+    }
+
+    /// The pool that a record with these marks has its part in.
+    pub fn of_marks(&self, marks: u32) -> &Pool {
+        if marks & 2 == 0 {
+            &self.day
+        } else {
+            &self.series
+        }
+    }
+}

@@ -1,0 +1,126 @@
+//! Which refusal comes where more than one could: 01, "Checks run in this order". Edits before the refused one stay.
+
+use crate::breaking;
+use crate::edits::Comparison;
+use crate::held::Held;
+use crate::lists::{unsound, List};
+use crate::pools::Pools;
+use crate::random::Random;
+use crate::scripts::{bytes, Command};
+
+/// Edit's order per edit.
+const ORDER: [u32; 5] = [5, 9, 6, 7, 8];
+
+pub fn run(comparison: &mut Comparison) -> Result<(), String> {
+    let random = &mut comparison.group("precedence");
+    for (day, series) in [(200, 90), (0, 30), (30, 0), (0, 0)] {
+        let pools = Pools::of_lengths(random, day, series);
+        for _ in 0..24 {
+            for choice in 1..1 << ORDER.len() {
+                let broken: Vec<_> = (0..ORDER.len()).filter(|k| choice >> k & 1 == 1).map(|k| ORDER[k]).collect();
+                put(comparison, random, &pools, &broken)?;
+            }
+            for broken in [&[5][..], &[6], &[7], &[5, 6], &[6, 7]] {
+                move_one(comparison, random, &pools, broken)?;
+            }
+            withdraw(comparison, random, &pools)?;
+        }
+    }
+    Ok(())
+}
+
+fn put(comparison: &mut Comparison, random: &mut Random, pools: &Pools, broken: &[u32]) -> Result<(), String> {
+    let ready = Ready::new(random, pools, broken.contains(&8));
+    let edit = breaking::put(random, pools, &ready.held, broken);
+    ready.refuse(comparison, random, pools, "PUT", edit, broken)
+}
+
+fn move_one(comparison: &mut Comparison, random: &mut Random, pools: &Pools, broken: &[u32]) -> Result<(), String> {
+    let full = random.one_in(2);
+    let ready = Ready::new(random, pools, full);
+    let edit = breaking::move_one(random, &ready.held, broken);
+    ready.refuse(comparison, random, pools, "MOVE", edit, broken)
+}
+
+fn withdraw(comparison: &mut Comparison, random: &mut Random, pools: &Pools) -> Result<(), String> {
+    let full = random.one_in(2);
+    let ready = Ready::new(random, pools, full);
+    let edit = breaking::withdraw(random, &ready.held);
+    ready.refuse(comparison, random, pools, "WITHDRAW", edit, &[6])
+}
+
+/// A list and edits that are carried out on it, after which it has two events or more and is full or not.
+struct Ready {
+    list: List,
+    before: Vec<Command>,
+    held: Held,
+}
+
+impl Ready {
+    fn new(random: &mut Random, pools: &Pools, full: bool) -> Ready {
+        let limit = 3 + random.below(6);
+        let count = 1 + random.below(limit);
+        let numbers = 6 * limit + random.below(6);
+        let list = List::sound(random, pools, count, numbers);
+        let mut held = Held::by(&list);
+        let edits = random.below(6);
+        let mut before = held.edits(random, pools, edits);
+        while held.count() < 2 || full && !held.is_full() {
+            before.push(held.put(random, pools));
+        }
+        if !full && held.is_full() {
+            before.push(held.withdraw(random));
+        }
+        Ready { list, before, held }
+    }
+
+    /// The edit, which breaks these rules, is refused by the first of them; and a broken form, an UNDO with nothing to strike
+    /// and an unsound list come before it.
+    fn refuse(
+        &self,
+        comparison: &mut Comparison,
+        random: &mut Random,
+        pools: &Pools,
+        command: &'static str,
+        edit: Command,
+        broken: &[u32],
+    ) -> Result<(), String> {
+        let first = broken[0];
+        let mut commands = self.before.clone();
+        commands.push(edit);
+        commands.extend((0..random.below(3)).map(|_| self.held.any_edit(random, pools)));
+        let script = bytes(&commands);
+        comparison.answers((first, bytes(&self.before).len()), pools, &self.list, &script)?;
+        for second in &broken[1..] {
+            comparison.tally.precedence((command, first, *second));
+        }
+
+        let cut = [script.clone(), random.pick(&[&[0x00][..], &[0x05], &[0x01, 0x00], &[0x02]]).to_vec()].concat();
+        comparison.answers((3, script.len()), pools, &self.list, &cut)?;
+        comparison.tally.precedence(("call", 3, first));
+
+        let undo_first = [vec![0x04], script.clone()].concat();
+        comparison.answers((4, 0), pools, &self.list, &undo_first)?;
+        let undo_last = [script.clone(), vec![0x04; unstruck(&commands) + 1]].concat();
+        comparison.answers((4, undo_last.len() - 1), pools, &self.list, &undo_last)?;
+        comparison.tally.precedence(("call", 4, first));
+
+        let undo_then_cut = [vec![0x04], cut.clone()].concat();
+        comparison.answers((3, 1 + script.len()), pools, &self.list, &undo_then_cut)?;
+        comparison.tally.precedence(("call", 3, 4));
+
+        let lists = unsound(random, pools, &self.list);
+        for (script, second) in [(&script, first), (&cut, 3), (&undo_first, 4), (&undo_last, 4)] {
+            let place = random.below(lists.len());
+            comparison.answers((12, 0), pools, &lists[place].1, script)?;
+            comparison.tally.precedence(("call", 12, second));
+        }
+        Ok(())
+    }
+}
+
+/// How many of the commands are edits that no UNDO strikes.
+fn unstruck(commands: &[Command]) -> usize {
+    let undos = commands.iter().filter(|command| matches!(command, Command::Undo)).count();
+    commands.len() - 2 * undos
+}

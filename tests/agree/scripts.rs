@@ -1,0 +1,41 @@
+//! Commands and their bytes: 01, "Edit".
+
+use crate::lists::NUMBERS;
+
+/// The numbers are a record's for PUT, an id for WITHDRAW, an id and a start for MOVE.
+#[derive(Clone, Copy)]
+pub enum Command {
+    Put([u32; NUMBERS]),
+    Withdraw(u32),
+    Move(u32, u32),
+    Undo,
+}
+
+/// The bytes of the commands, joined.
+pub fn bytes(commands: &[Command]) -> Vec<u8> {
+    let mut bytes = Vec::new();
+    for command in commands {
+        match command {
+            Command::Put([id, start, duration, marks, offset, length]) => {
+                bytes.push(0x01);
+                bytes.extend((*id as u16).to_be_bytes());
+                bytes.extend(start.to_be_bytes());
+                bytes.extend(duration.to_be_bytes());
+                bytes.push(*marks as u8);
+                bytes.extend(offset.to_be_bytes());
+                bytes.extend((*length as u16).to_be_bytes());
+            }
+            Command::Withdraw(id) => {
+                bytes.push(0x02);
+                bytes.extend((*id as u16).to_be_bytes());
+            }
+            Command::Move(id, start) => {
+                bytes.push(0x03);
+                bytes.extend((*id as u16).to_be_bytes());
+                bytes.extend(start.to_be_bytes());
+            }
+            Command::Undo => bytes.push(0x04),
+        }
+    }
+    bytes
+}

@@ -1,0 +1,87 @@
+//! UNDO: every pattern of edits and UNDO up to ten commands, then long and deep ones.
+
+use crate::edits::Comparison;
+use crate::held::Held;
+use crate::lists::List;
+use crate::pools::Pools;
+use crate::random::Random;
+use crate::scripts::{bytes, Command};
+
+pub fn run(comparison: &mut Comparison) -> Result<(), String> {
+    let random = &mut comparison.group("UNDO");
+    let pools = Pools::of_lengths(random, 60, 40);
+    for length in 0..=10 {
+        for pattern in 0..1u32 << length {
+            let undo: Vec<_> = (0..length).map(|place| pattern >> place & 1 == 1).collect();
+            short(comparison, random, &pools, &undo)?;
+        }
+    }
+    for edits in [300, 2_048, 2_049, 20_000] {
+        deep(comparison, random, &pools, edits)?;
+    }
+    for _ in 0..100 {
+        long(comparison, random, &pools)?;
+    }
+    Ok(())
+}
+
+/// The pattern over PUTs that all fit, so that its answer is counted here, and over edits of any kind.
+fn short(comparison: &mut Comparison, random: &mut Random, pools: &Pools, undo: &[bool]) -> Result<(), String> {
+    let empty = List::sound(random, pools, 0, 6 * 10 + 3);
+    let mut held = Held::by(&empty);
+    let commands: Vec<_> =
+        undo.iter().map(|&undo| if undo { Command::Undo } else { held.put(random, pools) }).collect();
+    comparison.answers(answer_of_puts(&commands), pools, &empty, &bytes(&commands))?;
+
+    let some = List::sound(random, pools, 3, 6 * 6 + 1);
+    let held = Held::by(&some);
+    let commands: Vec<_> =
+        undo.iter().map(|&undo| if undo { Command::Undo } else { held.any_edit(random, pools) }).collect();
+    comparison.alike(pools, &some, &bytes(&commands))?;
+    Ok(())
+}
+
+/// Number and value for commands that are PUT, all of which fit, or UNDO.
+fn answer_of_puts(commands: &[Command]) -> (u32, usize) {
+    let mut unstruck = 0;
+    for (place, command) in commands.iter().enumerate() {
+        match command {
+            Command::Undo if unstruck == 0 => return (4, bytes(&commands[..place]).len()),
+            Command::Undo => unstruck -= 1,
+            _ => unstruck += 1,
+        }
+    }
+    (0, unstruck)
+}
+
+/// So many edits, most of which would be refused, all struck by as many UNDOs; then one UNDO more.
+fn deep(comparison: &mut Comparison, random: &mut Random, pools: &Pools, edits: usize) -> Result<(), String> {
+    let list = List::sound(random, pools, 2, 6 * 4);
+    let held = Held::by(&list);
+    let mut commands: Vec<_> = (0..edits).map(|_| held.any_edit(random, pools)).collect();
+    commands.resize(2 * edits, Command::Undo);
+    let mut script = bytes(&commands);
+    comparison.answers((0, 2), pools, &list, &script)?;
+    script.push(0x04);
+    comparison.answers((4, script.len() - 1), pools, &list, &script)
+}
+
+/// A walk of up to some thousand commands between edits and UNDO, at times one UNDO too deep.
+fn long(comparison: &mut Comparison, random: &mut Random, pools: &Pools) -> Result<(), String> {
+    let list = List::sound(random, pools, 5, 6 * 40 + 2);
+    let held = Held::by(&list);
+    let mut commands = Vec::new();
+    let mut unstruck = 0;
+    for _ in 0..random.below(3_000) {
+        let strikes = unstruck > 0 || random.one_in(1_000);
+        if strikes && random.one_in(2) {
+            commands.push(Command::Undo);
+            unstruck -= 1;
+        } else {
+            commands.push(held.any_edit(random, pools));
+            unstruck += 1;
+        }
+    }
+    comparison.alike(pools, &list, &bytes(&commands))?;
+    Ok(())
+}

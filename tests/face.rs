@@ -1,0 +1,48 @@
+//! The library's C face: its declarations, and safe functions over them that take slices.
+
+/// 01's number and value, and the count then held.
+#[repr(C)]
+pub struct EitEdited {
+    pub number: u32,
+    pub value: usize,
+    pub count: usize,
+}
+
+extern "C" {
+    fn eit_edit(
+        list: *mut u32,
+        list_length: usize,
+        count: usize,
+        day: *const u8,
+        day_length: usize,
+        series: *const u8,
+        series_length: usize,
+        script: *const u8,
+        script_length: usize,
+    ) -> EitEdited;
+
+    fn eit_crc32(bytes: *const u8, length: usize) -> u32;
+}
+
+pub fn edit(list: &mut [u32], count: usize, day: &[u8], series: &[u8], script: &[u8]) -> EitEdited {
+    // Each pointer comes with the length of its own slice, and is not null even if the slice is empty. The one slice that is
+    // written overlaps no other.
+    unsafe {
+        eit_edit(
+            list.as_mut_ptr(),
+            list.len(),
+            count,
+            day.as_ptr(),
+            day.len(),
+            series.as_ptr(),
+            series.len(),
+            script.as_ptr(),
+            script.len(),
+        )
+    }
+}
+
+pub fn crc32(bytes: &[u8]) -> u32 {
+    // As above.
+    unsafe { eit_crc32(bytes.as_ptr(), bytes.len()) }
+}
