@@ -171,6 +171,19 @@ edit-of at bs =
 pub undo-of : (at : ℕ) (bs : List ℕ) (code : ℕ) → code ≡ 0x04 → commandOf code at bs ≡ undo at
 undo-of at bs code e = ap (λ (k : ℕ). commandOf k at bs) e
 
+module _ (at : ℕ) (script : List ℕ) (next : ℕ) (e : next ≡ at + (1 + operandBytes (getD script at 0))) (whole : T (isWholeAt at script)) where
+  pub commands-edit : (getD script at 0 ≡ 0x04 → ⊥) → (f : Edit) × (commandsAt at script ≡ doEdit f ∷ commandsAt next script)
+  commands-edit n =
+      let code : ℕ = getD script at 0 in
+      let bs : List ℕ = drop (suc at) script in
+      let known : T (isCommand code) = and-left (isCommand code) (leb (operandBytes code) (length bs)) (whole-is at script whole) in
+      let (f, is) = edit-of at bs code known n in
+      (f, commands-next at script next e whole ∙ ap (λ (c : Command). c ∷ commandsAt next script) is)
+
+  pub commands-undo : getD script at 0 ≡ 0x04 → commandsAt at script ≡ undo at ∷ commandsAt next script
+  commands-undo h =
+      commands-next at script next e whole ∙ ap (λ (c : Command). c ∷ commandsAt next script) (undo-of at (drop (suc at) script) (getD script at 0) h)
+
 -- any other byte than those of the edits
 module _ (code : ℕ) (p : code ≡ 0x01 → ⊥) (w : code ≡ 0x02 → ⊥) (m : code ≡ 0x03 → ⊥) where
   pub other-operands : operandBytes code ≡ 0

@@ -1,14 +1,10 @@
--- What the answers of the passes over a script say of it: the script's commands, the edits that are left, and whether an edit is one
--- of them. Assumes nothing.
+-- What the answers of the passes over a script say of it: the script's commands, and the edits that are left. Assumes nothing.
 use mathlib.Core.Path.{_≡_, refl, sym, ap, _∙_}
-use mathlib.Core.Bool.{true, false}
-use mathlib.Core.List.{List, _∷_}
-use Prim.Native.Nat.{ℕ, zero, suc}
+use mathlib.Core.List.{List}
+use Prim.Native.Nat.{ℕ}
 use native.Mathlib.Omega.{arith}
-use lib.Dec.{ltb}
-use borrow.Author.Tests.{ltb-true, ltb-false}
-use Rattle.script.specs.Form.{Edit, Command, doEdit, Form, commands, broken, formOf}
-use Rattle.script.specs.Struck.{Unstruck, unstruck, nothingAt, unstruckIn, passed, unlessStruck, live}
+use Rattle.script.specs.Form.{Edit, Command, Form, commands, broken, formOf}
+use Rattle.script.specs.Struck.{Unstruck, unstruck, nothingAt, unstruckIn, live}
 use Rattle.script.proofs.Struck.{struck-live}
 use Rattle.edit.specs.Commands.{formTold, strikesTold, commandsAt}
 use Rattle.edit.specs.declared.scan.Form.the-variants.{Whole, Broken}
@@ -50,19 +46,3 @@ told-nothing (nothingAt there) at e = cc
 
 pub strikes-nothing-is : (cs : List Command) (at : ℕ) → strikesTold (unstruckIn cs) ≡ NothingAt at → unstruckIn cs ≡ nothingAt at
 strikes-nothing-is cs at e = told-nothing (unstruckIn cs) at e
-
--- ---- an edit is struck, or is one of those that are left
-
-unless-struck : (p : ℕ) (e : Edit) (es : List Edit) → ltb 0 p ≡ true → unlessStruck p e es ≡ es
-unless-struck zero e es t = absurd (omega (arith, ltb-true 0 0 t))
-unless-struck (suc p) e es t = refl
-
-pub live-struck : (e : Edit) (cs : List Command) → ltb 0 (passed 0 cs) ≡ true → live 0 (doEdit e ∷ cs) ≡ live 0 cs
-live-struck e cs t = unless-struck (passed 0 cs) e (live 0 cs) t
-
-unless-left : (p : ℕ) (e : Edit) (es : List Edit) → ltb 0 p ≡ false → unlessStruck p e es ≡ e ∷ es
-unless-left zero e es t = refl
-unless-left (suc p) e es t = absurd (omega (arith, ltb-false 0 (suc p) t))
-
-pub live-left : (e : Edit) (cs : List Command) → ltb 0 (passed 0 cs) ≡ false → live 0 (doEdit e ∷ cs) ≡ e ∷ live 0 cs
-live-left e cs t = unless-left (passed 0 cs) e (live 0 cs) t

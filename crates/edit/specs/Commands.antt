@@ -1,6 +1,6 @@
--- The model's value for each case of a script's form, of its UNDOs and of a command, and the commands from an offset on (01,
--- "Edit"). Laws: proofs/CommandLaws.antt. Assumes nothing.
-use Prim.Native.Nat.{ℕ, zero, suc}
+-- The model's value for each case of a script's form, of its UNDOs and of a command; the commands from an offset on, and the offset
+-- behind some of them (01, "Edit"). Laws: proofs/CommandLaws.antt, PartLaws.antt. Assumes nothing.
+use Prim.Native.Nat.{ℕ, zero, suc, _+_}
 use mathlib.Core.Bool.{Bool, true, false, _&&_}
 use mathlib.Core.List.{List, [], _∷_}
 use lib.Dec.{ltb}
@@ -52,3 +52,12 @@ wholeFrom zero at (code ∷ bs) =
 -- the whole commands of a script from the offset `at` on; none if `at` lies beyond it
 unfoldable pub commandsAt : ℕ → List ℕ → List model.Command
 commandsAt at script = wholeFrom 0 at (drop at script)
+
+-- the offset behind k whole commands from the offset `at` on, or behind as many as there are
+unfoldable pub offsetBehind : ℕ → ℕ → List ℕ → ℕ
+offsetBehind zero at script = at
+offsetBehind (suc k) at script =
+    elim (isWholeAt at script) [
+      | true ↦ offsetBehind k (at + (1 + operandBytes (getD script at 0))) script
+      | false ↦ at
+    ]

@@ -19,14 +19,15 @@ ghost use mathlib.Core.Path.{_≡_};
 ghost use Prim.Native.Nat.{ℕ, _*_, _≤_};
 ghost use mathlib.Core.List.{List};
 ghost use lib.Dec.{T};
-ghost use lib.ListN.{length};
-ghost use Rattle.eit.specs.Sizes.{limitedTo, broadcast};
+ghost use lib.ListN.{length, take};
+ghost use Rattle.eit.specs.Sizes.{limitedTo};
 ghost use Rattle.eit.specs.Pools.{lentPools};
 ghost use Rattle.eit.specs.Records.{lentList, recordSize};
 ghost use Rattle.eit.specs.Sound.{sound};
+ghost use Rattle.script.specs.Struck.{passed};
 ghost use Rattle.script.specs.Edit.{edit};
-ghost use Rattle.edit.specs.Commands.{commandTold};
-ghost use Rattle.edit.specs.Run.{runOne, runFrom};
+ghost use Rattle.edit.specs.Commands.{commandTold, commandsAt};
+ghost use Rattle.edit.specs.Run.{runOne, runFrom, runPart};
 ghost use Rattle.edit.specs.Told.{told};
 
 // PUT: 5, 9, 6, 7, 8; then the record is inserted by its start.
@@ -161,6 +162,73 @@ fn carry_out<'a>(
     }
 }
 
+// How many UNDOs are pending before k commands from `at` on, with so many behind them: `kept` counts the edits that are not
+// yet struck, `over` the UNDOs that find nothing among them to strike.
+fn pending_before(script: &[u8], at: usize, k: usize, undos: usize) -> usize
+    requires { ⌜ (k ≤ length (commandsAt at (now script))) × (undos ≤ length (now script)) ⌝ }
+    ensures { λ r. ⌜ r ≡ passed undos (take k (commandsAt at (now (script .entry)))) ⌝ }
+{
+    let mut over: usize = 0;
+    let mut kept: usize = 0;
+    let mut i = at;
+    let mut left = k;
+    while 0 < left {
+        if script[i] != command::UNDO {
+            kept += 1;
+        } else if kept == 0 {
+            over += 1;
+        } else {
+            kept -= 1;
+        }
+        i += 1 + command::operand_bytes(script[i]);
+        left -= 1;
+    }
+    if undos <= kept {
+        return over;
+    }
+    over + (undos - kept)
+}
+
+// The live edits among k commands from `at` on, with so many UNDOs pending behind them, on a list that is sound: those of the first
+// half, then those of the second. What strikes in the first is counted by a pass over the second, so that n commands take a number of
+// steps that grows with n log n.
+fn run_part<'a>(
+    list: &mut [u32],
+    count: usize,
+    day: &'a [u8],
+    series: &'a [u8],
+    event_limit: usize,
+    script: &[u8],
+    at: usize,
+    k: usize,
+    undos: usize,
+) -> Edited
+    requires { ⌜ T (sound (limitedTo «event_limit») (lentPools (now day) (now series)) (lentList (now list) count)) × (k ≤ length (commandsAt at (now script))) ⌝ }
+    ensures { λ r. ⌜ runPart «event_limit» (now (day .entry)) (now (series .entry)) (lentList (now (list .entry)) count) undos k at (now (script .entry)) ≡ told r (now (list .exit)) ⌝ }
+{
+    if k <= undos {
+        return Edited {
+            answer: EditAnswer::Done,
+            count,
+        };
+    }
+    if k == 1 {
+        let command = command::command_at(script, at);
+        return carry_out(list, count, day, series, event_limit, at, command);
+    }
+    let h = k / 2;
+    let rest = k - h;
+    let mid = scan::skip_commands(script, at, h);
+    let before = pending_before(script, mid, rest, undos);
+    let r = run_part(list, count, day, series, event_limit, script, at, h, before);
+    let said = r.answer;
+    if answer::number_of(said) != 0 {
+        return r;
+    }
+    let n = r.count;
+    run_part(list, n, day, series, event_limit, script, mid, rest, undos)
+}
+
 // The live edits among the whole commands of a script, on a list that is sound.
 fn run<'a>(
     list: &mut [u32],
@@ -173,32 +241,8 @@ fn run<'a>(
     requires { ⌜ T (sound (limitedTo «event_limit») (lentPools (now day) (now series)) (lentList (now list) count)) ⌝ }
     ensures { λ r. ⌜ runFrom «event_limit» (now (day .entry)) (now (series .entry)) (lentList (now (list .entry)) count) 0 (now (script .entry)) ≡ told r (now (list .exit)) ⌝ }
 {
-    let mut n = count;
-    let mut at = 0;
-    while scan::is_whole_at(script, at) {
-        let here = at;
-        at += 1 + command::operand_bytes(script[here]);
-        if !scan::is_struck(script, at) {
-            let r = carry_out(
-                list,
-                n,
-                day,
-                series,
-                event_limit,
-                here,
-                command::command_at(script, here),
-            );
-            let said = r.answer;
-            if answer::number_of(said) != 0 {
-                return r;
-            }
-            n = r.count;
-        }
-    }
-    Edited {
-        answer: EditAnswer::Done,
-        count: n,
-    }
+    let k = scan::count_commands(script);
+    run_part(list, count, day, series, event_limit, script, 0, k, 0)
 }
 
 // Edit with another limit of events than broadcast's.
@@ -224,7 +268,7 @@ pub fn edit_within<'a>(
             count,
         };
     }
-    if let Strikes::NothingAt(at) = scan::strikes_from(script, 0) {
+    if let Strikes::NothingAt(at) = scan::strikes_in(script) {
         return Edited {
             answer: EditAnswer::NothingToStrike(at),
             count,

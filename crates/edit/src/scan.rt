@@ -1,11 +1,11 @@
-// The passes over a script that come before any edit (01, "When a call says no": 3 over the script, 4 over the script), and which
-// edits are struck.
+// The passes over a script that come before any edit (01, "When a call says no": 3 over the script, 4 over the script), and its
+// commands, counted and skipped.
 use crate::command;
 ghost use mathlib.Core.Path.{_≡_};
-ghost use lib.Dec.{ltb};
+ghost use lib.ListN.{length};
 ghost use Rattle.script.specs.Form.{formOf};
-ghost use Rattle.script.specs.Struck.{unstruckIn, passed};
-ghost use Rattle.edit.specs.Commands.{formTold, strikesTold, isWholeAt, commandsAt};
+ghost use Rattle.script.specs.Struck.{unstruckIn};
+ghost use Rattle.edit.specs.Commands.{formTold, strikesTold, isWholeAt, commandsAt, offsetBehind};
 
 // The form of a script.
 pub enum Form {
@@ -46,31 +46,50 @@ pub fn form_of(script: &[u8]) -> Form
     Form::Whole
 }
 
-// Of the whole commands from `at` on: `kept` counts the edits that are not yet struck.
-pub fn strikes_from(script: &[u8], at: usize) -> Strikes
-    ensures { λ r. ⌜ r ≡ strikesTold (unstruckIn (commandsAt at (now (script .entry)))) ⌝ }
+// Whether each UNDO has something to strike: `kept` counts the edits that are not yet struck.
+pub fn strikes_in(script: &[u8]) -> Strikes
+    ensures { λ r. ⌜ r ≡ strikesTold (unstruckIn (commandsAt 0 (now (script .entry)))) ⌝ }
 {
     let mut kept: usize = 0;
-    let mut i = at;
-    while is_whole_at(script, i) {
-        if script[i] != command::UNDO {
+    let mut at = 0;
+    while is_whole_at(script, at) {
+        if script[at] != command::UNDO {
             kept += 1;
         } else if kept == 0 {
-            return Strikes::NothingAt(i);
+            return Strikes::NothingAt(at);
         } else {
             kept -= 1;
         }
-        i += 1 + command::operand_bytes(script[i]);
+        at += 1 + command::operand_bytes(script[at]);
     }
     Strikes::Enough
 }
 
-// Whether an UNDO among the commands from `at` on strikes the edit before them: one for which no edit between is left.
-pub fn is_struck(script: &[u8], at: usize) -> bool
-    ensures { λ r. ⌜ r ≡ ltb 0 (passed 0 (commandsAt at (now (script .entry)))) ⌝ }
+// How many whole commands there are.
+pub fn count_commands(script: &[u8]) -> usize
+    ensures { λ r. ⌜ r ≡ length (commandsAt 0 (now (script .entry))) ⌝ }
 {
-    match strikes_from(script, at) {
-        Strikes::Enough => false,
-        Strikes::NothingAt(_) => true,
+    let mut count: usize = 0;
+    let mut at = 0;
+    while is_whole_at(script, at) {
+        count += 1;
+        at += 1 + command::operand_bytes(script[at]);
     }
+    count
+}
+
+// The offset behind k whole commands from `at` on, or behind as many as there are.
+pub fn skip_commands(script: &[u8], at: usize, k: usize) -> usize
+    ensures { λ r. ⌜ r ≡ offsetBehind k at (now (script .entry)) ⌝ }
+{
+    let mut i = at;
+    let mut left = k;
+    while 0 < left {
+        if !is_whole_at(script, i) {
+            return i;
+        }
+        i += 1 + command::operand_bytes(script[i]);
+        left -= 1;
+    }
+    i
 }

@@ -11,7 +11,7 @@ use Rattle.edit.proofs.machine.edit_within.Reads as reads
 use Rattle.edit.proofs.machine.edit_within.Lts as lts
 use Rattle.edit.proofs.machine.run.Reads as run-reads
 use Rattle.edit.proofs.scan.form_of.Reads as form-of-reads
-use Rattle.edit.proofs.scan.strikes_from.Reads as strikes-from-reads
+use Rattle.edit.proofs.scan.strikes_in.Reads as strikes-in-reads
 use Rattle.event_list.proofs.sound.is_sound.Reads as is-sound-reads
 
 -- src/machine.rt:215:9
@@ -56,8 +56,8 @@ enum-told : tie.Need-enum-told
 enum-told c = search needs
 
 -- src/machine.rt:227:37
-strikes-from-requires : tie.Need-strikes-from-requires
-strikes-from-requires c κs = search needs
+strikes-in-requires : tie.Need-strikes-in-requires
+strikes-in-requires c κs = search needs
 
 -- src/machine.rt:227:31
 enum-known-at-2 : tie.Need-enum-known-at-2
@@ -77,7 +77,7 @@ returns-3 c =
     let asks = sound .before in
     let start = asks .before .before .before .before .before .before .args in
     edit-4 (start .event-limit) (now (start .day)) (now (start .series)) (lentList (now (start .list)) (start .count)) (now (start .script))
-    (is-sound (start .event-limit) (now (start .day)) (now (start .series)) (lentList (now (start .list)) (start .count)) (now (start .script)) (asks .is-sound .result) (asks .is-sound .ensures) (not-false (asks .is-sound .result) (sound .if1 .left))) (sym (forms .form-of .ensures) ∙ whole .enum-told .given .1) _ (sym (strikes .strikes-from .ensures) ∙ c .before .at2 .given .1)
+    (is-sound (start .event-limit) (now (start .day)) (now (start .series)) (lentList (now (start .list)) (start .count)) (now (start .script)) (asks .is-sound .result) (asks .is-sound .ensures) (not-false (asks .is-sound .result) (sound .if1 .left))) (sym (forms .form-of .ensures) ∙ whole .enum-told .given .1) _ (sym (strikes .strikes-in .ensures) ∙ c .before .at2 .given .1)
 
 enum-told-2 : tie.Need-enum-told-2
 enum-told-2 c = search needs
@@ -107,7 +107,7 @@ returns-4 c =
     let asks = sound .before in
     let start = asks .before .before .before .before .before .before .args in
     edit-goes-on (start .event-limit) (now (start .day)) (now (start .series)) (lentList (now (start .list)) (start .count)) (now (start .script))
-    (is-sound (start .event-limit) (now (start .day)) (now (start .series)) (lentList (now (start .list)) (start .count)) (now (start .script)) (asks .is-sound .result) (asks .is-sound .ensures) (not-false (asks .is-sound .result) (sound .if1 .left))) (sym (forms .form-of .ensures) ∙ whole .enum-told .given .1) (sym (strikes .strikes-from .ensures) ∙ enough .enum-told2 .given .1)
+    (is-sound (start .event-limit) (now (start .day)) (now (start .series)) (lentList (now (start .list)) (start .count)) (now (start .script)) (asks .is-sound .result) (asks .is-sound .ensures) (not-false (asks .is-sound .result) (sound .if1 .left))) (sym (forms .form-of .ensures) ∙ whole .enum-told .given .1) (sym (strikes .strikes-in .ensures) ∙ enough .enum-told2 .given .1)
     ∙ runs .run .ensures
 
 pub edit-within-spec : {M : Type 1} → statement M
@@ -122,7 +122,7 @@ edit-within-spec =
     same-length-2
     returns-2
     enum-told
-    strikes-from-requires
+    strikes-in-requires
     enum-known-at-2
     same-length-3
     returns-3

@@ -1,5 +1,5 @@
--- `scan::strikes_from` meets its contract. The loop's invariant: the commands from `at` on say what those from `i` on say with `kept`
--- edits before them, of which there are at most `i`. The measure is what is left of the length. Assumes nothing.
+-- `scan::strikes_in` meets its contract. The loop's invariant: all commands say what those from `at` on say with `kept`
+-- edits before them, of which there are at most `at`. The measure is what is left of the length. Assumes nothing.
 use mathlib.Core.Path.{_≡_, refl, sym, ap, _∙_}
 use mathlib.Core.List.{List}
 use mathlib.Core.Logic.{⊎-elim}
@@ -14,18 +14,18 @@ use Rattle.edit.specs.Commands.{strikesTold, isWholeAt, commandsAt}
 use Rattle.edit.specs.declared.scan.Strikes.{Strikes}
 use Rattle.edit.proofs.CommandLaws.{whole-holds, whole-fails, whole-here, whole-inside}
 use Rattle.edit.proofs.StrikeLaws.{strikesAfter, strikes-all, strikes-edit, strikes-undo, strikes-nothing, strikes-stop}
-use Rattle.edit.proofs.scan.strikes_from.Statement.{statement}
-use Rattle.edit.proofs.scan.strikes_from.Tie as tie
+use Rattle.edit.proofs.scan.strikes_in.Statement.{statement}
+use Rattle.edit.proofs.scan.strikes_in.Tie as tie
 
 abbrev Inv-loop : tie.InvT-loop
-Inv-loop script at kept₀ i₀ kept i =
-    (kept ≤ i) × (strikesTold (unstruckIn (commandsAt at script)) ≡ strikesAfter kept (commandsAt i script))
+Inv-loop script kept₀ at₀ kept at =
+    (kept ≤ at) × (strikesTold (unstruckIn (commandsAt 0 script)) ≡ strikesAfter kept (commandsAt at script))
 
 abbrev μ-loop : tie.MeasureT-loop
-μ-loop script at kept₀ i₀ kept i = length script - i
+μ-loop script kept₀ at₀ kept at = length script - at
 
 loop-holds : tie.Need-loop-holds Inv-loop μ-loop
-loop-holds c = (omega arith, strikes-all (commandsAt (c .before .args .at) (c .before .args .script .now)))
+loop-holds c = (omega arith, strikes-all (commandsAt 0 (c .before .args .script .now)))
 
 is-whole-at-requires : tie.Need-is-whole-at-requires Inv-loop μ-loop
 is-whole-at-requires c κs = search needs
@@ -34,20 +34,20 @@ is-whole-at-requires c κs = search needs
 abbrev bytes : tie.At-loop Inv-loop μ-loop → List ℕ
 bytes head = head .before .before .args .script .now
 
-whole : (c : tie.Then1 Inv-loop μ-loop) → T (isWholeAt (c .before .before .loop .i) (bytes (c .before .before)))
+whole : (c : tie.Then1 Inv-loop μ-loop) → T (isWholeAt (c .before .before .loop .at) (bytes (c .before .before)))
 whole c =
     let head = c .before .before in
-    whole-holds (head .loop .i) (bytes head) (c .before .is-whole-at .result) (c .before .is-whole-at .ensures) (c .if1 .taken)
+    whole-holds (head .loop .at) (bytes head) (c .before .is-whole-at .result) (c .before .is-whole-at .ensures) (c .if1 .taken)
 
-here : (c : tie.Then1 Inv-loop μ-loop) → c .before .before .loop .i < length (bytes (c .before .before))
-here c = whole-here (c .before .before .loop .i) (bytes (c .before .before)) (whole c)
+here : (c : tie.Then1 Inv-loop μ-loop) → c .before .before .loop .at < length (bytes (c .before .before))
+here c = whole-here (c .before .before .loop .at) (bytes (c .before .before)) (whole c)
 
 inside : (c : tie.After-operand-bytes Inv-loop μ-loop)
     → let head = c .before .before .before .before .before .before in
-    head .loop .i + (1 + c .operand-bytes .result) ≤ length (bytes head)
+    head .loop .at + (1 + c .operand-bytes .result) ≤ length (bytes head)
 inside c =
     let head = c .before .before .before .before .before .before in
-    omega (arith, whole-inside (head .loop .i) (bytes head) (whole (c .before .before .before .before)), c .operand-bytes .ensures)
+    omega (arith, whole-inside (head .loop .at) (bytes head) (whole (c .before .before .before .before)), c .operand-bytes .ensures)
 
 shared-slice-read-if2 : tie.Need-shared-slice-read-if2 Inv-loop μ-loop
 shared-slice-read-if2 c = here (c .before)
@@ -59,7 +59,7 @@ returns : tie.Need-returns Inv-loop μ-loop
 returns c =
     let turn = c .before .before .before in
     let head = turn .before .before in
-    let at : ℕ = head .loop .i in
+    let at : ℕ = head .loop .at in
     let next : ℕ = at + (1 + operandBytes (getD (bytes head) at 0)) in
     sym (head .loop .inv .1 ∙ strikes-nothing (head .loop .kept) at (bytes head) next refl (whole turn) (c .before .if2 .left) (c .if3 .taken))
 
@@ -72,11 +72,11 @@ shared-slice-read-operand-bytes c = here (c .before .before .before)
 operand-bytes-requires : tie.Need-operand-bytes-requires Inv-loop μ-loop
 operand-bytes-requires c κs = search needs
 
-add-i : tie.Need-add-i Inv-loop μ-loop
-add-i c = omega (arith, inside c)
+add-at : tie.Need-add-at Inv-loop μ-loop
+add-at c = omega (arith, inside c)
 
-add-i-2 : tie.Need-add-i-2 Inv-loop μ-loop
-add-i-2 c = omega (arith, inside c)
+add-at-2 : tie.Need-add-at-2 Inv-loop μ-loop
+add-at-2 c = omega (arith, inside c)
 
 loop-less : tie.Need-loop-less Inv-loop μ-loop
 loop-less c = omega (arith, inside c)
@@ -85,19 +85,19 @@ loop-again : tie.Need-loop-again Inv-loop μ-loop
 loop-again c =
     let turn = c .before .before .before .before in
     let head = turn .before .before in
-    let i : ℕ = head .loop .i in
+    let at : ℕ = head .loop .at in
     let kept : ℕ = head .loop .kept in
-    let next : ℕ = i + (1 + c .operand-bytes .result) in
-    let there : next ≡ i + (1 + operandBytes (getD (bytes head) i 0)) = ap (λ (n : ℕ). i + (1 + n)) (c .operand-bytes .ensures) in
+    let next : ℕ = at + (1 + c .operand-bytes .result) in
+    let there : next ≡ at + (1 + operandBytes (getD (bytes head) at 0)) = ap (λ (n : ℕ). at + (1 + n)) (c .operand-bytes .ensures) in
     let says : ℕ → Strikes = λ k. strikesAfter k (commandsAt next (bytes head)) in
     ⊎-elim
     (λ w. (
       omega (arith, w .1),
-      head .loop .inv .1 ∙ strikes-edit kept i (bytes head) next there (whole turn) (w .0 .taken) ∙ ap says (sym (w .1)),
+      head .loop .inv .1 ∙ strikes-edit kept at (bytes head) next there (whole turn) (w .0 .taken) ∙ ap says (sym (w .1)),
     ))
     (λ w. (
       omega (arith, w .2),
-      head .loop .inv .1 ∙ strikes-undo kept i (bytes head) next there (whole turn) (w .0 .left) (w .1 .left) ∙ ap says (sym (w .2)),
+      head .loop .inv .1 ∙ strikes-undo kept at (bytes head) next there (whole turn) (w .0 .left) (w .1 .left) ∙ ap says (sym (w .2)),
     ))
     (c .before .before .if2 .came)
 
@@ -105,11 +105,11 @@ returns-2 : tie.Need-returns-2 Inv-loop μ-loop
 returns-2 c =
     let asked = c .before .is-whole-at in
     let head = c .before .before in
-    let cut = whole-fails (head .loop .i) (bytes head) (asked .result) (asked .ensures) (c .if1 .left) in
-    sym (head .loop .inv .1 ∙ strikes-stop (head .loop .kept) (head .loop .i) (bytes head) cut)
+    let cut = whole-fails (head .loop .at) (bytes head) (asked .result) (asked .ensures) (c .if1 .left) in
+    sym (head .loop .inv .1 ∙ strikes-stop (head .loop .kept) (head .loop .at) (bytes head) cut)
 
-pub strikes-from-spec : {M : Type 1} → statement M
-strikes-from-spec =
+pub strikes-in-spec : {M : Type 1} → statement M
+strikes-in-spec =
     tie.close
     (tie.spec
     Inv-loop
@@ -122,8 +122,8 @@ strikes-from-spec =
     sub-kept
     shared-slice-read-operand-bytes
     operand-bytes-requires
-    add-i
-    add-i-2
+    add-at
+    add-at-2
     loop-less
     loop-again
     returns-2)

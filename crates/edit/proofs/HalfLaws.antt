@@ -1,0 +1,121 @@
+-- The live edits of a part of a script: none if all is struck, one command, or those of the first half and then those of the second,
+-- with the UNDOs pending behind the first that pass the second. By the laws of `run` and `live`. Assumes nothing.
+use mathlib.Core.Path.{_≡_, refl, sym, ap, _∙_, subst}
+use Prim.Native.Nat.{ℕ, suc, _+_, _-_, _*_, _≤_, _<_}
+use native.Mathlib.Omega.{arith}
+use mathlib.Core.List.{List, [], _∷_, _++_}
+use lib.Dec.{T}
+use lib.ListN.{length, getD, drop, take, length-take, length-drop}
+use lib.Seq.{take-all, take-add}
+use Rattle.eit.specs.Sizes.{limitedTo}
+use Rattle.eit.specs.Pools.{lentPools}
+use Rattle.eit.specs.Records.{EventList, lentList, recordSize}
+use Rattle.eit.specs.Sound.{sound}
+use Rattle.eit.proofs.Sound.{sound-list}
+use Rattle.script.specs.Form.{Command, doEdit, undo, operandBytes, commandOf}
+use Rattle.script.specs.Struck.{live, passed}
+use Rattle.script.specs.Edit.{Edited, run}
+use Rattle.script.proofs.Struck.{live-append}
+use Rattle.script.proofs.Edit.{run-append, run-sound}
+use Rattle.edit.specs.Run.{editsOf, runOne, runFrom, runPart}
+use Rattle.edit.specs.Commands.{commandsAt, offsetBehind}
+use Rattle.edit.proofs.CommandLaws.{commands-next}
+use Rattle.edit.proofs.PartLaws.{part-whole, behind-drops}
+use Rattle.edit.proofs.PendingLaws.{live-none}
+use Rattle.edit.proofs.RunLaws.{none-done, run-ends}
+
+-- ---- the commands of a part
+
+-- with no UNDO behind it, a single command is carried out
+live-one : (c : Command) → live 0 (c ∷ []) ≡ editsOf c
+live-one (doEdit e) = refl
+live-one (undo at) = refl
+
+-- the second part begins behind the first h of k commands
+module _ (script : List ℕ) (k at h mid : ℕ) (fits : h ≤ k) (there : mid ≡ offsetBehind h at script) where
+  behind : commandsAt mid script ≡ drop h (commandsAt at script)
+  behind = ap (λ (i : ℕ). commandsAt i script) there ∙ behind-drops script h at
+
+  pub half-within : k ≤ length (commandsAt at script) → k - h ≤ length (commandsAt mid script)
+  half-within within = omega (arith, ap length behind, length-drop h (commandsAt at script))
+
+  -- and the first has q UNDOs pending behind it
+  live-halves : (p q : ℕ) → q ≡ passed p (take (k - h) (commandsAt mid script))
+      → live p (take k (commandsAt at script)) ≡ live q (take h (commandsAt at script)) ++ live p (take (k - h) (commandsAt mid script))
+  live-halves p q before =
+      let first : List Command = take h (commandsAt at script) in
+      let second : List Command = take (k - h) (commandsAt mid script) in
+      let both : h + (k - h) ≡ k = omega arith in
+      ap (λ (n : ℕ). live p (take n (commandsAt at script))) (sym both)
+      ∙ ap (live p) (take-add h (k - h) (commandsAt at script))
+      ∙ ap (λ (cs : List Command). live p (first ++ take (k - h) cs)) (sym behind)
+      ∙ live-append p first second
+      ∙ ap (λ (n : ℕ). live n first ++ live p second) (sym before)
+
+-- ---- what is carried out
+
+module _ (limit : ℕ) (day series : List ℕ) (list : EventList) (script : List ℕ) where
+  -- all commands, with no UNDO behind them
+  pub part-all : (k : ℕ) → k ≡ length (commandsAt 0 script)
+      → runFrom limit day series list 0 script ≡ runPart limit day series list 0 k 0 script
+  part-all k all =
+      ap (λ (cs : List Command). run (limitedTo limit) (lentPools day series) list (live 0 cs))
+      (sym (take-all k (commandsAt 0 script) (omega arith)))
+
+  module _ (p k at : ℕ) where
+    -- as many UNDOs as commands strike all
+    pub part-struck : k ≤ p → runPart limit day series list p k at script ≡ record { number = 0; value = list .count; list = list }
+    part-struck h =
+        ap (run (limitedTo limit) (lentPools day series) list)
+        (live-none p (take k (commandsAt at script)) (omega (arith, length-take k (commandsAt at script))))
+        ∙ none-done (limitedTo limit) (lentPools day series) list
+
+    -- a single command
+    pub part-one : k ≤ length (commandsAt at script) → p < k → k ≡ 1
+        → (c : Command) → c ≡ commandOf (getD script at 0) at (drop (suc at) script)
+        → runPart limit day series list p k at script ≡ runOne limit day series list c
+    part-one within few one c is =
+        let next : ℕ = at + (1 + operandBytes (getD script at 0)) in
+        let here : commandsAt at script ≡ c ∷ commandsAt next script =
+        commands-next at script next refl (part-whole script at (omega arith)) ∙ ap (λ (h : Command). h ∷ commandsAt next script) (sym is) in
+        let none : p ≡ 0 = omega arith in
+        let single : take k (commandsAt at script) ≡ c ∷ [] = rw (here, one) in
+        ap (run (limitedTo limit) (lentPools day series) list) (rw (single, none) (live-one c))
+
+    -- o is what the first half comes to
+    module _ (h mid : ℕ) (fits : h ≤ k) (there : mid ≡ offsetBehind h at script)
+        (q : ℕ) (before : q ≡ passed p (take (k - h) (commandsAt mid script)))
+        (o : Edited) (does : runPart limit day series list q h at script ≡ o) where
+      halves : runPart limit day series list p k at script
+          ≡ run (limitedTo limit) (lentPools day series) list (live q (take h (commandsAt at script)) ++ live p (take (k - h) (commandsAt mid script)))
+      halves = ap (run (limitedTo limit) (lentPools day series) list) (live-halves script k at h mid fits there p q before)
+
+      -- a refusal in the first half ends the run
+      pub half-ends : (o .number ≡ 0 → ⊥) → runPart limit day series list p k at script ≡ o
+      half-ends refuses =
+          halves
+          ∙ run-ends (limitedTo limit) (lentPools day series) list (live q (take h (commandsAt at script)))
+          (live p (take (k - h) (commandsAt mid script))) (λ z. refuses (sym (ap (λ (e : Edited). e .number) does) ∙ z))
+          ∙ does
+
+      -- otherwise the second half goes on with its list
+      pub half-goes-on : o .number ≡ 0
+          → runPart limit day series list p k at script ≡ runPart limit day series (o .list) p (k - h) mid script
+      half-goes-on z =
+          halves
+          ∙ run-append (limitedTo limit) (lentPools day series) list (live q (take h (commandsAt at script)))
+          (live p (take (k - h) (commandsAt mid script))) (ap (λ (e : Edited). e .number) does ∙ z)
+          ∙ ap (λ (e : Edited). runPart limit day series (e .list) p (k - h) mid script) does
+
+    -- a part leaves a sound list
+    pub part-sound : (o : Edited) → runPart limit day series list p k at script ≡ o
+        → T (sound (limitedTo limit) (lentPools day series) list)
+        → T (sound (limitedTo limit) (lentPools day series) (o .list))
+    part-sound o does t =
+        subst (λ (x : Edited). T (sound (limitedTo limit) (lentPools day series) (x .list))) does
+        (run-sound (limitedTo limit) (lentPools day series) list (live p (take k (commandsAt at script))) t)
+
+-- the buffer of a sound list has room for its records
+pub sound-held : (limit : ℕ) (day series d : List ℕ) (n : ℕ) → T (sound (limitedTo limit) (lentPools day series) (lentList d n))
+    → n * recordSize ≤ length d
+sound-held limit day series d n t = sound-list (limitedTo limit) (lentPools day series) (lentList d n) t .held

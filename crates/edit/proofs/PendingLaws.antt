@@ -1,0 +1,72 @@
+-- How many UNDOs pass a part of a script: of those pending behind it the edits that it keeps take away one each, and to these come
+-- the UNDOs that find nothing in it to strike. By the cases of a command. Assumes nothing.
+use mathlib.Core.Path.{_≡_, refl, ap, _∙_}
+use mathlib.Core.List.{List, [], _∷_}
+use Prim.Native.Nat.{ℕ, zero, suc, pred, _+_, _-_, _≤_, _<_}
+use native.Mathlib.Omega.{arith}
+use lib.Dec.{T}
+use lib.ListN.{length, getD, take}
+use Rattle.script.specs.Form.{Command, doEdit, undo, operandBytes}
+use Rattle.script.specs.Struck.{passed, unlessStruck, live}
+use Rattle.edit.specs.Commands.{isWholeAt, commandsAt}
+use Rattle.edit.proofs.CommandLaws.{commands-edit, commands-undo}
+use Rattle.edit.proofs.PartLaws.{take-more}
+
+-- ---- UNDOs that are enough to strike all
+
+-- a command takes away one at most
+passed-least : (p : ℕ) (cs : List Command) → p ≤ passed p cs + length cs
+passed-least p [] = omega arith
+passed-least p (doEdit e ∷ cs) =
+    let rest : p ≤ passed p cs + length cs = passed-least p cs in
+    let one : p ≤ pred (passed p cs) + suc (length cs) = omega arith in
+    one
+passed-least p (undo at ∷ cs) = omega (arith, passed-least p cs)
+
+pub live-none : (p : ℕ) (cs : List Command) → length cs ≤ p → live p cs ≡ []
+live-none p [] h = refl
+live-none p (doEdit e ∷ cs) h = struck (passed p cs) (omega (arith, passed-least p cs)) (live-none p cs (omega arith))
+  where
+    struck : (q : ℕ) → 0 < q → live p cs ≡ [] → unlessStruck q e (live p cs) ≡ []
+    struck zero h none = absurd (omega arith)
+    struck (suc q) h none = none
+live-none p (undo at ∷ cs) h = live-none p cs (omega arith)
+
+-- ---- command by command
+
+-- p UNDOs are pending behind the commands; before them are `kept` edits that are not yet struck, and `over` UNDOs that found nothing
+abbrev pub pendingAfter : ℕ → ℕ → ℕ → List Command → ℕ
+pendingAfter over kept p cs = over + (passed p cs - kept)
+
+module _ (over kept p k at : ℕ) (script : List ℕ) (next : ℕ)
+    (e : next ≡ at + (1 + operandBytes (getD script at 0)))
+    (whole : T (isWholeAt at script)) (some : 0 < k) where
+  abbrev rest : List Command
+  rest = take (k - 1) (commandsAt next script)
+
+  -- the part is its first command and the rest
+  first : (c : Command) → commandsAt at script ≡ c ∷ commandsAt next script → take k (commandsAt at script) ≡ c ∷ rest
+  first c here = ap (take k) here ∙ take-more k c (commandsAt next script) some
+
+  pub pending-edit : (getD script at 0 ≡ 0x04 → ⊥)
+      → pendingAfter over kept p (take k (commandsAt at script)) ≡ pendingAfter over (kept + 1) p (take (k - 1) (commandsAt next script))
+  pending-edit n =
+      let (f, here) = commands-edit at script next e whole n in
+      let counts : over + (pred (passed p rest) - kept) ≡ over + (passed p rest - (kept + 1)) = omega arith in
+      ap (pendingAfter over kept p) (first (doEdit f) here) ∙ counts
+
+  module _ (u : getD script at 0 ≡ 0x04) where
+    undone : take k (commandsAt at script) ≡ undo at ∷ rest
+    undone = first (undo at) (commands-undo at script next e whole u)
+
+    pub pending-undo : (kept ≡ 0 → ⊥)
+        → pendingAfter over kept p (take k (commandsAt at script)) ≡ pendingAfter over (kept - 1) p (take (k - 1) (commandsAt next script))
+    pending-undo n =
+        let counts : over + (suc (passed p rest) - kept) ≡ over + (passed p rest - (kept - 1)) = omega (arith, n) in
+        ap (pendingAfter over kept p) undone ∙ counts
+
+    pub pending-over : kept ≡ 0
+        → pendingAfter over kept p (take k (commandsAt at script)) ≡ pendingAfter (over + 1) kept p (take (k - 1) (commandsAt next script))
+    pending-over none =
+        let counts : over + (suc (passed p rest) - kept) ≡ over + 1 + (passed p rest - kept) = omega arith in
+        ap (pendingAfter over kept p) undone ∙ counts

@@ -1,0 +1,173 @@
+-- `machine::pending_before` meets its contract. The loop's invariant: as many UNDOs are pending before all k commands as come from those
+-- that are left with `kept` edits and `over` UNDOs before them, and each of these is one of the commands passed. The measure is how many
+-- are left. Assumes nothing.
+use mathlib.Core.Path.{_≡_, sym, ap, ap₂, _∙_}
+use mathlib.Core.List.{List}
+use mathlib.Core.Logic.{⊎-elim}
+use Prim.Native.Nat.{ℕ, _+_, _-_, _≤_, _<_}
+use native.Mathlib.Omega.{arith}
+use lib.Dec.{T}
+use lib.ListN.{length, getD, take}
+use borrow.Author.Needs.{needs}
+use Rattle.script.specs.Form.{operandBytes}
+use Rattle.script.specs.Struck.{passed}
+use Rattle.edit.specs.Commands.{isWholeAt, commandsAt}
+use Rattle.edit.proofs.CommandLaws.{whole-here, whole-inside}
+use Rattle.edit.proofs.PartLaws.{commands-fit, part-whole, count-next}
+use Rattle.edit.proofs.PendingLaws.{pendingAfter, pending-edit, pending-undo, pending-over}
+use Rattle.edit.proofs.machine.pending_before.Statement.{statement}
+use Rattle.edit.proofs.machine.pending_before.Tie as tie
+
+abbrev Inv-loop : tie.InvT-loop
+Inv-loop script at k undos over₀ kept₀ i₀ left₀ over kept i left =
+    (left ≤ length (commandsAt i script)) × (over + kept + left ≤ k)
+    × (passed undos (take k (commandsAt at script)) ≡ pendingAfter over kept undos (take left (commandsAt i script)))
+
+abbrev μ-loop : tie.MeasureT-loop
+μ-loop script at k undos over₀ kept₀ i₀ left₀ over kept i left = left
+
+loop-holds : tie.Need-loop-holds Inv-loop μ-loop
+loop-holds c = (c .before .pre .0, omega arith, omega arith)
+
+-- the script, and what a turn knows of it
+abbrev bytes : tie.At-loop Inv-loop μ-loop → List ℕ
+bytes head = head .before .before .args .script .now
+
+few : (head : tie.At-loop Inv-loop μ-loop) → head .loop .over + head .loop .kept + head .loop .left ≤ length (bytes head)
+few head =
+    let start = head .before .before in
+    omega (arith, head .loop .inv .1, start .pre .0, commands-fit (bytes head) (start .args .at))
+
+whole : (c : tie.In-loop Inv-loop μ-loop) → T (isWholeAt (c .before .loop .i) (bytes (c .before)))
+whole c = part-whole (bytes (c .before)) (c .before .loop .i) (omega (arith, c .before .loop .inv .0, c .loop-test .taken))
+
+here : (c : tie.In-loop Inv-loop μ-loop) → c .before .loop .i < length (bytes (c .before))
+here c = whole-here (c .before .loop .i) (bytes (c .before)) (whole c)
+
+inside : (c : tie.After-operand-bytes Inv-loop μ-loop)
+    → let head = c .before .before .before .before .before in
+    head .loop .i + (1 + c .operand-bytes .result) ≤ length (bytes head)
+inside c =
+    let turn = c .before .before .before .before in
+    omega (arith, whole-inside (turn .before .loop .i) (bytes (turn .before)) (whole turn), c .operand-bytes .ensures)
+
+shared-slice-read-if1 : tie.Need-shared-slice-read-if1 Inv-loop μ-loop
+shared-slice-read-if1 c = here (c .before)
+
+add-kept : tie.Need-add-kept Inv-loop μ-loop
+add-kept c =
+    let turn = c .before .before in
+    omega (arith, few (turn .before), turn .loop-test .taken)
+
+add-over : tie.Need-add-over Inv-loop μ-loop
+add-over c =
+    let turn = c .before .before .before in
+    omega (arith, few (turn .before), turn .loop-test .taken)
+
+sub-kept : tie.Need-sub-kept Inv-loop μ-loop
+sub-kept c = omega (arith, c .if2 .left)
+
+shared-slice-read-operand-bytes : tie.Need-shared-slice-read-operand-bytes Inv-loop μ-loop
+shared-slice-read-operand-bytes c = here (c .before .before .before)
+
+operand-bytes-requires : tie.Need-operand-bytes-requires Inv-loop μ-loop
+operand-bytes-requires c κs = search needs
+
+add-i : tie.Need-add-i Inv-loop μ-loop
+add-i c = omega (arith, inside c)
+
+add-i-2 : tie.Need-add-i-2 Inv-loop μ-loop
+add-i-2 c = omega (arith, inside c)
+
+sub-left : tie.Need-sub-left Inv-loop μ-loop
+sub-left c = omega arith
+
+loop-less : tie.Need-loop-less Inv-loop μ-loop
+loop-less c = omega arith
+
+loop-again : tie.Need-loop-again Inv-loop μ-loop
+loop-again c =
+    let turn = c .before .before .before .before in
+    let head = turn .before in
+    let start = head .before .before .args in
+    let i : ℕ = head .loop .i in
+    let over : ℕ = head .loop .over in
+    let kept : ℕ = head .loop .kept in
+    let left : ℕ = head .loop .left in
+    let next : ℕ = i + (1 + c .operand-bytes .result) in
+    let there : next ≡ i + (1 + operandBytes (getD (bytes head) i 0)) = ap (λ (n : ℕ). i + (1 + n)) (c .operand-bytes .ensures) in
+    let some : 0 < left = turn .loop-test .taken in
+    let fewer : left - 1 ≤ length (commandsAt next (bytes head)) =
+    omega (arith, head .loop .inv .0, count-next (bytes head) i next there (whole turn)) in
+    let counts : ℕ → ℕ → ℕ = λ o n. pendingAfter o n (start .undos) (take (left - 1) (commandsAt next (bytes head))) in
+    ⊎-elim
+    (λ w. (
+      fewer,
+      omega (arith, head .loop .inv .1, some, w .1, w .2),
+      head .loop .inv .2
+          ∙ pending-edit over kept (start .undos) left i (bytes head) next there (whole turn) some (w .0 .taken)
+          ∙ ap₂ counts (sym (w .1)) (sym (w .2)),
+    ))
+    (⊎-elim
+    (λ w. (
+      fewer,
+      omega (arith, head .loop .inv .1, some, w .2, w .3),
+      head .loop .inv .2
+          ∙ pending-over over kept (start .undos) left i (bytes head) next there (whole turn) some (w .0 .left) (w .1 .taken)
+          ∙ ap₂ counts (sym (w .2)) (sym (w .3)),
+    ))
+    (λ w. (
+      fewer,
+      omega (arith, head .loop .inv .1, some, w .2, w .3),
+      head .loop .inv .2
+          ∙ pending-undo over kept (start .undos) left i (bytes head) next there (whole turn) some (w .0 .left) (w .1 .left)
+          ∙ ap₂ counts (sym (w .2)) (sym (w .3)),
+    )))
+    (c .before .before .if1 .came)
+
+-- no command is left
+ended : (c : tie.After-loop Inv-loop μ-loop)
+    → let head = c .before in
+    let start = head .before .before .args in
+    passed (start .undos) (take (start .k) (commandsAt (start .at) (bytes head))) ≡ head .loop .over + (start .undos - head .loop .kept)
+ended c =
+    let head = c .before in
+    let start = head .before .before .args in
+    let none : head .loop .left ≡ 0 = omega (arith, c .loop-test .left) in
+    head .loop .inv .2
+    ∙ ap (λ (k : ℕ). pendingAfter (head .loop .over) (head .loop .kept) (start .undos) (take k (commandsAt (head .loop .i) (bytes head)))) none
+
+returns : tie.Need-returns Inv-loop μ-loop
+returns c = omega (arith, ended (c .before), c .if3 .taken)
+
+sub-result : tie.Need-sub-result Inv-loop μ-loop
+sub-result c = omega arith
+
+add-result : tie.Need-add-result Inv-loop μ-loop
+add-result c = omega (arith, few (c .before .before), c .before .before .before .before .pre .1, c .before .before .before .before .good)
+
+returns-2 : tie.Need-returns-2 Inv-loop μ-loop
+returns-2 c = sym (ended (c .before))
+
+pub pending-before-spec : {M : Type 1} → statement M
+pending-before-spec =
+    tie.close
+    (tie.spec
+    Inv-loop
+    μ-loop
+    loop-holds
+    shared-slice-read-if1
+    add-kept
+    add-over
+    sub-kept
+    shared-slice-read-operand-bytes
+    operand-bytes-requires
+    add-i
+    add-i-2
+    sub-left
+    loop-less
+    loop-again
+    returns
+    sub-result
+    add-result
+    returns-2)
