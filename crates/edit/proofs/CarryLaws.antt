@@ -1,10 +1,10 @@
 -- What each edit returns and leaves, by the tests that the code makes on the records of the list: one law for each return. By the
 -- steps of the plain machine. Assumes nothing.
-use mathlib.Core.Path.{_≡_, refl, sym, ap, ap₂, _∙_, subst}
+use mathlib.Core.Path.{_≡_, sym, ap, ap₂, _∙_}
 use mathlib.Core.Bool.{Bool, true, false, not}
-use Prim.Native.Nat.{ℕ, suc, _+_, _-_, _*_, _/_, _≤_, _<_, min}
+use Prim.Native.Nat.{ℕ, _+_, _-_, _*_, _/_, _≤_, _<_, min}
 use native.Mathlib.Omega.{arith}
-use mathlib.Core.List.{List, [], _∷_}
+use mathlib.Core.List.{List}
 use borrow.Author.Tests.{le-ltb}
 use lib.Dec.{T, ltb, lt→ltb}
 use lib.ListN.{length, take, drop}
@@ -124,16 +124,20 @@ module _ (limit : ℕ) (day series : List ℕ) (d : List ℕ) (count : ℕ) (hel
           let first : removed d count (indexOf id (recordsOf list)) ≡ gone =
           ap (removed d count) (sym (its-index id index found)) ∙ sym out in
           let its-record : withStart start (find id (recordsOf list)) ≡ r =
-          ap (withStart start) (found-at d count held id a ∙ ap (λ (i : ℕ). frontRecord (drop (i * recordSize) d)) (sym (its-index id index found)))
+          ap (withStart start)
+          (found-at d count held id a ∙ ap (λ (i : ℕ). frontRecord (drop (i * recordSize) d)) (sym (its-index id index found)))
           ∙ sym is in
           let room : (count - 1) * recordSize ≤ length gone =
           omega (arith, ap length first, removed-length d count (indexOf id (recordsOf list))) in
           let end : (count - 1) * recordSize ≡ count * recordSize - recordSize = omega arith in
           let its-place : placeOf start (recordsOf (lentList gone (count - 1))) ≡ place =
-          ap (placeOf start) (sym (held-records gone (count - 1) room) ∙ ap (λ (k : ℕ). heldRecords (take k gone)) end) ∙ sym at-place in
+          ap (placeOf start) (sym (held-records gone (count - 1) room) ∙ ap (λ (k : ℕ). heldRecords (take k gone)) end)
+          ∙ sym at-place in
           let moved : afterMove list id start .buffer ≡ e =
           sym (move-removes-inserts d count held id start a)
-          ∙ ap (λ (g : List ℕ). inserted g (count - 1) (placeOf start (recordsOf (lentList g (count - 1)))) (withStart start (find id (recordsOf list)))) first
+          ∙ ap
+          (λ (g : List ℕ). inserted g (count - 1) (placeOf start (recordsOf (lentList g (count - 1)))) (withStart start (find id (recordsOf list))))
+          first
           ∙ ap₂ (λ (p : ℕ) (q : Record). inserted gone (count - 1) p q) its-place its-record
           ∙ sym written in
           passes (move id start) (afterMove list id start) e
@@ -153,7 +157,8 @@ module _ (limit : ℕ) (day series : List ℕ) (d : List ℕ) (count : ℕ) (hel
         pub put-present : index < count → does (put r) ≡ refusal 6 at list
         put-present h =
             refuses (put r) 6
-            (put-6 (limitedTo limit) (lentPools day series) list r (holds range) (holds chain) (twice (isAmong (r .id) (idsOf (recordsOf list))) (present (r .id) index found h)))
+            (put-6 (limitedTo limit) (lentPools day series) list r (holds range) (holds chain)
+            (twice (isAmong (r .id) (idsOf (recordsOf list))) (present (r .id) index found h)))
 
         module _ (new : count ≤ index) (b : Bool) (starts : b ≡ isAmong (r .start) (startsOf (leaving count looked))) where
           its-starts : isAmong (r .start) (startsOf (recordsOf list)) ≡ b

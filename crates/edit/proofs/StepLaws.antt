@@ -1,28 +1,24 @@
 -- One edit of the plain machine in the code's terms: its tests on places, and what it writes as `inserted` and `removed` have it. By
 -- the laws of `script`. Assumes nothing.
-use mathlib.Core.Path.{_≡_, refl, sym, ap, ap₂, _∙_, subst}
-use mathlib.Core.Bool.{Bool, true, false, not, _&&_}
-use Prim.Native.Nat.{ℕ, suc, _+_, _-_, _*_, _/_, _≤_, _<_}
+use mathlib.Core.Path.{_≡_, sym, ap, _∙_}
+use mathlib.Core.Bool.{not}
+use Prim.Native.Nat.{ℕ, suc, _-_, _*_, _/_, _≤_, _<_}
 use native.Mathlib.Omega.{arith}
-use mathlib.Core.List.{List, [], _∷_, _++_, append-nil}
-use lib.Dec.{T, ltb, leb, ltb→lt, lt→ltb, le→leb}
-use lib.ListN.{length, take, drop, drop-of-length-le}
+use mathlib.Core.List.{List, append-nil}
+use lib.Dec.{T, ltb, leb, lt→ltb, le→leb}
+use lib.ListN.{length, drop, drop-of-length-le}
 use lib.Seq.{take-all}
-use Rattle.eit.specs.Sizes.{Sizes, limitedTo}
-use Rattle.eit.specs.Pools.{Pools}
 use Rattle.eit.specs.Records.{EventList, lentList, recordSize, recordsOf, recordsIn, frontRecord}
 use Rattle.eit.specs.Among.{isAmong}
 use Rattle.eit.specs.Find.{indexOf, placeOf}
-use Rattle.eit.specs.Sound.{idsOf, startsOf, inRange, hasChain, sound}
+use Rattle.eit.specs.Sound.{idsOf}
 use Rattle.eit.specs.declared.Record.{Record}
-use Rattle.eit.proofs.Test.{and-both, true-is, false-is}
-use Rattle.eit.proofs.Find.{index-among, index-absent, index-length, place-length}
+use Rattle.eit.proofs.Test.{true-is}
+use Rattle.eit.proofs.Find.{index-length, place-length}
 use Rattle.eit.proofs.Records.{count-records, record-at}
-use Rattle.script.specs.Form.{Act, put, withdraw, move}
-use Rattle.script.specs.Machine.{limitOf, find, without, withStart, zeroRecord, afterPut, afterWithdraw, afterMove}
-use Rattle.script.proofs.Places.{without-index, find-at}
+use Rattle.script.specs.Machine.{find, withStart, zeroRecord, afterPut, afterWithdraw, afterMove}
+use Rattle.script.proofs.Places.{find-at}
 use Rattle.script.proofs.Writes.{put-writes, withdraw-writes, move-is}
-use Rattle.script.proofs.Machine.{withdraw-length, withdraw-records}
 use Rattle.event_list.proofs.HeldLaws.{removed-length}
 use Rattle.event_list.specs.Held.{inserted, removed, leaving}
 

@@ -1,4 +1,4 @@
 -- What the contracts of this crate say beyond the model's definitions.
 pub mod Told  -- the paper's number and values for each case of an answer
-pub mod Commands  -- the model's value for each case of a script's form, of its UNDOs and of a command; the commands from an offset on, and the offset behind some
+pub mod Commands  -- forms, UNDOs and commands as the model has them; the commands from an offset on
 pub mod Run  -- what the machine carries out

@@ -1,6 +1,5 @@
 -- `has_chain` meets its contract: what its callees ensure of their results, put together. Assumes nothing.
 use mathlib.Core.Path.{_≡_, sym, ap, _∙_}
-use mathlib.Core.Bool.{false}
 use mathlib.Core.List.{List}
 use Prim.Native.Nat.{ℕ}
 use denote.Ref.{now}
@@ -26,7 +25,9 @@ is-chain-requires c κs = search needs
 -- the part lies in the chosen pool
 inside : (c : tie.After-is-in-pool)
     → (let args = c .before .before .before .before .args in
-    inPool (poolOf (lentPools (now (args .day)) (now (args .series))) (args .event .marks)) (args .event .offset) (args .event .«chain_length») ≡ c .is-in-pool .result)
+    inPool (poolOf (lentPools (now (args .day)) (now (args .series))) (args .event .marks)) (args .event .offset)
+    (args .event .«chain_length»)
+    ≡ c .is-in-pool .result)
 inside c =
     let event = c .before .before .before .before .args .event in
     sym (c .is-in-pool .ensures ∙ ap (λ (p : List ℕ). inPool p (event .offset) (event .«chain_length»)) (c .before .pool .ensures))
@@ -36,7 +37,8 @@ returns c = rw (inside (c .before) ∙ not-true (c .before .is-in-pool .result) 
 
 returns-2 : tie.Need-returns-2
 returns-2 c =
-    rw (inside (c .before .before .before) ∙ not-false (c .before .before .before .is-in-pool .result) (c .before .before .if1 .left)) (c .is-chain .ensures ∙ ap isChain (c .before .choose .ensures))
+    rw (inside (c .before .before .before) ∙ not-false (c .before .before .before .is-in-pool .result) (c .before .before .if1 .left))
+    (c .is-chain .ensures ∙ ap isChain (c .before .choose .ensures))
 
 pub has-chain-spec : {M : Type 1} → statement M
 has-chain-spec =

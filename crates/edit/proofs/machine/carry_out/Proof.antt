@@ -1,77 +1,58 @@
-use native.Mathlib.Omega.{arith}
+-- `carry_out` meets its contract: the case of the command, and what the function for it ensures. Assumes nothing.
 use denote.Ref.{now}
-use Rattle.eit.specs.Sizes.{limitedTo}
+use borrow.Author.Needs.{needs}
 use Rattle.eit.specs.Pools.{lentPools}
 use Rattle.eit.specs.Records.{lentList}
+use Rattle.eit.specs.Sizes.{limitedTo}
 use Rattle.edit.proofs.RunLaws.{none-done}
-use borrow.Author.Needs.{needs}
 use Rattle.edit.proofs.machine.carry_out.Statement.{statement}
 use Rattle.edit.proofs.machine.carry_out.Tie as tie
-use Rattle.edit.proofs.machine.carry_out.Reads as reads
-use Rattle.edit.proofs.machine.carry_out.Lts as lts
-use Rattle.edit.proofs.machine.move_event.Reads as move-event-reads
-use Rattle.edit.proofs.machine.put_event.Reads as put-event-reads
-use Rattle.edit.proofs.machine.withdraw_event.Reads as withdraw-event-reads
 
--- src/machine.rt:156:22
 enum-known-command : tie.Need-enum-known-command
 enum-known-command c = search needs
 
--- src/machine.rt:156:32
 put-event-requires : tie.Need-put-event-requires
 put-event-requires c κs = search needs
 
--- src/machine.rt:157:27
 enum-known-command-2 : tie.Need-enum-known-command-2
 enum-known-command-2 c = search needs
 
--- src/machine.rt:157:34
 withdraw-event-requires : tie.Need-withdraw-event-requires
 withdraw-event-requires c κs = search needs
 
--- src/machine.rt:158:23
 enum-known-command-3 : tie.Need-enum-known-command-3
 enum-known-command-3 c = search needs
 
--- src/machine.rt:158:37
 move-event-requires : tie.Need-move-event-requires
 move-event-requires c κs = search needs
 
--- src/machine.rt:160:21
 enum-told : tie.Need-enum-told
 enum-told c = search needs
 
--- src/machine.rt:143:1
 same-length : tie.Need-same-length
 same-length c = search needs
 
--- src/machine.rt:143:1
 returns : tie.Need-returns
 returns c = rw (c .before .before .before .before .before .command .given .1) (c .before .before .put-event .ensures)
 
--- src/machine.rt:143:1
 same-length-2 : tie.Need-same-length-2
 same-length-2 c = search needs
 
--- src/machine.rt:143:1
 returns-2 : tie.Need-returns-2
 returns-2 c =
     let start = c .before .before .before .before .before .before .before .before .before .before .args in
     rw (c .before .before .before .before .before .command2 .given .1)
     (c .before .before .withdraw-event .ensures (start .event-limit) (now (start .day)) (now (start .series)))
 
--- src/machine.rt:143:1
 same-length-3 : tie.Need-same-length-3
 same-length-3 c = search needs
 
--- src/machine.rt:143:1
 returns-3 : tie.Need-returns-3
 returns-3 c =
     let start = c .before .before .before .before .before .before .before .before .before .before .args in
     rw (c .before .before .before .before .before .command3 .given .1)
     (c .before .before .move-event .ensures (start .event-limit) (now (start .day)) (now (start .series)))
 
--- src/machine.rt:143:1
 returns-4 : tie.Need-returns-4
 returns-4 c =
     let start = c .before .before .before .before .before .args in

@@ -1,28 +1,19 @@
-use mathlib.Core.Path.{_≡_, sym, _∙_}
+-- `edit_within` meets its contract: each return by its own law of EditLaws, from the answers of the passes. Assumes nothing.
+use mathlib.Core.Path.{sym, _∙_}
 use denote.Ref.{now}
+use borrow.Author.Needs.{needs}
 use borrow.Author.Tests.{not-true, not-false}
 use Rattle.eit.specs.Records.{lentList}
 use Rattle.edit.proofs.EditLaws.{is-sound, edit-12, edit-3, edit-4, edit-goes-on}
-use native.Mathlib.Omega.{arith}
-use borrow.Author.Needs.{needs}
 use Rattle.edit.proofs.machine.edit_within.Statement.{statement}
 use Rattle.edit.proofs.machine.edit_within.Tie as tie
-use Rattle.edit.proofs.machine.edit_within.Reads as reads
-use Rattle.edit.proofs.machine.edit_within.Lts as lts
-use Rattle.edit.proofs.machine.run.Reads as run-reads
-use Rattle.edit.proofs.scan.form_of.Reads as form-of-reads
-use Rattle.edit.proofs.scan.strikes_in.Reads as strikes-in-reads
-use Rattle.event_list.proofs.sound.is_sound.Reads as is-sound-reads
 
--- src/machine.rt:215:9
 is-sound-requires : tie.Need-is-sound-requires
 is-sound-requires c κs = search needs
 
--- src/machine.rt:216:9
 same-length : tie.Need-same-length
 same-length c = search needs
 
--- src/machine.rt:216:9
 returns : tie.Need-returns
 returns c =
     let asks = c .before in
@@ -30,19 +21,15 @@ returns c =
     edit-12 (start .event-limit) (now (start .day)) (now (start .series)) (lentList (now (start .list)) (start .count)) (now (start .script))
     (asks .is-sound .result) (asks .is-sound .ensures) (not-true (asks .is-sound .result) (c .if1 .taken))
 
--- src/machine.rt:221:31
 form-of-requires : tie.Need-form-of-requires
 form-of-requires c κs = search needs
 
--- src/machine.rt:221:25
 enum-known-at : tie.Need-enum-known-at
 enum-known-at c = search needs
 
--- src/machine.rt:222:9
 same-length-2 : tie.Need-same-length-2
 same-length-2 c = search needs
 
--- src/machine.rt:222:9
 returns-2 : tie.Need-returns-2
 returns-2 c =
     let forms = c .before .before .before in
@@ -50,24 +37,22 @@ returns-2 c =
     let asks = sound .before in
     let start = asks .before .before .before .before .before .before .args in
     edit-3 (start .event-limit) (now (start .day)) (now (start .series)) (lentList (now (start .list)) (start .count)) (now (start .script))
-    (is-sound (start .event-limit) (now (start .day)) (now (start .series)) (lentList (now (start .list)) (start .count)) (now (start .script)) (asks .is-sound .result) (asks .is-sound .ensures) (not-false (asks .is-sound .result) (sound .if1 .left))) _ (sym (forms .form-of .ensures) ∙ c .before .at .given .1)
+    (is-sound (start .event-limit) (now (start .day)) (now (start .series)) (lentList (now (start .list)) (start .count)) (now (start .script))
+    (asks .is-sound .result) (asks .is-sound .ensures) (not-false (asks .is-sound .result) (sound .if1 .left)))
+    _ (sym (forms .form-of .ensures) ∙ c .before .at .given .1)
 
 enum-told : tie.Need-enum-told
 enum-told c = search needs
 
--- src/machine.rt:227:37
 strikes-in-requires : tie.Need-strikes-in-requires
 strikes-in-requires c κs = search needs
 
--- src/machine.rt:227:31
 enum-known-at-2 : tie.Need-enum-known-at-2
 enum-known-at-2 c = search needs
 
--- src/machine.rt:228:9
 same-length-3 : tie.Need-same-length-3
 same-length-3 c = search needs
 
--- src/machine.rt:228:9
 returns-3 : tie.Need-returns-3
 returns-3 c =
     let strikes = c .before .before .before in
@@ -77,12 +62,13 @@ returns-3 c =
     let asks = sound .before in
     let start = asks .before .before .before .before .before .before .args in
     edit-4 (start .event-limit) (now (start .day)) (now (start .series)) (lentList (now (start .list)) (start .count)) (now (start .script))
-    (is-sound (start .event-limit) (now (start .day)) (now (start .series)) (lentList (now (start .list)) (start .count)) (now (start .script)) (asks .is-sound .result) (asks .is-sound .ensures) (not-false (asks .is-sound .result) (sound .if1 .left))) (sym (forms .form-of .ensures) ∙ whole .enum-told .given .1) _ (sym (strikes .strikes-in .ensures) ∙ c .before .at2 .given .1)
+    (is-sound (start .event-limit) (now (start .day)) (now (start .series)) (lentList (now (start .list)) (start .count)) (now (start .script))
+    (asks .is-sound .result) (asks .is-sound .ensures) (not-false (asks .is-sound .result) (sound .if1 .left)))
+    (sym (forms .form-of .ensures) ∙ whole .enum-told .given .1) _ (sym (strikes .strikes-in .ensures) ∙ c .before .at2 .given .1)
 
 enum-told-2 : tie.Need-enum-told-2
 enum-told-2 c = search needs
 
--- src/machine.rt:233:5
 run-requires : tie.Need-run-requires
 run-requires c κs =
     let sound = c .before .before .before .before .before .before .before in
@@ -91,11 +77,9 @@ run-requires c κs =
     is-sound (start .event-limit) (now (start .day)) (now (start .series)) (lentList (now (start .list)) (start .count)) (now (start .script))
     (asks .is-sound .result) (asks .is-sound .ensures) (not-false (asks .is-sound .result) (sound .if1 .left))
 
--- src/machine.rt:205:1
 same-length-4 : tie.Need-same-length-4
 same-length-4 c = search needs
 
--- src/machine.rt:205:1
 returns-4 : tie.Need-returns-4
 returns-4 c =
     let runs = c .before .before in
@@ -107,7 +91,9 @@ returns-4 c =
     let asks = sound .before in
     let start = asks .before .before .before .before .before .before .args in
     edit-goes-on (start .event-limit) (now (start .day)) (now (start .series)) (lentList (now (start .list)) (start .count)) (now (start .script))
-    (is-sound (start .event-limit) (now (start .day)) (now (start .series)) (lentList (now (start .list)) (start .count)) (now (start .script)) (asks .is-sound .result) (asks .is-sound .ensures) (not-false (asks .is-sound .result) (sound .if1 .left))) (sym (forms .form-of .ensures) ∙ whole .enum-told .given .1) (sym (strikes .strikes-in .ensures) ∙ enough .enum-told2 .given .1)
+    (is-sound (start .event-limit) (now (start .day)) (now (start .series)) (lentList (now (start .list)) (start .count)) (now (start .script))
+    (asks .is-sound .result) (asks .is-sound .ensures) (not-false (asks .is-sound .result) (sound .if1 .left)))
+    (sym (forms .form-of .ensures) ∙ whole .enum-told .given .1) (sym (strikes .strikes-in .ensures) ∙ enough .enum-told2 .given .1)
     ∙ runs .run .ensures
 
 pub edit-within-spec : {M : Type 1} → statement M

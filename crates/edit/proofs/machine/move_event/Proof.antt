@@ -1,32 +1,22 @@
-use native.Mathlib.Omega.{arith}
-use denote.Ref.{now}
+-- `move_event` meets its contract: each return by its own law of CarryLaws, from what the callees ensure. Assumes nothing.
 use mathlib.Core.Path.{_≡_, sym, ap, _∙_}
-use borrow.Author.Tests.{not-true, not-false}
+use Prim.Native.Nat.{_*_, _-_}
+use native.Mathlib.Omega.{arith}
 use lib.ListN.{length}
 use lib.Seq.{length-take-le}
-use Rattle.event_list.proofs.HeldLaws.{removed-length}
-use Prim.Native.Nat.{_*_, _-_}
+use denote.Ref.{now}
+use borrow.Author.Needs.{needs}
+use borrow.Author.Tests.{not-true, not-false}
 use Rattle.eit.specs.Records.{recordSize}
 use Rattle.script.specs.Machine.{withStart}
+use Rattle.event_list.proofs.HeldLaws.{removed-length}
 use Rattle.edit.proofs.CarryLaws.{move-outside, move-absent, move-taken, move-free}
-use borrow.Author.Needs.{needs}
 use Rattle.edit.proofs.machine.move_event.Statement.{statement}
 use Rattle.edit.proofs.machine.move_event.Tie as tie
-use Rattle.edit.proofs.machine.move_event.Reads as reads
-use Rattle.edit.proofs.machine.move_event.Lts as lts
-use Rattle.eit.proofs.Time.is_start.Reads as is-start-reads
-use Rattle.event_list.proofs.find.has_start.Reads as has-start-reads
-use Rattle.event_list.proofs.find.index_of.Reads as index-of-reads
-use Rattle.event_list.proofs.find.place_of.Reads as place-of-reads
-use Rattle.event_list.proofs.place.insert_record.Reads as insert-record-reads
-use Rattle.event_list.proofs.place.remove_record.Reads as remove-record-reads
-use Rattle.event_list.proofs.records.record_at.Reads as record-at-reads
 
--- src/machine.rt:111:9
 is-start-requires : tie.Need-is-start-requires
 is-start-requires c κs = search needs
 
--- src/machine.rt:112:9
 returns : tie.Need-returns
 returns c =
     λ limit day series.
@@ -35,29 +25,23 @@ returns c =
     move-outside limit day series (now (start .args .list)) (start .args .count) (start .pre) (start .args .at) (start .args .id)
     (start .args .start) (sym (tested .is-start .ensures) ∙ not-true (tested .is-start .result) (c .if1 .taken))
 
--- src/machine.rt:117:15
 mul-end : tie.Need-mul-end
 mul-end c = search needs
 
--- src/machine.rt:118:32
 slice-reshare-prefix-index-of : tie.Need-slice-reshare-prefix-index-of
 slice-reshare-prefix-index-of c = search needs
 
--- src/machine.rt:118:32
 slice-aggregate-index-of : tie.Need-slice-aggregate-index-of
 slice-aggregate-index-of c =
     let start = c .before .before .before .before in
     sym (length-take-le (start .args .count * recordSize) (now (start .args .list)) (start .pre))
 
--- src/machine.rt:118:9
 index-of-requires : tie.Need-index-of-requires
 index-of-requires c κs = search needs
 
--- src/machine.rt:120:9
 same-length : tie.Need-same-length
 same-length c = search needs
 
--- src/machine.rt:120:9
 returns-2 : tie.Need-returns-2
 returns-2 c =
     λ limit day series.
@@ -69,25 +53,20 @@ returns-2 c =
     (start .args .start) (finds .index-of .result) (sym (tested .is-start .ensures) ∙ not-false (tested .is-start .result) (within .if1 .left))
     (finds .index-of .ensures) (c .if2 .taken)
 
--- src/machine.rt:125:24
 slice-reshare-prefix-has-start : tie.Need-slice-reshare-prefix-has-start
 slice-reshare-prefix-has-start c = search needs
 
--- src/machine.rt:125:24
 slice-aggregate-has-start : tie.Need-slice-aggregate-has-start
 slice-aggregate-has-start c =
     let start = c .before .before .before .before .before .before .before in
     sym (length-take-le (start .args .count * recordSize) (now (start .args .list)) (start .pre))
 
--- src/machine.rt:125:8
 has-start-requires : tie.Need-has-start-requires
 has-start-requires c κs = search needs
 
--- src/machine.rt:126:9
 same-length-2 : tie.Need-same-length-2
 same-length-2 c = search needs
 
--- src/machine.rt:126:9
 returns-3 : tie.Need-returns-3
 returns-3 c =
     λ limit day series.
@@ -99,25 +78,21 @@ returns-3 c =
     let start = tested .before .before in
     move-taken limit day series (now (start .args .list)) (start .args .count) (start .pre) (start .args .at) (start .args .id)
     (start .args .start) (finds .index-of .result) (sym (tested .is-start .ensures) ∙ not-false (tested .is-start .result) (within .if1 .left))
-    (finds .index-of .ensures) (here .if2 .left) (asks .has-start .result) (asks .has-start .ensures) (c .if3 .taken)
+    (finds .index-of .ensures) (here .if2 .left)
+    (asks .has-start .result) (asks .has-start .ensures) (c .if3 .taken)
 
--- src/machine.rt:131:9
 record-at-requires : tie.Need-record-at-requires
 record-at-requires c κs = search needs
 
--- src/machine.rt:133:5
 remove-record-requires : tie.Need-remove-record-requires
 remove-record-requires c κs = search needs
 
--- src/machine.rt:134:40
 sub-place-of : tie.Need-sub-place-of
 sub-place-of c = search needs
 
--- src/machine.rt:134:32
 slice-reshare-prefix-place-of : tie.Need-slice-reshare-prefix-place-of
 slice-reshare-prefix-place-of c = search needs
 
--- src/machine.rt:134:32
 slice-aggregate-place-of : tie.Need-slice-aggregate-place-of
 slice-aggregate-place-of c =
     let removes = c .before .before .before in
@@ -128,23 +103,18 @@ slice-aggregate-place-of c =
     ∙ removed-length (now (start .args .list)) (start .args .count) (finds .index-of .result) in
     sym (length-take-le (start .args .count * recordSize - recordSize) (removes .remove-record .last .0) (omega (arith, start .pre)))
 
--- src/machine.rt:134:9
 place-of-requires : tie.Need-place-of-requires
 place-of-requires c κs = search needs
 
--- src/machine.rt:135:32
 sub-insert-record : tie.Need-sub-insert-record
 sub-insert-record c = search needs
 
--- src/machine.rt:135:5
 insert-record-requires : tie.Need-insert-record-requires
 insert-record-requires c κs = search needs
 
--- src/machine.rt:107:1
 same-length-3 : tie.Need-same-length-3
 same-length-3 c = search needs
 
--- src/machine.rt:107:1
 returns-4 : tie.Need-returns-4
 returns-4 c =
     λ limit day series.
@@ -161,8 +131,10 @@ returns-4 c =
     let start = tested .before .before in
     move-free limit day series (now (start .args .list)) (start .args .count) (start .pre) (start .args .at) (start .args .id)
     (start .args .start) (finds .index-of .result) (sym (tested .is-start .ensures) ∙ not-false (tested .is-start .result) (within .if1 .left))
-    (finds .index-of .ensures) (here .if2 .left) (asks .has-start .result) (asks .has-start .ensures) (free .if3 .left)
-    _ _ (removes .remove-record .ensures) (places .place-of .result) (places .place-of .ensures) _ (ap (withStart (start .args .start)) (reads .record-at .ensures)) (inserts .insert-record .ensures)
+    (finds .index-of .ensures) (here .if2 .left)
+    (asks .has-start .result) (asks .has-start .ensures) (free .if3 .left)
+    _ _ (removes .remove-record .ensures) (places .place-of .result) (places .place-of .ensures) _
+    (ap (withStart (start .args .start)) (reads .record-at .ensures)) (inserts .insert-record .ensures)
 
 pub move-event-spec : {M : Type 1} → statement M
 move-event-spec =

@@ -1,29 +1,20 @@
-use native.Mathlib.Omega.{arith}
-use denote.Ref.{now}
-use mathlib.Core.Path.{_≡_, sym, ap, _∙_}
+-- `put_event` meets its contract: each return by its own law of CarryLaws, from what the callees ensure. Assumes nothing.
 use mathlib.Core.Logic.{inl, inr}
-use borrow.Author.Tests.{not-true, not-false, leb-true, leb-false}
-use lib.Seq.{length-take-le}
+use mathlib.Core.Path.{sym, _∙_}
 use Prim.Native.Nat.{_*_}
+use native.Mathlib.Omega.{arith}
+use lib.Seq.{length-take-le}
+use denote.Ref.{now}
+use borrow.Author.Needs.{needs}
+use borrow.Author.Tests.{not-true, not-false, leb-true, leb-false}
 use Rattle.eit.specs.Records.{recordSize}
 use Rattle.edit.proofs.CarryLaws.{put-outside, put-unchained, put-present, put-taken, put-full, put-goes-in}
-use borrow.Author.Needs.{needs}
 use Rattle.edit.proofs.machine.put_event.Statement.{statement}
 use Rattle.edit.proofs.machine.put_event.Tie as tie
-use Rattle.edit.proofs.machine.put_event.Reads as reads
-use Rattle.edit.proofs.machine.put_event.Lts as lts
-use Rattle.codec.proofs.pools.has_chain.Reads as has-chain-reads
-use Rattle.event_list.proofs.find.has_start.Reads as has-start-reads
-use Rattle.event_list.proofs.find.index_of.Reads as index-of-reads
-use Rattle.event_list.proofs.find.place_of.Reads as place-of-reads
-use Rattle.event_list.proofs.place.insert_record.Reads as insert-record-reads
-use Rattle.event_list.proofs.sound.is_in_range.Reads as is-in-range-reads
 
--- src/machine.rt:47:9
 is-in-range-requires : tie.Need-is-in-range-requires
 is-in-range-requires c κs = search needs
 
--- src/machine.rt:48:9
 returns : tie.Need-returns
 returns c =
     let ranges = c .before in
@@ -32,11 +23,9 @@ returns c =
     (start .pre) (start .args .at) (start .args .event)
     (sym (ranges .is-in-range .ensures) ∙ not-true (ranges .is-in-range .result) (c .if1 .taken))
 
--- src/machine.rt:53:9
 has-chain-requires : tie.Need-has-chain-requires
 has-chain-requires c κs = search needs
 
--- src/machine.rt:54:9
 returns-2 : tie.Need-returns-2
 returns-2 c =
     let chains = c .before in
@@ -48,29 +37,23 @@ returns-2 c =
     (sym (ranges .is-in-range .ensures) ∙ not-false (ranges .is-in-range .result) (within .if1 .left))
     (sym (chains .has-chain .ensures) ∙ not-true (chains .has-chain .result) (c .if2 .taken))
 
--- src/machine.rt:59:15
 mul-end : tie.Need-mul-end
 mul-end c = search needs
 
--- src/machine.rt:60:23
 slice-reshare-prefix-index-of : tie.Need-slice-reshare-prefix-index-of
 slice-reshare-prefix-index-of c = search needs
 
--- src/machine.rt:60:23
 slice-aggregate-index-of : tie.Need-slice-aggregate-index-of
 slice-aggregate-index-of c =
     let start = c .before .before .before .before .before .before .before .before in
     sym (length-take-le (start .args .count * recordSize) (now (start .args .list)) (start .pre))
 
--- src/machine.rt:60:8
 index-of-requires : tie.Need-index-of-requires
 index-of-requires c κs = search needs
 
--- src/machine.rt:61:9
 same-length : tie.Need-same-length
 same-length c = search needs
 
--- src/machine.rt:61:9
 returns-3 : tie.Need-returns-3
 returns-3 c =
     let finds = c .before in
@@ -85,25 +68,20 @@ returns-3 c =
     (sym (chains .has-chain .ensures) ∙ not-false (chains .has-chain .result) (chained .if2 .left))
     (finds .index-of .result) (finds .index-of .ensures) (c .if3 .taken)
 
--- src/machine.rt:66:24
 slice-reshare-prefix-has-start : tie.Need-slice-reshare-prefix-has-start
 slice-reshare-prefix-has-start c = search needs
 
--- src/machine.rt:66:24
 slice-aggregate-has-start : tie.Need-slice-aggregate-has-start
 slice-aggregate-has-start c =
     let start = c .before .before .before .before .before .before .before .before .before .before .before in
     sym (length-take-le (start .args .count * recordSize) (now (start .args .list)) (start .pre))
 
--- src/machine.rt:66:8
 has-start-requires : tie.Need-has-start-requires
 has-start-requires c κs = search needs
 
--- src/machine.rt:67:9
 same-length-2 : tie.Need-same-length-2
 same-length-2 c = search needs
 
--- src/machine.rt:67:9
 returns-4 : tie.Need-returns-4
 returns-4 c =
     let asks = c .before in
@@ -118,13 +96,12 @@ returns-4 c =
     (start .pre) (start .args .at) (start .args .event)
     (sym (ranges .is-in-range .ensures) ∙ not-false (ranges .is-in-range .result) (within .if1 .left))
     (sym (chains .has-chain .ensures) ∙ not-false (chains .has-chain .result) (chained .if2 .left))
-    (finds .index-of .result) (finds .index-of .ensures) (new .if3 .left) (asks .has-start .result) (asks .has-start .ensures) (c .if4 .taken)
+    (finds .index-of .result) (finds .index-of .ensures) (new .if3 .left)
+    (asks .has-start .result) (asks .has-start .ensures) (c .if4 .taken)
 
--- src/machine.rt:73:9
 same-length-3 : tie.Need-same-length-3
 same-length-3 c = search needs
 
--- src/machine.rt:73:9
 returns-5 : tie.Need-returns-5
 returns-5 c =
     let free = c .before in
@@ -140,36 +117,30 @@ returns-5 c =
     (start .pre) (start .args .at) (start .args .event)
     (sym (ranges .is-in-range .ensures) ∙ not-false (ranges .is-in-range .result) (within .if1 .left))
     (sym (chains .has-chain .ensures) ∙ not-false (chains .has-chain .result) (chained .if2 .left))
-    (finds .index-of .result) (finds .index-of .ensures) (new .if3 .left) (asks .has-start .result) (asks .has-start .ensures) (free .if4 .left)
+    (finds .index-of .result) (finds .index-of .ensures) (new .if3 .left)
+    (asks .has-start .result) (asks .has-start .ensures) (free .if4 .left)
     (elim (c .if5 .came) [ inl w ↦ omega arith | inr w ↦ omega (arith, leb-true) ])
 
--- src/machine.rt:78:32
 slice-reshare-prefix-place-of : tie.Need-slice-reshare-prefix-place-of
 slice-reshare-prefix-place-of c = search needs
 
--- src/machine.rt:78:32
 slice-aggregate-place-of : tie.Need-slice-aggregate-place-of
 slice-aggregate-place-of c =
     let start = c .before .before .before .before .before .before .before .before .before .before .before .before .before .before .before .before in
     sym (length-take-le (start .args .count * recordSize) (now (start .args .list)) (start .pre))
 
--- src/machine.rt:78:9
 place-of-requires : tie.Need-place-of-requires
 place-of-requires c κs = search needs
 
--- src/machine.rt:79:5
 insert-record-requires : tie.Need-insert-record-requires
 insert-record-requires c κs = search needs
 
--- src/machine.rt:82:16
 add-t14 : tie.Need-add-t14
 add-t14 c = search needs
 
--- src/machine.rt:35:1
 same-length-4 : tie.Need-same-length-4
 same-length-4 c = search needs
 
--- src/machine.rt:35:1
 returns-6 : tie.Need-returns-6
 returns-6 c =
     let inserts = c .before .before in
@@ -188,7 +159,9 @@ returns-6 c =
     (start .pre) (start .args .at) (start .args .event)
     (sym (ranges .is-in-range .ensures) ∙ not-false (ranges .is-in-range .result) (within .if1 .left))
     (sym (chains .has-chain .ensures) ∙ not-false (chains .has-chain .result) (chained .if2 .left))
-    (finds .index-of .result) (finds .index-of .ensures) (new .if3 .left) (asks .has-start .result) (asks .has-start .ensures) (free .if4 .left) (omega arith) (omega (arith, leb-false)) (places .place-of .result) (places .place-of .ensures) _ (inserts .insert-record .ensures)
+    (finds .index-of .result) (finds .index-of .ensures) (new .if3 .left)
+    (asks .has-start .result) (asks .has-start .ensures) (free .if4 .left) (omega arith) (omega (arith, leb-false))
+    (places .place-of .result) (places .place-of .ensures) _ (inserts .insert-record .ensures)
 
 pub put-event-spec : {M : Type 1} → statement M
 put-event-spec =
