@@ -1,7 +1,7 @@
 //! Makers of edits that break chosen rules at once. A rule is named by the number of its refusal.
 
 use crate::held::Held;
-use crate::lists::{record, DURATION, DURATION_MAX, ID, MARKS, OFFSET, START, START_END};
+use crate::lists::{high_bit, record, DURATION, DURATION_MAX, ID, MARKS, OFFSET, START, START_END};
 use crate::pools::Pools;
 use crate::random::Random;
 use crate::scripts::Command;
@@ -16,15 +16,15 @@ pub fn put(random: &mut Random, pools: &Pools, held: &Held, broken: &[u32]) -> C
         record[OFFSET..].copy_from_slice(&random.pick(&parts));
     }
     if broken.contains(&5) {
-        let high = high_bit(random);
         let values = [
             (DURATION, 0),
             (DURATION, DURATION_MAX + 1),
-            (DURATION, record[DURATION] | high),
+            (DURATION, record[DURATION] | high_bit(random, DURATION)),
             (MARKS, record[MARKS] | 0x08),
-            (MARKS, record[MARKS] | 0x80),
+            // PUT has one byte for the marks.
+            (MARKS, record[MARKS] | random.bit(3, 7)),
             (START, START_END),
-            (START, record[START] | high),
+            (START, record[START] | high_bit(random, START)),
         ];
         // A start out of range is no other event's.
         let usable = if broken.contains(&7) { 5 } else { 7 };
@@ -39,7 +39,7 @@ pub fn move_one(random: &mut Random, held: &Held, broken: &[u32]) -> Command {
     let (held_id, own) = held.event(random);
     let id = if broken.contains(&6) { held.new_id(random) } else { held_id };
     let start = if broken.contains(&5) {
-        let high = held.new_start(random) | high_bit(random);
+        let high = held.new_start(random) | high_bit(random, START);
         random.pick(&[START_END, high])
     } else if broken.contains(&7) {
         held.other_start(random, own)
@@ -52,9 +52,4 @@ pub fn move_one(random: &mut Random, held: &Held, broken: &[u32]) -> Command {
 /// WITHDRAW that breaks 6.
 pub fn withdraw(random: &mut Random, held: &Held) -> Command {
     Command::Withdraw(held.new_id(random))
-}
-
-/// A bit that puts a start or a duration out of range, and that would leave it in range if it were lost.
-fn high_bit(random: &mut Random) -> u32 {
-    random.pick(&[1 << 24, 1 << 31])
 }

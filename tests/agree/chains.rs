@@ -1,6 +1,7 @@
 //! Chains of many lengths, and parts that miss being one by a byte, in PUT and in a lent list.
 
 use crate::edits::Comparison;
+use crate::held::Held;
 use crate::lists::List;
 use crate::pools::{Pool, Pools};
 use crate::random::Random;
@@ -18,11 +19,40 @@ pub fn run(comparison: &mut Comparison) -> Result<(), String> {
             }
         }
     }
-    // A record's length can be more than PUT's.
-    let whole = Pools { day: Pool::of_length(random, 70_000), series: Pool::of_length(random, 0) };
-    for (length, answer) in [(70_000, (0, 1)), (69_999, (12, 0)), (70_001, (12, 0))] {
-        let list = List { numbers: vec![1, 2, 3, 0, 0, length], count: 1 };
-        comparison.answers(answer, &whole, &list, &[])?;
+    for length in [70_000, 200_000] {
+        beyond_put(comparison, random, length)?;
+    }
+    far(comparison, random)
+}
+
+/// Parts of a pool of this length that are longer than PUT's length can be, in a list: whole, and broken at their end.
+fn beyond_put(comparison: &mut Comparison, random: &mut Random, length: usize) -> Result<(), String> {
+    let chain = Pool::of_length(random, length);
+    let descriptors = chain.descriptors();
+    // The most descriptors that are left out on either side.
+    for out in [0, 2, 8, 32].repeat(5) {
+        let [first, end] = [random.below(out + 1), descriptors - random.below(out + 1)];
+        let broken = chain.with_length_off(end - 1);
+        let parts = [(&chain, 0, (0, 1)), (&chain, -1, (12, 0)), (&chain, 1, (12, 0)), (&broken, 0, (12, 0))];
+        for (pool, more, answer) in parts {
+            let [offset, length] = pool.between(first, end, more);
+            let marks = random.pick(&[1, 6]);
+            let pools = chosen(random, marks, pool.clone());
+            let list = List { numbers: vec![1, 2, 3, marks, offset, length], count: 1 };
+            comparison.answers(answer, &pools, &list, &[])?;
+        }
+    }
+    Ok(())
+}
+
+/// Parts that start far inside their pools, in lists and in PUT.
+fn far(comparison: &mut Comparison, random: &mut Random) -> Result<(), String> {
+    let pools = Pools::of_lengths(random, 200_000, 5_000_000);
+    for _ in 0..60 {
+        let list = List::sound(random, &pools, 12, 6 * 40);
+        let mut held = Held::by(&list);
+        let script = bytes(&held.edits(random, &pools, 60));
+        comparison.answers((0, held.count()), &pools, &list, &script)?;
     }
     Ok(())
 }
@@ -63,8 +93,7 @@ fn part(
     [offset, length]: [u32; 2],
     is_chain: Option<bool>,
 ) -> Result<(), String> {
-    let unused = Pool::of_length(random, 7);
-    let pools = if marks & 2 == 0 { Pools { day: pool, series: unused } } else { Pools { day: unused, series: pool } };
+    let pools = chosen(random, marks, pool);
     let record = [258, 86_400, 3_600, marks, offset, length];
     let empty = List { numbers: vec![9; 8], count: 0 };
     let list = List { numbers: record.to_vec(), count: 1 };
@@ -82,5 +111,15 @@ fn part(
             comparison.alike(&pools, &empty, &put)?;
             comparison.alike(&pools, &list, &[]).map(drop)
         }
+    }
+}
+
+/// Pools of which the marks choose this one.
+fn chosen(random: &mut Random, marks: u32, pool: Pool) -> Pools {
+    let unused = Pool::of_length(random, 7);
+    if marks & 2 == 0 {
+        Pools { day: pool, series: unused }
+    } else {
+        Pools { day: unused, series: pool }
     }
 }

@@ -5,7 +5,7 @@ use crate::edits::{Comparison, Edit};
 use crate::guarded;
 use crate::other::{self, Answer};
 
-const EDITS: [(&str, Edit); 11] = [
+const EDITS: [(&str, Edit); 15] = [
     ("carries out just the first command", |list, count, day, series, script| {
         let end = next(script, 0).min(script.len());
         other::edit(list, count, day, series, &script[..end])
@@ -98,6 +98,39 @@ const EDITS: [(&str, Edit); 11] = [
         }
         answer
     }),
+    ("names the offset in sixteen bits", |list, count, day, series, script| {
+        let answer = other::edit(list, count, day, series, script);
+        if (3..=9).contains(&answer.number) {
+            Answer { value: answer.value & 0xFFFF, ..answer }
+        } else {
+            answer
+        }
+    }),
+    ("drops the edits behind offset 2^20", |list, count, day, series, script| {
+        let answer = other::edit(&mut list.to_vec(), count, day, series, script);
+        let end = first(script, |offset, _| offset > 1 << 20);
+        let kept = if answer.number == 0 { &script[..end] } else { script };
+        other::edit(list, count, day, series, kept)
+    }),
+    ("strikes twice where 30,000 edits are unstruck", |list, count, day, series, script| {
+        let mut unstruck = 0;
+        let twice = first(script, |_, command| {
+            let is_undo = command == 0x04;
+            unstruck += if is_undo { -1 } else { 1 };
+            is_undo && unstruck == 29_999
+        });
+        let struck_again = if twice < script.len() { &[0x04][..] } else { &[] };
+        other::edit(list, count, day, series, &[&script[..twice], struck_again, &script[twice..]].concat())
+    }),
+    ("loses bit 20 of an id in a list", |list, count, day, series, script| {
+        let mut lost = list.to_vec();
+        lost.iter_mut().step_by(6).for_each(|id| *id &= !(1 << 20));
+        let answer = other::edit(&mut lost, count, day, series, script);
+        if answer.number != 12 {
+            list.copy_from_slice(&lost);
+        }
+        answer
+    }),
 ];
 
 const CRCS: [(&str, Crc); 2] = [
@@ -116,13 +149,18 @@ fn next(script: &[u8], offset: usize) -> usize {
     offset + width
 }
 
-/// The offset of the first UNDO, or the script's length.
-fn first_undo(script: &[u8]) -> usize {
+/// The offset of the first command of which this holds, by its offset and its byte, or the script's length.
+fn first(script: &[u8], mut holds: impl FnMut(usize, u8) -> bool) -> usize {
     let mut offset = 0;
-    while offset < script.len() && script[offset] != 0x04 {
+    while offset < script.len() && !holds(offset, script[offset]) {
         offset = next(script, offset);
     }
     offset.min(script.len())
+}
+
+/// The offset of the first UNDO, or the script's length.
+fn first_undo(script: &[u8]) -> usize {
+    first(script, |_, command| command == 0x04)
 }
 
 /// The faults tried, or the one that the comparison did not show. Without a fault nothing shows.

@@ -159,6 +159,18 @@ impl Held {
         commands
     }
 
+    /// Edits that are carried out, after which the list has two events or more and is full or not. The limit is 3 or more.
+    pub fn ready(&mut self, random: &mut Random, pools: &Pools, full: bool) -> Vec<Command> {
+        let mut commands = Vec::new();
+        while self.count() < 2 || full && !self.is_full() {
+            commands.push(self.put(random, pools));
+        }
+        if !full && self.is_full() {
+            commands.push(self.withdraw(random));
+        }
+        commands
+    }
+
     fn insert(&mut self, id: u32, start: u32) {
         self.events.push((id, start));
         self.ids.insert(id);

@@ -16,6 +16,14 @@ pub const DURATION: usize = 2;
 pub const MARKS: usize = 3;
 pub const OFFSET: usize = 4;
 
+/// The lowest bit above each field's range. Offset and length have their pool for a range.
+const ABOVE_RANGE: [usize; 4] = [16, 23, 19, 3];
+
+/// A bit that puts a field of the record out of range. With it lost, the field would be in range again.
+pub fn high_bit(random: &mut Random, field: usize) -> u32 {
+    random.bit(ABOVE_RANGE[field], 31)
+}
+
 /// A buffer and a count, as they are lent to Edit.
 #[derive(Clone)]
 pub struct List {
@@ -123,15 +131,11 @@ pub fn unsound(random: &mut Random, pools: &Pools, list: &List) -> Vec<(&'static
     let last = list.count - 1;
     let mut lists = vec![
         ("id one beyond", list.with(place, ID, &[65_536])),
-        ("id far beyond", list.with(place, ID, &[list.get(place, ID) | 1 << 31])),
         ("start one beyond", list.with(last, START, &[START_END])),
-        ("start far beyond", list.with(last, START, &[list.get(last, START) | 1 << 31])),
         ("no duration", list.with(place, DURATION, &[0])),
         ("duration one beyond", list.with(place, DURATION, &[DURATION_MAX + 1])),
-        ("duration far beyond", list.with(place, DURATION, &[list.get(place, DURATION) | 1 << 31])),
         ("marks one beyond", list.with(place, MARKS, &[8, 0, 0])),
         ("marks one beyond, series", list.with(place, MARKS, &[10, 0, 0])),
-        ("marks far beyond", list.with(place, MARKS, &[1 << 31, 0, 0])),
         ("count beyond the buffer", list.with_count(list.numbers.len() / NUMBERS + 1)),
         ("count 2,049", list.with_count(EVENTS_MAX + 1)),
         ("count 2^32", list.with_count(1 << 32)),
@@ -139,13 +143,27 @@ pub fn unsound(random: &mut Random, pools: &Pools, list: &List) -> Vec<(&'static
         ("count of which six wrap to 2", list.with_count(usize::MAX / NUMBERS + 1)),
         ("highest count", list.with_count(usize::MAX)),
     ];
+    for field in [ID, START, DURATION, MARKS] {
+        // A start out of range keeps the order in the last place alone.
+        let place = if field == START { last } else { place };
+        lists.push(("high bit", list.with(place, field, &[list.get(place, field) | high_bit(random, field)])));
+    }
     for marks in [5, 2] {
-        let mut parts = pools.of_marks(marks).no_chains(random);
+        let pool = pools.of_marks(marks);
+        let mut parts = [pool.no_chains(random), pool.beyond_by_a_bit(random, 31)].concat();
         parts.extend([[0, 1 << 16], [0, 1 << 31], [1, u32::MAX], [u32::MAX, u32::MAX]]);
         for [offset, length] in parts {
             lists.push(("no chain", list.with(place, MARKS, &[marks, offset, length])));
         }
     }
+    lists.extend(out_of_order(random, list));
+    lists
+}
+
+/// The list with starts that do not rise, or with equal ids.
+fn out_of_order(random: &mut Random, list: &List) -> Vec<(&'static str, List)> {
+    let last = list.count - 1;
+    let mut lists = Vec::new();
     if last > 0 {
         let next = 1 + random.below(last);
         let (before, start) = (list.get(next - 1, START), list.get(next, START));

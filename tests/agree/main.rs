@@ -13,6 +13,7 @@ mod guarded;
 mod held;
 mod limits;
 mod lists;
+mod long;
 mod mixed;
 #[path = "../other/mod.rs"]
 mod other;
@@ -73,7 +74,8 @@ fn all_groups(comparison: &mut Comparison) -> Result<(), String> {
     limits::run(comparison)?;
     chains::run(comparison)?;
     soundness::run(comparison)?;
-    mixed::run(comparison)
+    mixed::run(comparison)?;
+    long::run(comparison)
 }
 
 fn library(list: &mut [u32], count: usize, day: &[u8], series: &[u8], script: &[u8]) -> Answer {

@@ -4,6 +4,7 @@ use crate::guarded::Guarded;
 use crate::random::Random;
 
 /// A lent pool, most often one chain from end to end.
+#[derive(Clone)]
 pub struct Pool {
     lent: Guarded<u8>,
     as_made: Guarded<u8>,
@@ -84,9 +85,7 @@ impl Pool {
         let end = self.bytes().len() as u32;
         let mut parts =
             vec![[end, 1], [end + 1, 0], [u32::MAX, 0], [u32::MAX, 1], [u32::MAX - 1, 4], [u32::MAX, 65_535]];
-        // With a high bit of its offset lost, this one would be a chain.
-        let [offset, length] = self.chain(random);
-        parts.push([offset + random.pick(&[1 << 17, 1 << 24, 1 << 31]), length]);
+        parts.extend(self.beyond_by_a_bit(random, 15));
         let last = self.cuts.len() - 1;
         if last > 0 {
             let one = random.below(last);
@@ -98,7 +97,20 @@ impl Pool {
         parts
     }
 
-    fn between(&self, first: usize, end: usize, more: i64) -> [u32; 2] {
+    /// A chain with a bit above the pool's end put into its offset, and into its length, whose highest bit is given. With that
+    /// bit lost it would be a chain.
+    pub fn beyond_by_a_bit(&self, random: &mut Random, length_bit: usize) -> Vec<[u32; 2]> {
+        let [offset, length] = self.chain(random);
+        let lowest = self.bytes().len().checked_ilog2().map_or(0, |bit| bit as usize + 1);
+        let mut parts = vec![[offset | random.bit(lowest, 31), length]];
+        if lowest <= length_bit {
+            parts.push([offset, length | random.bit(lowest, length_bit)]);
+        }
+        parts
+    }
+
+    /// Offset and length from one descriptor up to another, or up to the end, and so many bytes more.
+    pub fn between(&self, first: usize, end: usize, more: i64) -> [u32; 2] {
         let length = (self.cuts[end] - self.cuts[first]) as i64 + more;
         [self.cuts[first] as u32, length as u32]
     }

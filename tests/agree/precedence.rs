@@ -6,7 +6,7 @@ use crate::held::Held;
 use crate::lists::{unsound, List};
 use crate::pools::Pools;
 use crate::random::Random;
-use crate::scripts::{bytes, Command};
+use crate::scripts::{bytes, unstruck, Command};
 
 /// Edit's order per edit.
 const ORDER: [u32; 5] = [5, 9, 6, 7, 8];
@@ -65,12 +65,7 @@ impl Ready {
         let mut held = Held::by(&list);
         let edits = random.below(6);
         let mut before = held.edits(random, pools, edits);
-        while held.count() < 2 || full && !held.is_full() {
-            before.push(held.put(random, pools));
-        }
-        if !full && held.is_full() {
-            before.push(held.withdraw(random));
-        }
+        before.extend(held.ready(random, pools, full));
         Ready { list, before, held }
     }
 
@@ -109,18 +104,24 @@ impl Ready {
         comparison.answers((3, 1 + script.len()), pools, &self.list, &undo_then_cut)?;
         comparison.tally.precedence(("call", 3, 4));
 
+        let scripts = [(script, first), (cut, 3), (undo_first, 4), (undo_last, 4)];
+        self.refuse_unsound(comparison, random, pools, &scripts)
+    }
+
+    /// Scripts, each with the refusal that it gets on a sound list, on unsound ones.
+    fn refuse_unsound(
+        &self,
+        comparison: &mut Comparison,
+        random: &mut Random,
+        pools: &Pools,
+        scripts: &[(Vec<u8>, u32)],
+    ) -> Result<(), String> {
         let lists = unsound(random, pools, &self.list);
-        for (script, second) in [(&script, first), (&cut, 3), (&undo_first, 4), (&undo_last, 4)] {
+        for (script, second) in scripts {
             let place = random.below(lists.len());
             comparison.answers((12, 0), pools, &lists[place].1, script)?;
-            comparison.tally.precedence(("call", 12, second));
+            comparison.tally.precedence(("call", 12, *second));
         }
         Ok(())
     }
-}
-
-/// How many of the commands are edits that no UNDO strikes.
-fn unstruck(commands: &[Command]) -> usize {
-    let undos = commands.iter().filter(|command| matches!(command, Command::Undo)).count();
-    commands.len() - 2 * undos
 }

@@ -27,6 +27,11 @@ impl Random {
         (self.next() % end as u64) as usize
     }
 
+    /// One of the bits `lowest` to `highest`.
+    pub fn bit(&mut self, lowest: usize, highest: usize) -> u32 {
+        1 << (lowest + self.below(highest - lowest + 1))
+    }
+
     pub fn one_in(&mut self, times: usize) -> bool {
         self.below(times) == 0
     }

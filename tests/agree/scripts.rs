@@ -11,6 +11,12 @@ pub enum Command {
     Undo,
 }
 
+/// How many of the commands are edits that no UNDO strikes. Each UNDO has one to strike.
+pub fn unstruck(commands: &[Command]) -> usize {
+    let undos = commands.iter().filter(|command| matches!(command, Command::Undo)).count();
+    commands.len() - 2 * undos
+}
+
 /// The bytes of the commands, joined.
 pub fn bytes(commands: &[Command]) -> Vec<u8> {
     let mut bytes = Vec::new();

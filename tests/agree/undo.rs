@@ -16,7 +16,7 @@ pub fn run(comparison: &mut Comparison) -> Result<(), String> {
             short(comparison, random, &pools, &undo)?;
         }
     }
-    for edits in [300, 2_048, 2_049, 20_000] {
+    for edits in [300, 2_048, 2_049, 20_000, 70_000] {
         deep(comparison, random, &pools, edits)?;
     }
     for _ in 0..100 {
@@ -54,13 +54,16 @@ fn answer_of_puts(commands: &[Command]) -> (u32, usize) {
     (0, unstruck)
 }
 
-/// So many edits, most of which would be refused, all struck by as many UNDOs; then one UNDO more.
+/// So many edits, of which the first fits and most others would be refused: struck all but the first, all, and one UNDO more.
 fn deep(comparison: &mut Comparison, random: &mut Random, pools: &Pools, edits: usize) -> Result<(), String> {
     let list = List::sound(random, pools, 2, 6 * 4);
-    let held = Held::by(&list);
-    let mut commands: Vec<_> = (0..edits).map(|_| held.any_edit(random, pools)).collect();
-    commands.resize(2 * edits, Command::Undo);
+    let mut held = Held::by(&list);
+    let mut commands = vec![held.put(random, pools)];
+    commands.extend((1..edits).map(|_| held.any_edit(random, pools)));
+    commands.resize(2 * edits - 1, Command::Undo);
     let mut script = bytes(&commands);
+    comparison.answers((0, 3), pools, &list, &script)?;
+    script.push(0x04);
     comparison.answers((0, 2), pools, &list, &script)?;
     script.push(0x04);
     comparison.answers((4, script.len() - 1), pools, &list, &script)

@@ -1,5 +1,6 @@
 //! Times the library, through its C face, beside the other implementation on the same inputs. Nothing fails for being slow.
 
+mod crc;
 #[path = "../face.rs"]
 mod face;
 #[path = "../other/mod.rs"]
@@ -20,6 +21,7 @@ mod lists;
 mod pools;
 #[path = "../agree/random.rs"]
 mod random;
+#[allow(dead_code)]
 #[path = "../agree/scripts.rs"]
 mod scripts;
 
@@ -61,11 +63,12 @@ fn main() {
         script(random, &pools, &list, size, Some(usize::MAX))
     });
 
-    head("CRC_32");
+    head("CRC_32, beside one table");
     for (size, calls) in [(64, 1_000), (4 * KB, 50), (1_024 * KB, 1)] {
         let input: Vec<_> = (0..size).map(|_| random.byte()).collect();
-        assert_eq!(face::crc32(&input), other::crc32(&input), "the two disagree");
-        let times = [face::crc32, other::crc32].map(|crc| {
+        let subjects = [face::crc32, crc::crc32];
+        assert_eq!(subjects.map(|crc| crc(&input)), [other::crc32(&input); 2], "the two disagree");
+        let times = subjects.map(|crc| {
             shortest(|| {
                 let begun = Instant::now();
                 for _ in 0..calls {

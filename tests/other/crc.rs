@@ -1,27 +1,18 @@
-//! CRC_32: 01, "The file of sections".
+//! CRC_32: 01, "The file of sections". Bit by bit, as the paper has it.
 
+const FIRST: u32 = 0xFFFF_FFFF;
 const POLYNOMIAL: u32 = 0x04C1_1DB7;
 
-/// What the register's high byte, shifted out, adds to the register.
-static TABLE: [u32; 256] = table();
-
-const fn table() -> [u32; 256] {
-    let mut table = [0; 256];
-    let mut byte = 0;
-    while byte < 256 {
-        let mut register = (byte as u32) << 24;
-        let mut bit = 0;
-        while bit < 8 {
-            let high = register >> 31;
-            register = register << 1 ^ high * POLYNOMIAL;
-            bit += 1;
-        }
-        table[byte] = register;
-        byte += 1;
-    }
-    table
-}
-
 pub fn crc32(bytes: &[u8]) -> u32 {
-    bytes.iter().fold(0xFFFF_FFFF, |register, &byte| register << 8 ^ TABLE[(register >> 24 ^ u32::from(byte)) as usize])
+    let mut register = FIRST;
+    for byte in bytes {
+        for bit in (0..8).rev() {
+            let out = register >> 31 ^ u32::from(byte >> bit & 1);
+            register <<= 1;
+            if out == 1 {
+                register ^= POLYNOMIAL;
+            }
+        }
+    }
+    register
 }

@@ -1,5 +1,5 @@
-// The face for C and Rust: numbers and slices only (include/chirdaluko.h). Each call turns an answer into document 01's numbers, and
-// has the same equation as the call behind it.
+// The face for C and Rust: numbers and slices only (include/chirdaluko.h). Each call turns an answer into document 01's numbers,
+// and has the same equation as the call behind it.
 use codec::crc;
 use edit::answer;
 ghost use mathlib.Core.Path.{_≡_};
@@ -27,7 +27,10 @@ pub extern "C" fn eit_edit<'a>(
     series: &'a [u8],
     script: &[u8],
 ) -> EitEdited
-    ensures { λ r. ⌜ edit broadcast (lentPools (now (day .entry)) (now (series .entry))) (lentList (now (list .entry)) count) (now (script .entry)) ≡ editedOf r (now (list .exit)) ⌝ }
+    ensures { λ r. ⌜
+        edit broadcast (lentPools (now (day .entry)) (now (series .entry))) (lentList (now (list .entry)) count)
+        (now (script .entry))
+        ≡ editedOf r (now (list .exit)) ⌝ }
 {
     let r = edit::edit(list, count, day, series, script);
     let said = r.answer;

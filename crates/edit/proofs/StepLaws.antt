@@ -1,7 +1,6 @@
 -- One edit of the plain machine in the code's terms: its tests on places, and what it writes as `inserted` and `removed` have it. By
 -- the laws of `script`. Assumes nothing.
 use mathlib.Core.Path.{_≡_, sym, ap, _∙_}
-use mathlib.Core.Bool.{not}
 use Prim.Native.Nat.{ℕ, suc, _-_, _*_, _/_, _≤_, _<_}
 use native.Mathlib.Omega.{arith}
 use mathlib.Core.List.{List, append-nil}

@@ -61,8 +61,8 @@ pub fn put_record(operands: &[u8]) -> Record
     }
 }
 
-// The command whose byte stands at `at`; any other byte than those of the edits, and none, counts as UNDO, and operands that are cut as
-// far as there are bytes.
+// The command whose byte stands at `at`; any other byte than those of the edits, and none, counts as UNDO, and operands that are
+// cut as far as there are bytes.
 pub fn command_at(script: &[u8], at: usize) -> Command
     ensures { λ r. ⌜ commandTold at r ≡ commandOf (getD (now (script .entry)) at 0) at (drop (suc at) (now (script .entry))) ⌝ }
 {

@@ -12,6 +12,9 @@ mod command;
 mod machine;
 mod scan;
 
+// Events in a list at most (01, "Event record and sound list").
+const EVENT_LIMIT: usize = 2_048;
+
 // 01's Edit: number, value, count and every number of the list are those of the definition.
 pub fn edit<'a>(
     list: &mut [u32],
@@ -20,7 +23,9 @@ pub fn edit<'a>(
     series: &'a [u8],
     script: &[u8],
 ) -> Edited
-    ensures { λ r. ⌜ edit broadcast (lentPools (now (day .entry)) (now (series .entry))) (lentList (now (list .entry)) count) (now (script .entry)) ≡ told r (now (list .exit)) ⌝ }
+    ensures { λ r. ⌜
+        edit broadcast (lentPools (now (day .entry)) (now (series .entry))) (lentList (now (list .entry)) count) (now (script .entry))
+        ≡ told r (now (list .exit)) ⌝ }
 {
-    machine::edit_within(list, count, day, series, script, 2_048)
+    machine::edit_within(list, count, day, series, script, EVENT_LIMIT)
 }

@@ -1,5 +1,5 @@
-// 01's term: plain machine ("Edit"). The unstruck edits are carried out in order on the lent list; a refusal leaves it as the earlier
-// edits made it.
+// 01's term: plain machine ("Edit"). The unstruck edits are carried out in order on the lent list; a refusal leaves it as the
+// earlier edits made it.
 use crate::answer;
 use crate::answer::EditAnswer;
 use crate::answer::Edited;
@@ -14,6 +14,7 @@ use eit::Time;
 use event_list::find;
 use event_list::place;
 use event_list::records;
+use event_list::records::RECORD_SIZE;
 use event_list::sound;
 ghost use mathlib.Core.Path.{_≡_};
 ghost use Prim.Native.Nat.{ℕ, _*_, _≤_};
@@ -41,7 +42,10 @@ fn put_event<'a>(
     event: Record,
 ) -> Edited
     requires { ⌜ count * recordSize ≤ length (now list) ⌝ }
-    ensures { λ r. ⌜ runOne «event_limit» (now (day .entry)) (now (series .entry)) (lentList (now (list .entry)) count) (commandTold at (Command.Put event)) ≡ told r (now (list .exit)) ⌝ }
+    ensures { λ r. ⌜
+        runOne «event_limit» (now (day .entry)) (now (series .entry)) (lentList (now (list .entry)) count)
+        (commandTold at (Command.Put event))
+        ≡ told r (now (list .exit)) ⌝ }
 {
     if !sound::is_in_range(event) {
         return Edited {
@@ -55,7 +59,7 @@ fn put_event<'a>(
             count,
         };
     }
-    let end = count * 6;
+    let end = count * RECORD_SIZE;
     if find::index_of(&list[..end], event.id) < count {
         return Edited {
             answer: EditAnswer::WrongId(at),
@@ -68,7 +72,7 @@ fn put_event<'a>(
             count,
         };
     }
-    if event_limit <= count || list.len() / 6 <= count {
+    if event_limit <= count || list.len() / RECORD_SIZE <= count {
         return Edited {
             answer: EditAnswer::ListFull(at),
             count,
@@ -85,9 +89,12 @@ fn put_event<'a>(
 // WITHDRAW: 6; then the record is taken out. Neither the pools nor the event limit matter.
 fn withdraw_event(list: &mut [u32], count: usize, at: usize, id: u32) -> Edited
     requires { ⌜ count * recordSize ≤ length (now list) ⌝ }
-    ensures { λ r. ⌜ ((limit : ℕ) (day series : List ℕ) → runOne limit day series (lentList (now (list .entry)) count) (commandTold at (Command.Withdraw id)) ≡ told r (now (list .exit))) ⌝ }
+    ensures { λ r. ⌜
+        ((limit : ℕ) (day series : List ℕ) →
+        runOne limit day series (lentList (now (list .entry)) count) (commandTold at (Command.Withdraw id))
+        ≡ told r (now (list .exit))) ⌝ }
 {
-    let end = count * 6;
+    let end = count * RECORD_SIZE;
     let index = find::index_of(&list[..end], id);
     if count <= index {
         return Edited {
@@ -105,7 +112,10 @@ fn withdraw_event(list: &mut [u32], count: usize, at: usize, id: u32) -> Edited
 // MOVE: 5, 6, 7; then the record is taken out and put back by its new start.
 fn move_event(list: &mut [u32], count: usize, at: usize, id: u32, start: u32) -> Edited
     requires { ⌜ count * recordSize ≤ length (now list) ⌝ }
-    ensures { λ r. ⌜ ((limit : ℕ) (day series : List ℕ) → runOne limit day series (lentList (now (list .entry)) count) (commandTold at (Command.Move id start)) ≡ told r (now (list .exit))) ⌝ }
+    ensures { λ r. ⌜
+        ((limit : ℕ) (day series : List ℕ) →
+        runOne limit day series (lentList (now (list .entry)) count) (commandTold at (Command.Move id start))
+        ≡ told r (now (list .exit))) ⌝ }
 {
     if !Time::is_start(start) {
         return Edited {
@@ -113,7 +123,7 @@ fn move_event(list: &mut [u32], count: usize, at: usize, id: u32, start: u32) ->
             count,
         };
     }
-    let end = count * 6;
+    let end = count * RECORD_SIZE;
     let index = find::index_of(&list[..end], id);
     if count <= index {
         return Edited {
@@ -130,7 +140,7 @@ fn move_event(list: &mut [u32], count: usize, at: usize, id: u32, start: u32) ->
     let mut event = records::record_at(list, index);
     event.start = start;
     place::remove_record(list, count, index);
-    let place = find::place_of(&list[..end - 6], start);
+    let place = find::place_of(&list[..end - RECORD_SIZE], start);
     place::insert_record(list, count - 1, place, event);
     Edited {
         answer: EditAnswer::Done,
@@ -149,7 +159,9 @@ fn carry_out<'a>(
     command: Command,
 ) -> Edited
     requires { ⌜ count * recordSize ≤ length (now list) ⌝ }
-    ensures { λ r. ⌜ runOne «event_limit» (now (day .entry)) (now (series .entry)) (lentList (now (list .entry)) count) (commandTold at command) ≡ told r (now (list .exit)) ⌝ }
+    ensures { λ r. ⌜
+        runOne «event_limit» (now (day .entry)) (now (series .entry)) (lentList (now (list .entry)) count) (commandTold at command)
+        ≡ told r (now (list .exit)) ⌝ }
 {
     match command {
         Command::Put(event) => put_event(list, count, day, series, event_limit, at, event),
@@ -189,9 +201,9 @@ fn pending_before(script: &[u8], at: usize, k: usize, undos: usize) -> usize
     over + (undos - kept)
 }
 
-// The live edits among k commands from `at` on, with so many UNDOs pending behind them, on a list that is sound: those of the first
-// half, then those of the second. What strikes in the first is counted by a pass over the second, so that n commands take a number of
-// steps that grows with n log n.
+// The live edits among k commands from `at` on, with so many UNDOs pending behind them, on a list that is sound: those of the
+// first half, then those of the second. What strikes in the first is counted by a pass over the second, so that the passes over n
+// commands come to n log n.
 fn run_part<'a>(
     list: &mut [u32],
     count: usize,
@@ -203,8 +215,13 @@ fn run_part<'a>(
     k: usize,
     undos: usize,
 ) -> Edited
-    requires { ⌜ T (sound (limitedTo «event_limit») (lentPools (now day) (now series)) (lentList (now list) count)) × (k ≤ length (commandsAt at (now script))) ⌝ }
-    ensures { λ r. ⌜ runPart «event_limit» (now (day .entry)) (now (series .entry)) (lentList (now (list .entry)) count) undos k at (now (script .entry)) ≡ told r (now (list .exit)) ⌝ }
+    requires { ⌜
+        T (sound (limitedTo «event_limit») (lentPools (now day) (now series)) (lentList (now list) count))
+        × (k ≤ length (commandsAt at (now script))) ⌝ }
+    ensures { λ r. ⌜
+        runPart «event_limit» (now (day .entry)) (now (series .entry)) (lentList (now (list .entry)) count) undos k at
+        (now (script .entry))
+        ≡ told r (now (list .exit)) ⌝ }
 {
     if k <= undos {
         return Edited {
@@ -239,7 +256,9 @@ fn run<'a>(
     script: &[u8],
 ) -> Edited
     requires { ⌜ T (sound (limitedTo «event_limit») (lentPools (now day) (now series)) (lentList (now list) count)) ⌝ }
-    ensures { λ r. ⌜ runFrom «event_limit» (now (day .entry)) (now (series .entry)) (lentList (now (list .entry)) count) 0 (now (script .entry)) ≡ told r (now (list .exit)) ⌝ }
+    ensures { λ r. ⌜
+        runFrom «event_limit» (now (day .entry)) (now (series .entry)) (lentList (now (list .entry)) count) 0 (now (script .entry))
+        ≡ told r (now (list .exit)) ⌝ }
 {
     let k = scan::count_commands(script);
     run_part(list, count, day, series, event_limit, script, 0, k, 0)
@@ -254,7 +273,10 @@ pub fn edit_within<'a>(
     script: &[u8],
     event_limit: usize,
 ) -> Edited
-    ensures { λ r. ⌜ edit (limitedTo «event_limit») (lentPools (now (day .entry)) (now (series .entry))) (lentList (now (list .entry)) count) (now (script .entry)) ≡ told r (now (list .exit)) ⌝ }
+    ensures { λ r. ⌜
+        edit (limitedTo «event_limit») (lentPools (now (day .entry)) (now (series .entry))) (lentList (now (list .entry)) count)
+        (now (script .entry))
+        ≡ told r (now (list .exit)) ⌝ }
 {
     if !sound::is_sound(list, count, day, series, event_limit) {
         return Edited {

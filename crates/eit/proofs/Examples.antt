@@ -30,5 +30,8 @@ examples =
       index = (refl, refl);
       place = (refl, refl, refl);
       numbers = (refl, refl);
+      lent-pools = (refl, refl);
+      lent-list = (refl, refl);
+      limited = (refl, refl);
       marks-bit = refl;
     }

@@ -17,16 +17,21 @@ pub record Event : Type 0 where
   pub freeCa : Bool
   pub chain : List ℕ
 
-abbrev pub eventOf : Pools → Record → Event
-eventOf pools r =
+-- the event of a record whose chain is given
+abbrev pub eventWith : Record → List ℕ → Event
+eventWith r chain =
     record {
       id = r .id;
       start = r .start;
       duration = r .duration;
       offAir = marksOffAir (r .marks);
       freeCa = marksFreeCa (r .marks);
-      chain = choose pools (r .marks) (r .offset) (r .«chain_length»);
+      chain = chain;
     }
+
+-- the chain is the part that the record chooses
+abbrev pub eventOf : Pools → Record → Event
+eventOf pools r = eventWith r (choose pools (r .marks) (r .offset) (r .«chain_length»))
 
 -- marks with 2 taken out
 abbrev pub marksOther : ℕ → ℕ

@@ -1,4 +1,5 @@
 // Where an id, and where a start, has its place among the records that some numbers hold (01, "Edit").
+use crate::records::RECORD_SIZE;
 ghost use mathlib.Core.Path.{_≡_};
 ghost use Rattle.eit.specs.Find.{indexOf, placeOf};
 ghost use Rattle.eit.specs.Among.{isAmong};
@@ -9,10 +10,10 @@ ghost use Rattle.event_list.specs.Held.{heldRecords, leaving};
 pub fn index_of(records: &[u32], id: u32) -> usize
     ensures { λ r. ⌜ r ≡ indexOf id (heldRecords (now (records .entry))) ⌝ }
 {
-    let n = records.len() / 6;
+    let n = records.len() / RECORD_SIZE;
     let mut i = 0;
     while i < n {
-        if records[i * 6] == id {
+        if records[i * RECORD_SIZE] == id {
             return i;
         }
         i += 1;
@@ -24,10 +25,10 @@ pub fn index_of(records: &[u32], id: u32) -> usize
 pub fn place_of(records: &[u32], start: u32) -> usize
     ensures { λ r. ⌜ r ≡ placeOf start (heldRecords (now (records .entry))) ⌝ }
 {
-    let n = records.len() / 6;
+    let n = records.len() / RECORD_SIZE;
     let mut i = 0;
     while i < n {
-        if start < records[i * 6 + 1] {
+        if start < records[i * RECORD_SIZE + 1] {
             return i;
         }
         i += 1;
@@ -39,10 +40,10 @@ pub fn place_of(records: &[u32], start: u32) -> usize
 pub fn has_start(records: &[u32], start: u32, but: usize) -> bool
     ensures { λ r. ⌜ r ≡ isAmong start (startsOf (leaving but (heldRecords (now (records .entry))))) ⌝ }
 {
-    let n = records.len() / 6;
+    let n = records.len() / RECORD_SIZE;
     let mut i = 0;
     while i < n {
-        if i != but && records[i * 6 + 1] == start {
+        if i != but && records[i * RECORD_SIZE + 1] == start {
             return true;
         }
         i += 1;

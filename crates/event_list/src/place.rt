@@ -1,4 +1,5 @@
 // A record put in and a record taken out, in place (01, "Edit": PUT, WITHDRAW).
+use crate::records::RECORD_SIZE;
 use eit::Record;
 ghost use mathlib.Core.Path.{_≡_};
 ghost use Prim.Native.Nat.{_+_, _≤_};
@@ -11,14 +12,14 @@ ghost use Rattle.event_list.specs.Held.{inserted, removed};
 pub fn insert_record(list: &mut [u32], count: usize, place: usize, event: Record)
     ensures { λ _. ⌜ now (list .exit) ≡ inserted (now (list .entry)) count place event ⌝ }
 {
-    if list.len() / 6 <= count || count < place {
+    if list.len() / RECORD_SIZE <= count || count < place {
         return;
     }
-    let at = place * 6;
-    let mut k = count * 6;
+    let at = place * RECORD_SIZE;
+    let mut k = count * RECORD_SIZE;
     while at < k {
         k -= 1;
-        list[k + 6] = list[k];
+        list[k + RECORD_SIZE] = list[k];
     }
     write_record(list, at, event);
 }
@@ -28,13 +29,13 @@ pub fn insert_record(list: &mut [u32], count: usize, place: usize, event: Record
 pub fn remove_record(list: &mut [u32], count: usize, index: usize)
     ensures { λ _. ⌜ now (list .exit) ≡ removed (now (list .entry)) count index ⌝ }
 {
-    if list.len() / 6 < count || count <= index {
+    if list.len() / RECORD_SIZE < count || count <= index {
         return;
     }
-    let last = count * 6 - 6;
-    let mut k = index * 6;
+    let last = count * RECORD_SIZE - RECORD_SIZE;
+    let mut k = index * RECORD_SIZE;
     while k < last {
-        list[k] = list[k + 6];
+        list[k] = list[k + RECORD_SIZE];
         k += 1;
     }
     let zeros = Record {

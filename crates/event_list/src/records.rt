@@ -5,6 +5,9 @@ ghost use Prim.Native.Nat.{_*_};
 ghost use lib.ListN.{getD, drop};
 ghost use Rattle.eit.specs.Records.{recordSize, frontRecord};
 
+// Numbers of a record (01: a record is six u32 numbers).
+pub const RECORD_SIZE: usize = 6;
+
 // A number of the buffer, 0 beyond its end.
 fn number_at(list: &[u32], k: usize) -> u32
     ensures { λ r. ⌜ r ≡ getD (now (list .entry)) k 0 ⌝ }
@@ -17,8 +20,8 @@ pub fn record_at(list: &[u32], i: usize) -> Record
     ensures { λ r. ⌜ r ≡ frontRecord (drop (i * recordSize) (now (list .entry))) ⌝ }
 {
     let mut rest = &list[0..0];
-    if i <= list.len() / 6 {
-        rest = &list[i * 6..];
+    if i <= list.len() / RECORD_SIZE {
+        rest = &list[i * RECORD_SIZE..];
     }
     Record {
         id: number_at(rest, 0),

@@ -1,5 +1,6 @@
 // 01's term: sound ("Event record and sound list").
 use crate::records;
+use crate::records::RECORD_SIZE;
 use codec::pools;
 use codec::seen;
 use eit::Record;
@@ -10,14 +11,22 @@ ghost use Rattle.eit.specs.Pools.{lentPools};
 ghost use Rattle.eit.specs.Records.{lentList};
 ghost use Rattle.eit.specs.Sound.{inRange, sound};
 
+// The most that an id and marks may be.
+const ID_MOST: u32 = 65_535;
+
+const MARKS_MOST: u32 = 7;
+
+// A bit for each id.
+const SEEN_WORDS: usize = 1024;
+
 // Values are in range.
 pub fn is_in_range(event: Record) -> bool
     ensures { λ r. ⌜ r ≡ inRange event ⌝ }
 {
-    event.id <= 65_535
+    event.id <= ID_MOST
         && Time::is_start(event.start)
         && Time::is_duration(event.duration)
-        && event.marks <= 7
+        && event.marks <= MARKS_MOST
 }
 
 // Whether the list is sound, in one pass: starts rise from `least` on, and ids are kept in a set.
@@ -28,12 +37,14 @@ pub fn is_sound<'a>(
     series: &'a [u8],
     event_limit: usize,
 ) -> bool
-    ensures { λ r. ⌜ r ≡ sound (limitedTo «event_limit») (lentPools (now (day .entry)) (now (series .entry))) (lentList (now (list .entry)) count) ⌝ }
+    ensures { λ r. ⌜
+        r
+        ≡ sound (limitedTo «event_limit») (lentPools (now (day .entry)) (now (series .entry))) (lentList (now (list .entry)) count) ⌝ }
 {
-    if event_limit < count || list.len() / 6 < count {
+    if event_limit < count || list.len() / RECORD_SIZE < count {
         return false;
     }
-    let mut seen = [0u64; 1024];
+    let mut seen = [0u64; SEEN_WORDS];
     let mut least = 0;
     let mut i = 0;
     while i < count {

@@ -21,6 +21,7 @@ use Rattle.sections.specs.Encode.{runningStatus, bitOf}
 use Rattle.sections.specs.Decode.{statusField, statedEventSize, eventIn}
 use Rattle.sections.specs.Places.{recordAt}
 use Rattle.sections.specs.JudgeEvents.{isInSegment, isEvent}
+use Rattle.sections.proofs.EventBytes.{bit-forth}
 use Rattle.section_codec.specs.TimeRead.{durationAt, startAt}
 use Rattle.section_codec.specs.EventRead.{isWholeEvent, frontEvent, eventRead}
 use Rattle.section_codec.specs.declared.time.TimeRead.the-variants.{Seconds, Broken as NoTime}
@@ -46,13 +47,6 @@ event-whole base h bs =
     (eqb status 0 || eqb status 5) (isChain (drop eventOverhead bs)) (isInSegment h (startOf base (bytesAt 2 5 bs)))
 
 -- ---- marks and the bits of the word
-
-pub bit-is : (n : ℕ) → bitOf (odd n) ≡ n % 2
-bit-is n =
-    ⊎-elim
-    (λ one. rw (bitOf, eq-eqb (n % 2) 1 one) (sym one))
-    (λ other. rw (bitOf, ne-eqb (n % 2) 1 other) (omega (arith, other)))
-    (eq-or-not (n % 2) 1)
 
 pub running-is : (n : ℕ) → runningStatus (odd n) ≡ n % 2 * 5
 running-is n =
@@ -196,7 +190,7 @@ module _ (base : ℕ) (bs : List ℕ) {word : ℕ} (is-word : word ≡ statusFie
       record-is is-id =
           let same-start = ap (startOf base) (front 2 5 (omega arith)) ∙ is-start base 2 bs start-is .1 in
           let same-duration = ap secondsOf (front 7 3 (omega arith)) ∙ is-duration 7 bs duration-is .1 in
-          let free : bitOf (odd (statusField (frontEvent bs) / 0x1000)) ≡ word / 0x1000 % 2 = rw same-word (bit-is (word / 0x1000)) in
+          let free : bitOf (odd (statusField (frontEvent bs) / 0x1000)) ≡ word / 0x1000 % 2 = rw same-word (bit-forth (word / 0x1000)) in
           let off : bitOf (eqb (statusField (frontEvent bs) / 0x2000) 5) ≡ word / 0x2000 / 5 =
           rw same-word (off-air-is (word / 0x2000) (sym status-test ∙ status-holds)) in
           let same-length : length (drop eventOverhead (frontEvent bs)) ≡ word % 0x1000 =

@@ -11,7 +11,7 @@ use Rattle.eit.specs.declared.Record.{Record}
 use Rattle.sections.specs.Section.{eventOverhead}
 use Rattle.sections.specs.Encode.{runningStatus, bitOf, statusWord, eventBytes}
 use Rattle.codec.specs.Write.{writeAt}
-use Rattle.section_codec.specs.EventRead.{eventWith}
+use Rattle.eit.specs.Events.{eventWith}
 use Rattle.codec.proofs.WriteLaws.{write-then}
 
 -- the four bits above a chain length

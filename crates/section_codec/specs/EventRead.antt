@@ -1,4 +1,4 @@
--- One event as its section has it, and back (01, "The file of sections"; "Build, Read": marks never have 2). Laws:
+-- The event at the front of some bytes (01, "The file of sections"; "Build, Read": marks never have 2). Laws:
 -- proofs/EventWriteLaws.antt, proofs/EventReadLaws.antt. Assumes nothing.
 use Prim.Native.Nat.{ℕ, _/_}
 use mathlib.Core.Bool.{Bool, true, false, _&&_, _||_}
@@ -8,26 +8,11 @@ use lib.ListN.{length, take, drop}
 use Rattle.eit.specs.Fields.{bytesAt}
 use Rattle.eit.specs.Time.{isStartBytes, isDurationBytes}
 use Rattle.eit.specs.Chain.{isChain}
-use Rattle.eit.specs.Pools.{marksFreeCa, marksOffAir}
-use Rattle.eit.specs.Events.{Event}
-use Rattle.eit.specs.declared.Record.{Record}
 use Rattle.sections.specs.Section.{eventOverhead}
 use Rattle.sections.specs.Decode.{statusField, statedEventSize, eventIn}
 use Rattle.sections.specs.Places.{recordAt}
 use Rattle.section_codec.specs.declared.event.EventRead.{EventRead}
 use Rattle.section_codec.specs.declared.event.EventRead.the-variants.{Whole, Broken}
-
--- the event of a record whose chain is given
-abbrev pub eventWith : Record → List ℕ → Event
-eventWith r chain =
-    record {
-      id = r .id;
-      start = r .start;
-      duration = r .duration;
-      offAir = marksOffAir (r .marks);
-      freeCa = marksFreeCa (r .marks);
-      chain = chain;
-    }
 
 -- an event's bytes are all there; start, duration and running_status are in range; its chain is one. What `isEvent` of sections asks
 -- besides is the segment (`event-whole`)

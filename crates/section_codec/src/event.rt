@@ -11,7 +11,8 @@ ghost use lib.Dec.{eqb};
 ghost use Rattle.eit.specs.Pools.{marksFreeCa, marksOffAir};
 ghost use Rattle.sections.specs.Encode.{runningStatus, bitOf, eventBytes};
 ghost use Rattle.codec.specs.Write.{writeAt};
-ghost use Rattle.section_codec.specs.EventRead.{eventWith, eventRead};
+ghost use Rattle.eit.specs.Events.{eventWith};
+ghost use Rattle.section_codec.specs.EventRead.{eventRead};
 
 // What bytes show from an event's first byte on.
 pub enum EventRead {
@@ -45,9 +46,12 @@ fn write_chain(out: &mut [u8], at: usize, chain: &[u8])
     }
 }
 
-// The event of a record, with the chain that the caller has chosen.
+// The event of a record, with the chain that the caller has chosen. A field holds only the bits that it has room for: of an id
+// above 65,535 the low 16, and a chain length above 4,095 reaches into the bits above it.
 pub fn write_event(out: &mut [u8], at: usize, base_day: u32, event: Record, chain: &[u8])
-    ensures { λ _. ⌜ now (out .exit) ≡ writeAt (now (out .entry)) at (eventBytes «base_day» (eventWith event (now (chain .entry)))) ⌝ }
+    ensures { λ _. ⌜
+        now (out .exit)
+        ≡ writeAt (now (out .entry)) at (eventBytes «base_day» (eventWith event (now (chain .entry)))) ⌝ }
 {
     if !fields::is_within(out.len(), at, OVERHEAD + chain.len()) {
         return;

@@ -10,13 +10,19 @@ ghost use Rattle.section_codec.specs.TimeRead.{timeAt, durationAt, start
 
 // What the bytes of a time show.
 pub enum TimeRead {
-    // So many seconds, in a record's range.
     Seconds(u32),
-    // Bytes that are cut, or that break a rule of the field.
+    // Bytes that are cut, or that break a rule of what is read.
     Broken,
 }
 
 const SECONDS_OF_DAY: u32 = 86_400;
+
+// The most hours of a start and of a duration, and the most minutes and seconds of both.
+const START_HOURS_MOST: u32 = 23;
+
+const DURATION_HOURS_MOST: u32 = 99;
+
+const SIXTIETHS_MOST: u32 = 59;
 
 // Two BCD digits.
 fn to_bcd(n: u8) -> u8
@@ -86,7 +92,8 @@ fn is_bcd_up_to(most: u32, byte: u8) -> bool
 fn is_time(most: u32, hours: u8, minutes: u8, seconds: u8) -> bool
     ensures { λ r. ⌜ r ≡ (isBcdUpTo most hours && (isBcdUpTo 59 minutes && isBcdUpTo 59 seconds)) ⌝ }
 {
-    is_bcd_up_to(most, hours) && (is_bcd_up_to(59, minutes) && is_bcd_up_to(59, seconds))
+    is_bcd_up_to(most, hours)
+        && (is_bcd_up_to(SIXTIETHS_MOST, minutes) && is_bcd_up_to(SIXTIETHS_MOST, seconds))
 }
 
 // The seconds of six BCD digits hhmmss.
@@ -116,7 +123,7 @@ fn read_time(bytes: &[u8], at: usize, most: u32) -> TimeRead
 pub fn read_duration(bytes: &[u8], at: usize) -> TimeRead
     ensures { λ r. ⌜ r ≡ durationAt at (now (bytes .entry)) ⌝ }
 {
-    let TimeRead::Seconds(duration) = read_time(bytes, at, 99) else {
+    let TimeRead::Seconds(duration) = read_time(bytes, at, DURATION_HOURS_MOST) else {
         return TimeRead::Broken;
     };
     if Time::is_duration(duration) {
@@ -133,7 +140,7 @@ pub fn read_start(bytes: &[u8], at: usize, base_day: u32) -> TimeRead
     if !fields::is_within(bytes.len(), at, 5) {
         return TimeRead::Broken;
     }
-    let TimeRead::Seconds(time) = read_time(bytes, at + 2, 23) else {
+    let TimeRead::Seconds(time) = read_time(bytes, at + 2, START_HOURS_MOST) else {
         return TimeRead::Broken;
     };
     let day = fields::read_field(bytes, at, 2);

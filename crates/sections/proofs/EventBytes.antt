@@ -150,7 +150,7 @@ running-forth n t =
     (λ (five : T (eqb n 5)). rw (runningStatus, true-is (eqb n 5) five) (sym (eqb→eq n 5 five)))
     (or-cases (eqb n 0) (eqb n 5) t)
 
-bit-forth : (n : ℕ) → bitOf (odd n) ≡ n % 2
+pub bit-forth : (n : ℕ) → bitOf (odd n) ≡ n % 2
 bit-forth n =
     ⊎-elim
     (λ (one : T (odd n)). rw (bitOf, true-is (odd n) one) (sym (eqb→eq (n % 2) 1 one)))

@@ -1,7 +1,8 @@
 -- `section_codec::event::status_bits` meets its contract: a mark is a bit, and running_status five of it. Assumes nothing.
 use Prim.Native.Nat.{_/_}
 use borrow.Author.Needs.{needs}
-use Rattle.section_codec.proofs.EventReadLaws.{bit-is, running-is}
+use Rattle.sections.proofs.EventBytes.{bit-forth}
+use Rattle.section_codec.proofs.EventReadLaws.{running-is}
 use Rattle.section_codec.proofs.event.status_bits.Statement.{statement}
 use Rattle.section_codec.proofs.event.status_bits.Tie as tie
 
@@ -21,7 +22,7 @@ cast-result : tie.Need-cast-result
 cast-result c = search needs
 
 returns : tie.Need-returns
-returns c = rw (running-is (c .args .marks / 4), bit-is (c .args .marks))
+returns c = rw (running-is (c .args .marks / 4), bit-forth (c .args .marks))
 
 pub status-bits-spec : {M : Type 1} → statement M
 status-bits-spec =

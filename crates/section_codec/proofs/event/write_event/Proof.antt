@@ -9,7 +9,7 @@ use Rattle.eit.specs.Pools.{marksFreeCa, marksOffAir}
 use Rattle.sections.specs.Section.{eventOverhead}
 use Rattle.sections.specs.Encode.{eventBytes}
 use Rattle.sections.proofs.Lengths.{event-length}
-use Rattle.section_codec.specs.EventRead.{eventWith}
+use Rattle.eit.specs.Events.{eventWith}
 use Rattle.codec.proofs.WriteLaws.{is-inside, is-outside, write-short}
 use Rattle.section_codec.proofs.EventWriteLaws.{status-small, event-written}
 use Rattle.section_codec.proofs.event.write_event.Statement.{statement}

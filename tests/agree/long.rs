@@ -1,0 +1,108 @@
+//! Long scripts: refusals far behind the script's start, and edits that are carried out up to its end.
+
+use crate::breaking;
+use crate::edits::Comparison;
+use crate::held::Held;
+use crate::lists::{List, EVENTS_MAX};
+use crate::pools::Pools;
+use crate::random::Random;
+use crate::scripts::{bytes, unstruck, Command};
+
+const MB: usize = 1 << 20;
+
+pub fn run(comparison: &mut Comparison) -> Result<(), String> {
+    let random = &mut comparison.group("long");
+    let pools = Pools::of_lengths(random, 300, 200);
+    for number in 3..=9 {
+        // From 64 KB to 2 MB, so that each bit of the offset from 16 to 20 counts.
+        for bit in [16, 17, 18, 19, 20].repeat(4) {
+            let length = (1 << bit) + random.below(1 << bit);
+            refused(comparison, random, &pools, number, length)?;
+        }
+    }
+    for (count, limit) in [(3, 12), (EVENTS_MAX / 2, EVENTS_MAX)] {
+        carried_out(comparison, random, &pools, count, limit)?;
+    }
+    Ok(())
+}
+
+/// This refusal, behind at least so many bytes of commands that are carried out or struck.
+fn refused(
+    comparison: &mut Comparison,
+    random: &mut Random,
+    pools: &Pools,
+    number: u32,
+    length: usize,
+) -> Result<(), String> {
+    let list = List::sound(random, pools, 3, 6 * 12 + 4);
+    let mut held = Held::by(&list);
+    let mut before = Vec::new();
+    let mut behind = 0;
+    while behind < length {
+        let more = held.edits(random, pools, 100);
+        behind += bytes(&more).len();
+        before.extend(more);
+    }
+    before.extend(held.ready(random, pools, number == 8));
+    if number == 4 {
+        let undos = unstruck(&before);
+        before.resize(before.len() + undos, Command::Undo);
+    }
+    let script = bytes(&before);
+    let last = match number {
+        3 => random.pick(&[&[0x00][..], &[0x05], &[0x01, 0x00], &[0x02]]).to_vec(),
+        4 => bytes(&[Command::Undo]),
+        _ => bytes(&[breaks(random, pools, &held, number), held.any_edit(random, pools)]),
+    };
+    comparison.answers((number, script.len()), pools, &list, &[script, last].concat())
+}
+
+/// An edit that breaks this one of 5 to 9.
+fn breaks(random: &mut Random, pools: &Pools, held: &Held, number: u32) -> Command {
+    match (number, random.below(3)) {
+        (5..=7, 0) => breaking::move_one(random, held, &[number]),
+        (6, 1) => breaking::withdraw(random, held),
+        _ => breaking::put(random, pools, held, &[number]),
+    }
+}
+
+/// Scripts that are carried out whole: without UNDO, with short nests throughout, and around one nest of 70,000 edits.
+fn carried_out(
+    comparison: &mut Comparison,
+    random: &mut Random,
+    pools: &Pools,
+    count: usize,
+    limit: usize,
+) -> Result<(), String> {
+    let list = List::sound(random, pools, count, 6 * limit + 5);
+    let mut held = Held::by(&list);
+    let plain = (0..130_000).map(|_| held.edit(random, pools)).collect();
+    up_to_its_end(comparison, random, pools, &list, held, plain)?;
+
+    let mut held = Held::by(&list);
+    let nests = held.edits(random, pools, 80_000);
+    up_to_its_end(comparison, random, pools, &list, held, nests)?;
+
+    let mut held = Held::by(&list);
+    let mut nest: Vec<_> = (0..40_000).map(|_| held.edit(random, pools)).collect();
+    nest.extend((0..70_000).map(|_| held.any_edit(random, pools)));
+    nest.resize(nest.len() + 70_000, Command::Undo);
+    nest.extend((0..40_000).map(|_| held.edit(random, pools)));
+    up_to_its_end(comparison, random, pools, &list, held, nest)
+}
+
+/// The commands, with a PUT behind them that shows in the count.
+fn up_to_its_end(
+    comparison: &mut Comparison,
+    random: &mut Random,
+    pools: &Pools,
+    list: &List,
+    mut held: Held,
+    mut commands: Vec<Command>,
+) -> Result<(), String> {
+    commands.extend(held.ready(random, pools, false));
+    commands.push(held.put(random, pools));
+    let script = bytes(&commands);
+    assert!(script.len() > MB && unstruck(&commands) > 70_000, "a long script came out short");
+    comparison.answers((0, held.count()), pools, list, &script)
+}
