@@ -59,31 +59,31 @@ module _ (word j : ℕ) (clear : word / 2 ^ j % 2 ≡ 0) where
 -- ---- a number
 
 -- the bit of n, which `isSeen` tests
-abbrev pub bitOf : List ℕ → ℕ → ℕ
-bitOf words n = getD words (n / 64) 0 / 2 ^ (n % 64) % 2
+abbrev pub seenBit : List ℕ → ℕ → ℕ
+seenBit words n = getD words (n / 64) 0 / 2 ^ (n % 64) % 2
 
 module _ (words : List ℕ) (n : ℕ) where
-  outside : length words ≤ n / 64 → bitOf words n ≡ 0
+  outside : length words ≤ n / 64 → seenBit words n ≡ 0
   outside h = rw (List·getD-eq-default words 0 h, zero-div) refl
 
-  clear-is : bitOf words n ≡ 0 → isSeen words n ≡ false
-  clear-is e = ne-eqb (bitOf words n) 1 (λ one. omega arith)
+  clear-is : seenBit words n ≡ 0 → isSeen words n ≡ false
+  clear-is e = ne-eqb (seenBit words n) 1 (λ one. omega arith)
 
-  set-is : (bitOf words n ≡ 0 → ⊥) → isSeen words n ≡ true
-  set-is ne = eq-eqb (bitOf words n) 1 (omega (arith, ne))
+  set-is : (seenBit words n ≡ 0 → ⊥) → isSeen words n ≡ true
+  set-is ne = eq-eqb (seenBit words n) 1 (omega (arith, ne))
 
   pub seen-outside : length words ≤ n / 64 → isSeen words n ≡ false
   seen-outside h = clear-is (outside h)
 
-  pub with-seen-old : (bitOf words n ≡ 0 → ⊥) → withSeen words n ≡ words
+  pub with-seen-old : (seenBit words n ≡ 0 → ⊥) → withSeen words n ≡ words
   unfolding withSeen
   with-seen-old ne = rw (withSeen, set-is ne)
 
-  pub with-seen-new : bitOf words n ≡ 0 → withSeen words n ≡ set words (n / 64) (getD words (n / 64) 0 + 2 ^ (n % 64))
+  pub with-seen-new : seenBit words n ≡ 0 → withSeen words n ≡ set words (n / 64) (getD words (n / 64) 0 + 2 ^ (n % 64))
   unfolding withSeen
   with-seen-new e = rw (withSeen, clear-is e)
 
-  pub with-seen-room : bitOf words n ≡ 0 → getD words (n / 64) 0 < 2 ^ 64 → getD words (n / 64) 0 + 2 ^ (n % 64) < 2 ^ 64
+  pub with-seen-room : seenBit words n ≡ 0 → getD words (n / 64) 0 < 2 ^ 64 → getD words (n / 64) 0 + 2 ^ (n % 64) < 2 ^ 64
   with-seen-room e h = bit-room (getD words (n / 64) 0) (n % 64) e h (omega arith)
 
   pub with-seen-outside : length words ≤ n / 64 → withSeen words n ≡ words
@@ -92,7 +92,7 @@ module _ (words : List ℕ) (n : ℕ) where
   pub seen-length : length (withSeen words n) ≡ length words
   seen-length =
       ⊎-elim (λ e. ap length (with-seen-new e) ∙ length-set words (n / 64) _) (λ ne. ap length (with-seen-old ne))
-      (eq-or-not (bitOf words n) 0)
+      (eq-or-not (seenBit words n) 0)
 
   pub seen-same : n / 64 < length words → isSeen (withSeen words n) n ≡ true
   seen-same h =
@@ -101,24 +101,24 @@ module _ (words : List ℕ) (n : ℕ) where
       rw (with-seen-new e, getD-set-same words (n / 64) (getD words (n / 64) 0 + 2 ^ (n % 64)) 0 h)
       (eq-eqb _ 1 (bit-same (getD words (n / 64) 0) (n % 64) e)))
       (λ ne. ap (λ (ws : List ℕ). isSeen ws n) (with-seen-old ne) ∙ set-is ne)
-      (eq-or-not (bitOf words n) 0)
+      (eq-or-not (seenBit words n) 0)
 
   pub seen-other : (m : ℕ) → (m ≡ n → ⊥) → isSeen (withSeen words n) m ≡ isSeen words m
   seen-other m ne =
       ⊎-elim (λ e. rw (with-seen-new e) (added e)) (λ old. ap (λ (ws : List ℕ). isSeen ws m) (with-seen-old old))
-      (eq-or-not (bitOf words n) 0)
+      (eq-or-not (seenBit words n) 0)
     where
       word : ℕ
       word = getD words (n / 64) 0
 
-      same-word : bitOf words n ≡ 0 → n / 64 < length words → m / 64 ≡ n / 64
+      same-word : seenBit words n ≡ 0 → n / 64 < length words → m / 64 ≡ n / 64
           → isSeen (set words (n / 64) (word + 2 ^ (n % 64))) m ≡ isSeen words m
       same-word clear h e =
           let apart : m % 64 ≡ n % 64 → ⊥ = λ d. ne (omega arith) in
           rw (e, getD-set-same words (n / 64) (word + 2 ^ (n % 64)) 0 h)
           (ap (λ (bit : ℕ). eqb bit 1) (bit-other word (n % 64) clear (m % 64) apart))
 
-      added : bitOf words n ≡ 0 → isSeen (set words (n / 64) (word + 2 ^ (n % 64))) m ≡ isSeen words m
+      added : seenBit words n ≡ 0 → isSeen (set words (n / 64) (word + 2 ^ (n % 64))) m ≡ isSeen words m
       added clear =
           ⊎-elim
           (λ e.

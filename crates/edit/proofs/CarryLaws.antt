@@ -16,6 +16,7 @@ use Rattle.eit.specs.Among.{isAmong}
 use Rattle.eit.specs.Find.{indexOf, placeOf}
 use Rattle.eit.specs.Sound.{idsOf, startsOf, inRange, hasChain}
 use Rattle.eit.specs.declared.Record.{Record}
+use Rattle.eit.proofs.Test.{not-not}
 use Rattle.eit.proofs.Find.{index-among, index-absent}
 use Rattle.eit.proofs.Records.{count-records}
 use Rattle.script.specs.Form.{Act, put, withdraw, move, doEdit}
@@ -35,10 +36,6 @@ holds e = rw e tt
 
 fails : {b : Bool} → b ≡ false → T (not b)
 fails e = rw e tt
-
-twice : (b : Bool) → T b → T (not (not b))
-twice true t = tt
-twice false t = absurd t
 
 -- the records that the code looks at are the list's
 pub held-records : (d : List ℕ) (count : ℕ) → count * recordSize ≤ length d
@@ -158,7 +155,7 @@ module _ (limit : ℕ) (day series : List ℕ) (d : List ℕ) (count : ℕ) (hel
         put-present h =
             refuses (put r) 6
             (put-6 (limitedTo limit) (lentPools day series) list r (holds range) (holds chain)
-            (twice (isAmong (r .id) (idsOf (recordsOf list))) (present (r .id) index found h)))
+            (not-not (isAmong (r .id) (idsOf (recordsOf list))) (present (r .id) index found h)))
 
         module _ (new : count ≤ index) (b : Bool) (starts : b ≡ isAmong (r .start) (startsOf (leaving count looked))) where
           its-starts : isAmong (r .start) (startsOf (recordsOf list)) ≡ b
@@ -172,7 +169,7 @@ module _ (limit : ℕ) (day series : List ℕ) (d : List ℕ) (count : ℕ) (hel
           put-taken e =
               refuses (put r) 7
               (put-7 (limitedTo limit) (lentPools day series) list r (holds range) (holds chain) (absent (r .id) index found new)
-              (twice (isAmong (r .start) (startsOf (recordsOf list))) (holds (its-starts ∙ e))))
+              (not-not (isAmong (r .start) (startsOf (recordsOf list))) (holds (its-starts ∙ e))))
 
           module _ (free : b ≡ false) where
             pub put-full : min (length d / recordSize) limit ≤ count → does (put r) ≡ refusal 8 at list

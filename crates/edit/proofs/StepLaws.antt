@@ -4,7 +4,7 @@ use mathlib.Core.Path.{_≡_, sym, ap, _∙_}
 use Prim.Native.Nat.{ℕ, suc, _-_, _*_, _/_, _≤_, _<_}
 use native.Mathlib.Omega.{arith}
 use mathlib.Core.List.{List, append-nil}
-use lib.Dec.{T, ltb, leb, lt→ltb, le→leb}
+use lib.Dec.{T}
 use lib.ListN.{length, drop, drop-of-length-le}
 use lib.Seq.{take-all}
 use Rattle.eit.specs.Records.{EventList, lentList, recordSize, recordsOf, recordsIn, frontRecord}
@@ -12,13 +12,12 @@ use Rattle.eit.specs.Among.{isAmong}
 use Rattle.eit.specs.Find.{indexOf, placeOf}
 use Rattle.eit.specs.Sound.{idsOf}
 use Rattle.eit.specs.declared.Record.{Record}
-use Rattle.eit.proofs.Test.{true-is}
 use Rattle.eit.proofs.Find.{index-length, place-length}
 use Rattle.eit.proofs.Records.{count-records, record-at}
 use Rattle.script.specs.Machine.{find, withStart, zeroRecord, afterPut, afterWithdraw, afterMove}
 use Rattle.script.proofs.Places.{find-at}
 use Rattle.script.proofs.Writes.{put-writes, withdraw-writes, move-is}
-use Rattle.event_list.proofs.HeldLaws.{removed-length}
+use Rattle.event_list.proofs.HeldLaws.{insert-is, remove-is, removed-length}
 use Rattle.event_list.specs.Held.{inserted, removed, leaving}
 
 -- all records but one that is not there
@@ -29,14 +28,10 @@ module _ (d : List ℕ) (count : ℕ) (held : count * recordSize ≤ length d) w
   -- PUT writes what `inserted` has, if there is room for one more
   pub put-inserts : (r : Record) → count < length d / recordSize
       → inserted d count (placeOf (r .start) (recordsOf (lentList d count))) r ≡ afterPut (lentList d count) r .buffer
-  unfolding inserted
   put-inserts r room =
       let rs : List Record = recordsOf (lentList d count) in
       let few : placeOf (r .start) rs ≤ count = omega (arith, place-length (r .start) rs, count-records (lentList d count)) in
-      let there : T (ltb count (length d / recordSize)) = lt→ltb count (length d / recordSize) room in
-      let place : T (leb (placeOf (r .start) rs) count) = le→leb (placeOf (r .start) rs) count few in
-      rw (inserted, true-is (ltb count (length d / recordSize)) there, true-is (leb (placeOf (r .start) rs) count) place)
-      (sym (put-writes (lentList d count) held r))
+      insert-is d count (placeOf (r .start) rs) r room few ∙ sym (put-writes (lentList d count) held r)
 
   module _ (id : ℕ) (a : T (isAmong id (idsOf (recordsOf (lentList d count))))) where
     index-few : indexOf id (recordsOf (lentList d count)) < count
@@ -45,13 +40,9 @@ module _ (d : List ℕ) (count : ℕ) (held : count * recordSize ≤ length d) w
 
     -- WITHDRAW writes what `removed` has
     pub withdraw-removes : removed d count (indexOf id (recordsOf (lentList d count))) ≡ afterWithdraw (lentList d count) id .buffer
-    unfolding removed
     withdraw-removes =
-        let i : ℕ = indexOf id (recordsOf (lentList d count)) in
-        let there : T (leb count (length d / recordSize)) = le→leb count (length d / recordSize) (omega arith) in
-        let inside : T (ltb i count) = lt→ltb i count index-few in
-        rw (removed, true-is (leb count (length d / recordSize)) there, true-is (ltb i count) inside)
-        (sym (withdraw-writes (lentList d count) held id a))
+        remove-is d count (indexOf id (recordsOf (lentList d count))) (omega arith) index-few
+        ∙ sym (withdraw-writes (lentList d count) held id a)
 
     -- the record of an id, out of the buffer
     pub found-at : find id (recordsOf (lentList d count)) ≡ frontRecord (drop (indexOf id (recordsOf (lentList d count)) * recordSize) d)

@@ -9,30 +9,30 @@ use Rattle.edit.specs.declared.answer.EditAnswer.the-variants.{WrongId, 
 use Rattle.edit.specs.declared.answer.Edited.{Edited}
 
 -- Edit's refusals and their numbers
-abbrev pub numberOf : EditAnswer → ℕ
-numberOf Done = 0
-numberOf Unsound = 12
-numberOf (Broken at) = 3
-numberOf (NothingToStrike at) = 4
-numberOf (OutOfRange at) = 5
-numberOf (WrongId at) = 6
-numberOf (StartTaken at) = 7
-numberOf (ListFull at) = 8
-numberOf (NoChain at) = 9
+abbrev pub answerNumber : EditAnswer → ℕ
+answerNumber Done = 0
+answerNumber Unsound = 12
+answerNumber (Broken at) = 3
+answerNumber (NothingToStrike at) = 4
+answerNumber (OutOfRange at) = 5
+answerNumber (WrongId at) = 6
+answerNumber (StartTaken at) = 7
+answerNumber (ListFull at) = 8
+answerNumber (NoChain at) = 9
 
 -- what is returned: on success the new count, of a refusal its offset, 0 for 12
-abbrev pub valueOf : ℕ → EditAnswer → ℕ
-valueOf count Done = count
-valueOf count Unsound = 0
-valueOf count (Broken at) = at
-valueOf count (NothingToStrike at) = at
-valueOf count (OutOfRange at) = at
-valueOf count (WrongId at) = at
-valueOf count (StartTaken at) = at
-valueOf count (ListFull at) = at
-valueOf count (NoChain at) = at
+abbrev pub answerValue : ℕ → EditAnswer → ℕ
+answerValue count Done = count
+answerValue count Unsound = 0
+answerValue count (Broken at) = at
+answerValue count (NothingToStrike at) = at
+answerValue count (OutOfRange at) = at
+answerValue count (WrongId at) = at
+answerValue count (StartTaken at) = at
+answerValue count (ListFull at) = at
+answerValue count (NoChain at) = at
 
 -- the answer, the count and the buffer as Edit's definition has them
 abbrev pub told : Edited → List ℕ → model.Edited
 told r buffer =
-    record { number = numberOf (r .answer); value = valueOf (r .count) (r .answer); list = lentList buffer (r .count) }
+    record { number = answerNumber (r .answer); value = answerValue (r .count) (r .answer); list = lentList buffer (r .count) }

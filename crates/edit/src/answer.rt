@@ -1,7 +1,7 @@
 // What Edit says: a case for each cause of 01's table ("When a call says no"), with the offset of the command's byte where it
 // returns one.
 ghost use mathlib.Core.Path.{_≡_};
-ghost use Rattle.edit.specs.Told.{numberOf, valueOf};
+ghost use Rattle.edit.specs.Told.{answerNumber, answerValue};
 
 pub enum EditAnswer {
     // The edits are carried out.
@@ -32,7 +32,7 @@ pub struct Edited {
 
 // 01's number of an answer.
 pub fn number_of(answer: EditAnswer) -> u32
-    ensures { λ r. ⌜ r ≡ numberOf answer ⌝ }
+    ensures { λ r. ⌜ r ≡ answerNumber answer ⌝ }
 {
     match answer {
         EditAnswer::Done => 0,
@@ -49,7 +49,7 @@ pub fn number_of(answer: EditAnswer) -> u32
 
 // 01's value of an answer, with the count then held.
 pub fn value_of(answer: EditAnswer, count: usize) -> usize
-    ensures { λ r. ⌜ r ≡ valueOf count answer ⌝ }
+    ensures { λ r. ⌜ r ≡ answerValue count answer ⌝ }
 {
     match answer {
         EditAnswer::Done => count,

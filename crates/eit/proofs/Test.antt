@@ -31,6 +31,10 @@ pub false-is : (a : Bool) → T (not a) → a ≡ false
 false-is true t = absurd t
 false-is false t = refl
 
+pub not-not : (a : Bool) → T a → T (not (not a))
+not-not true t = t
+not-not false t = absurd t
+
 -- a test holds or fails
 pub test-or : (a : Bool) → T a ⊎ T (not a)
 test-or true = inl tt

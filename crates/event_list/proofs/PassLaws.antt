@@ -18,13 +18,13 @@ use Rattle.eit.proofs.Test.{and-left, test-or, false-is}
 use Rattle.eit.proofs.Sound.{range-facts}
 use Rattle.codec.specs.Seen.{isSeen, withSeen}
 use Rattle.codec.proofs.SeenLaws.{SeenAre, seen-length, seen-empty, seen-more}
-use Rattle.event_list.specs.Forward.{isNext, soundFrom}
+use Rattle.event_list.specs.Forward.{mayFollow, soundFrom}
 use Rattle.event_list.proofs.ForwardLaws.{sound-held}
 use Rattle.event_list.proofs.RestLaws.{records-from, records-end}
 
 -- what the pass tests of the next record
-abbrev pub isNextBy : Pools → List ℕ → ℕ → Record → Bool
-isNextBy pools words least r = inRange r && (hasChain pools r && (leb least (r .start) && not (isSeen words (r .id))))
+abbrev pub mayFollowBy : Pools → List ℕ → ℕ → Record → Bool
+mayFollowBy pools words least r = inRange r && (hasChain pools r && (leb least (r .start) && not (isSeen words (r .id))))
 
 -- where the pass stands before record i: the words, with a bit for each id in range, hold the ids of the records passed, and the list
 -- is sound exactly if the records from i on may stand behind those
@@ -53,7 +53,7 @@ module _ {limit : ℕ} {pools : Pools} {d : List ℕ} {count : ℕ} {words : Lis
   -- the next record is tested
   module _ (r : Record) (h : i < count) (e : r ≡ frontRecord (drop (i * recordSize) d)) where
     -- for an id in range the test of the words is that of the ids seen
-    same-test : isNextBy pools words least r ≡ isNext pools (p .ids) least r
+    same-test : mayFollowBy pools words least r ≡ mayFollow pools (p .ids) least r
     same-test =
         ⊎-elim
         (λ t. let inside : r .id < 64 * length words = omega (arith, range-facts r t .id, p .size) in rw (p .held (r .id) inside))
@@ -61,15 +61,15 @@ module _ {limit : ℕ} {pools : Pools} {d : List ℕ} {count : ℕ} {words : Lis
         (test-or (inRange r))
 
     next-decides : sound (limitedTo limit) pools (lentList d count)
-        ≡ (isNextBy pools words least r && soundFrom pools (r .id ∷ p .ids) (suc (r .start)) (drop (suc i) (recordsIn count d)))
+        ≡ (mayFollowBy pools words least r && soundFrom pools (r .id ∷ p .ids) (suc (r .start)) (drop (suc i) (recordsIn count d)))
     next-decides =
         let split : drop i (recordsIn count d) ≡ r ∷ drop (suc i) (recordsIn count d) = rw e (records-from count d i h) in
         rw same-test (p .decided ∙ ap (soundFrom pools (p .ids) least) split)
 
-    pub pass-stop : isNextBy pools words least r ≡ false → sound (limitedTo limit) pools (lentList d count) ≡ false
+    pub pass-stop : mayFollowBy pools words least r ≡ false → sound (limitedTo limit) pools (lentList d count) ≡ false
     pass-stop f = rw f at next-decides
 
-    pub pass-more : isNextBy pools words least r ≡ true → {more : List ℕ} → more ≡ withSeen words (r .id)
+    pub pass-more : mayFollowBy pools words least r ≡ true → {more : List ℕ} → more ≡ withSeen words (r .id)
         → Pass limit pools d count more (r .start + 1) (i + 1)
     pass-more t m =
         let range : T (inRange r) = and-left (inRange r) _ (subst T (sym t) tt) in

@@ -10,9 +10,9 @@ use Rattle.eit.specs.Sound.{inRange, hasChain}
 use Rattle.eit.specs.declared.Record.{Record}
 
 -- the next record may stand behind those seen
-abbrev pub isNext : Pools → List ℕ → ℕ → Record → Bool
-isNext pools seen least r = inRange r && (hasChain pools r && (leb least (r .start) && not (isAmong (r .id) seen)))
+abbrev pub mayFollow : Pools → List ℕ → ℕ → Record → Bool
+mayFollow pools seen least r = inRange r && (hasChain pools r && (leb least (r .start) && not (isAmong (r .id) seen)))
 
 abbrev pub soundFrom : Pools → List ℕ → ℕ → List Record → Bool
 soundFrom pools seen least [] = true
-soundFrom pools seen least (r ∷ rs) = isNext pools seen least r && soundFrom pools (r .id ∷ seen) (suc (r .start)) rs
+soundFrom pools seen least (r ∷ rs) = mayFollow pools seen least r && soundFrom pools (r .id ∷ seen) (suc (r .start)) rs

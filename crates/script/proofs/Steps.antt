@@ -11,6 +11,7 @@ use Rattle.eit.specs.Records.{EventList, recordsOf}
 use Rattle.eit.specs.Among.{isAmong}
 use Rattle.eit.specs.Sound.{inRange, hasChain, idsOf, startsOf}
 use Rattle.eit.specs.declared.Record.{Record}
+use Rattle.eit.proofs.Test.{not-not}
 use Rattle.script.specs.Form.{put, withdraw, move}
 use Rattle.script.specs.Machine.{limitOf, without, afterPut, afterWithdraw, afterMove, Step, done, refused, check, step}
 
@@ -90,11 +91,7 @@ module _ (sizes : Sizes) (pools : Pools) (list : EventList) (id : ℕ) where
         unfolding step
         move-7 c =
             check-passed (ltb start startLimit) 5 _ range ∙ check-passed (isAmong id (idsOf (recordsOf list))) 6 _ old
-            ∙ check-failed (not (isAmong start (startsOf (without id (recordsOf list))))) 7 _ (twice (isAmong start (startsOf (without id (recordsOf list)))) c)
-          where
-            twice : (b : Bool) → T b → T (not (not b))
-            twice true t = t
-            twice false t = absurd t
+            ∙ check-failed (not (isAmong start (startsOf (without id (recordsOf list))))) 7 _ (not-not (isAmong start (startsOf (without id (recordsOf list)))) c)
 
         pub move-passes : T (not (isAmong start (startsOf (without id (recordsOf list)))))
             → step sizes pools list (move id start) ≡ done (afterMove list id start)

@@ -15,11 +15,11 @@ use Rattle.eit.specs.Events.{eventWith}
 use Rattle.codec.proofs.WriteLaws.{write-then}
 
 -- the four bits above a chain length
-pub status-small : (offAir freeCa : Bool) → runningStatus offAir * 0x2000 + bitOf freeCa * 0x1000 ≤ 0xB000
-status-small true true = omega arith
-status-small true false = omega arith
-status-small false true = omega arith
-status-small false false = omega arith
+pub status-bits-small : (offAir freeCa : Bool) → runningStatus offAir * 0x2000 + bitOf freeCa * 0x1000 ≤ 0xB000
+status-bits-small true true = omega arith
+status-bits-small true false = omega arith
+status-bits-small false true = omega arith
+status-bits-small false false = omega arith
 
 pub event-written : (d : List ℕ) (at base : ℕ) (r : Record) (chain : List ℕ) {d₁ d₂ d₃ d₄ d₅ : List ℕ} {word : ℕ}
     → at + (eventOverhead + length chain) ≤ length d

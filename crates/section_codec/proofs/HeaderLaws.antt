@@ -16,12 +16,12 @@ use Rattle.sections.specs.Encode.{lengthWord, versionByte, headerBytes}
 use Rattle.sections.specs.Decode.{headerIn}
 use Rattle.sections.proofs.HeaderBytes.{version-of}
 use Rattle.codec.specs.Write.{writeAt}
-use Rattle.section_codec.specs.HeaderRead.{headerOf, frontBytes, restBytes, headerTold, headerRead}
+use Rattle.section_codec.specs.HeaderRead.{heldHeader, frontBytes, restBytes, headerTold, headerRead}
 use Rattle.section_codec.specs.declared.header.SectionHeader.{SectionHeader}
 use Rattle.section_codec.specs.declared.header.HeaderRead.the-variants.{Header as Read, Short}
 use Rattle.codec.proofs.WriteLaws.{write-then}
 
-pub header-joined : (size : ℕ) (h : SectionHeader) → frontBytes size h ++ restBytes h ≡ headerBytes size (headerOf h)
+pub header-joined : (size : ℕ) (h : SectionHeader) → frontBytes size h ++ restBytes h ≡ headerBytes size (heldHeader h)
 unfolding headerBytes
 header-joined size h = rw (version-of (h .identity) (h .«table_id»))
 
@@ -66,7 +66,7 @@ module _ (d : List ℕ) (at : ℕ) (h : SectionHeader) where
 
 -- what was read, and what it says of the bytes
 module _ (bs : List ℕ) where
-  pub header-only : {h : SectionHeader} → headerTold (Read h) ≡ headerRead bs → (headerSize ≤ length bs) × (headerOf h ≡ headerIn bs)
+  pub header-only : {h : SectionHeader} → headerTold (Read h) ≡ headerRead bs → (headerSize ≤ length bs) × (heldHeader h ≡ headerIn bs)
   header-only {h} read =
       ⊎-elim
       (λ (enough : headerSize ≤ length bs).

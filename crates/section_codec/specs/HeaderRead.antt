@@ -15,8 +15,8 @@ use Rattle.section_codec.specs.declared.header.HeaderRead.{HeaderRead}
 use Rattle.section_codec.specs.declared.header.HeaderRead.the-variants.{Header as Read, Short}
 
 -- the header that the code's fields hold
-abbrev pub headerOf : SectionHeader → Header
-headerOf h =
+abbrev pub heldHeader : SectionHeader → Header
+heldHeader h =
     record {
       tableId = h .«table_id»;
       sectionNumber = h .«section_number»;
@@ -46,7 +46,7 @@ restBytes h =
 
 -- what reading a header tells
 abbrev pub headerTold : HeaderRead → Option Header
-headerTold (Read h) = some (headerOf h)
+headerTold (Read h) = some (heldHeader h)
 headerTold Short = none
 
 -- the header at the front of some bytes, if there are enough

@@ -7,7 +7,7 @@ ghost use lib.ListN.{length};
 ghost use Rattle.eit.specs.Fields.{field};
 ghost use Rattle.sections.specs.Encode.{lengthWord, headerBytes};
 ghost use Rattle.codec.specs.Write.{writeAt};
-ghost use Rattle.section_codec.specs.HeaderRead.{headerOf, frontBytes, restBytes, headerTold, headerRead};
+ghost use Rattle.section_codec.specs.HeaderRead.{heldHeader, frontBytes, restBytes, headerTold, headerRead};
 
 // What stands before a section's events, but for section_length and the fixed bits.
 pub struct SectionHeader {
@@ -68,7 +68,7 @@ fn write_rest(out: &mut [u8], at: usize, header: SectionHeader)
 // The header of a section of `size` bytes. A field holds only the bits that it has room for; a version above 31 reaches into the
 // bits above it.
 pub fn write_header(out: &mut [u8], at: usize, size: usize, header: SectionHeader)
-    ensures { λ _. ⌜ now (out .exit) ≡ writeAt (now (out .entry)) at (headerBytes size (headerOf header)) ⌝ }
+    ensures { λ _. ⌜ now (out .exit) ≡ writeAt (now (out .entry)) at (headerBytes size (heldHeader header)) ⌝ }
 {
     if !fields::is_within(out.len(), at, SIZE) {
         return;

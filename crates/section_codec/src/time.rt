@@ -17,12 +17,14 @@ pub enum TimeRead {
 
 const SECONDS_OF_DAY: u32 = 86_400;
 
-// The most hours of a start and of a duration, and the most minutes and seconds of both.
+// The most hours of a start and of a duration, and the most minutes and seconds of either.
 const START_HOURS_MOST: u32 = 23;
 
 const DURATION_HOURS_MOST: u32 = 99;
 
-const SIXTIETHS_MOST: u32 = 59;
+const MINUTES_MOST: u32 = 59;
+
+const SECONDS_MOST: u32 = 59;
 
 // Two BCD digits.
 fn to_bcd(n: u8) -> u8
@@ -93,7 +95,7 @@ fn is_time(most: u32, hours: u8, minutes: u8, seconds: u8) -> bool
     ensures { λ r. ⌜ r ≡ (isBcdUpTo most hours && (isBcdUpTo 59 minutes && isBcdUpTo 59 seconds)) ⌝ }
 {
     is_bcd_up_to(most, hours)
-        && (is_bcd_up_to(SIXTIETHS_MOST, minutes) && is_bcd_up_to(SIXTIETHS_MOST, seconds))
+        && (is_bcd_up_to(MINUTES_MOST, minutes) && is_bcd_up_to(SECONDS_MOST, seconds))
 }
 
 // The seconds of six BCD digits hhmmss.

@@ -4,7 +4,7 @@ use mathlib.Core.Path.{_≡_, sym}
 use Prim.Native.Nat.{_/_, _%_}
 use borrow.Author.Needs.{needs}
 use lib.Pow.{pow-pos}
-use Rattle.codec.proofs.SeenLaws.{bitOf, bit-shifted, with-seen-room, with-seen-old, with-seen-new, with-seen-outside}
+use Rattle.codec.proofs.SeenLaws.{seenBit, bit-shifted, with-seen-room, with-seen-old, with-seen-new, with-seen-outside}
 use Rattle.codec.proofs.seen.add_seen.Statement.{statement}
 use Rattle.codec.proofs.seen.add_seen.Tie as tie
 
@@ -38,7 +38,7 @@ add-words : tie.Need-add-words
 add-words c =
     let words = c .before .before .before .before .args .words .now in
     let n = c .before .before .before .before .args .number in
-    let clear : bitOf words n ≡ 0 = rw (bit-shifted n) at (c .before .if2 .taken) in
+    let clear : seenBit words n ≡ 0 = rw (bit-shifted n) at (c .before .if2 .taken) in
     rw (bit-shifted n) (record { fits = with-seen-room words n clear (c .slice-known2 .given (n / 64) .fits) })
 
 slice-write-words : tie.Need-slice-write-words
@@ -51,14 +51,14 @@ returns : tie.Need-returns
 returns c =
     let words = c .before .before .before .before .args .words .now in
     let n = c .before .before .before .before .args .number in
-    let clear : bitOf words n ≡ 0 = rw (bit-shifted n) at (c .before .if2 .taken) in
+    let clear : seenBit words n ≡ 0 = rw (bit-shifted n) at (c .before .if2 .taken) in
     rw (bit-shifted n) (sym (with-seen-new words n clear))
 
 returns-2 : tie.Need-returns-2
 returns-2 c =
     let words = c .before .before .before .args .words .now in
     let n = c .before .before .before .args .number in
-    let found : bitOf words n ≡ 0 → ⊥ = rw (bit-shifted n) at (c .if2 .left) in
+    let found : seenBit words n ≡ 0 → ⊥ = rw (bit-shifted n) at (c .if2 .left) in
     sym (with-seen-old words n found)
 
 returns-3 : tie.Need-returns-3

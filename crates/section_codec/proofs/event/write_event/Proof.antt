@@ -11,7 +11,7 @@ use Rattle.sections.specs.Encode.{eventBytes}
 use Rattle.sections.proofs.Lengths.{event-length}
 use Rattle.eit.specs.Events.{eventWith}
 use Rattle.codec.proofs.WriteLaws.{is-inside, is-outside, write-short}
-use Rattle.section_codec.proofs.EventWriteLaws.{status-small, event-written}
+use Rattle.section_codec.proofs.EventWriteLaws.{status-bits-small, event-written}
 use Rattle.section_codec.proofs.event.write_event.Statement.{statement}
 use Rattle.section_codec.proofs.event.write_event.Tie as tie
 
@@ -78,7 +78,7 @@ add-write-field-2 : tie.Need-add-write-field-2
 add-write-field-2 c =
     let entry = after-duration (c .before .before .before .before) .before .before .before .before in
     let marks = entry .args .event .marks in
-    omega (arith, c .status-bits .ensures, status-small (marksOffAir marks) (marksFreeCa marks), entry .good)
+    omega (arith, c .status-bits .ensures, status-bits-small (marksOffAir marks) (marksFreeCa marks), entry .good)
 
 write-field-requires-2 : tie.Need-write-field-requires-2
 write-field-requires-2 c κs = search needs

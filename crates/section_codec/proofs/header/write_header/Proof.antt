@@ -9,7 +9,7 @@ use Rattle.sections.specs.Section.{headerSize}
 use Rattle.sections.specs.Encode.{headerBytes}
 use Rattle.sections.proofs.Lengths.{header-length}
 use Rattle.codec.specs.Write.{writeAt}
-use Rattle.section_codec.specs.HeaderRead.{headerOf, frontBytes, restBytes}
+use Rattle.section_codec.specs.HeaderRead.{heldHeader, frontBytes, restBytes}
 use Rattle.codec.proofs.WriteLaws.{is-inside, is-outside, write-short, write-then}
 use Rattle.section_codec.proofs.HeaderLaws.{header-joined}
 use Rattle.section_codec.proofs.header.write_header.Statement.{statement}
@@ -22,8 +22,8 @@ returns : tie.Need-returns
 returns c =
     let a = c .before .before .before .args in
     let outside = is-outside (a .at) headerSize (length (now (a .out))) (c .before .is-within .ensures) (c .if1 .taken) in
-    let size = header-length (a .size) (headerOf (a .header)) in
-    sym (write-short (now (a .out)) (a .at) (headerBytes (a .size) (headerOf (a .header))) (omega arith))
+    let size = header-length (a .size) (heldHeader (a .header)) in
+    sym (write-short (now (a .out)) (a .at) (headerBytes (a .size) (heldHeader (a .header))) (omega arith))
 
 -- the header has room
 inside : (c : tie.Else1) → c .before .before .before .args .at + headerSize ≤ length (now (c .before .before .before .args .out))
