@@ -24,6 +24,24 @@ typedef struct EitEdited {
 EitEdited eit_edit(uint32_t *list, size_t list_length, size_t count, const uint8_t *day, size_t day_length,
                    const uint8_t *series, size_t series_length, const uint8_t *script, size_t script_length);
 
+/* What Build returns. */
+typedef struct EitBuilt {
+    uint32_t number; /* 0, or the refusal's: 1, 2, 10, 11, 12 */
+    size_t value;    /* success: the file's length; 10: the lowest unpackable segment index; 11: the bytes needed; 1, 2, 12: 0 */
+} EitBuilt;
+
+/* Writes the file of sections for an event list to the front of `out`; the bytes behind the file stay. A refusal leaves all of
+ * `out` as it was. The base day is a Modified Julian Date of at most 65,472, the version at most 31. */
+EitBuilt eit_build(const uint32_t *list, size_t list_length, size_t count, const uint8_t *day, size_t day_length,
+                   const uint8_t *series, size_t series_length, uint32_t base_day, uint16_t service_id,
+                   uint16_t transport_stream_id, uint16_t original_network_id, uint8_t version, uint8_t *out,
+                   size_t out_length);
+
+/* Writes 512 section counts, those of Build's packing: the 32 segments of table 0x50, then those of 0x51, up to 0x5F. A count is
+ * 0 outside its table's range and 255 for an unpackable segment; all are 254 if the list is unsound. */
+void eit_plan(const uint32_t *list, size_t list_length, size_t count, const uint8_t *day, size_t day_length,
+              const uint8_t *series, size_t series_length, uint8_t plan[512]);
+
 /* CRC_32 of the bytes: over a whole section it is 0. */
 uint32_t eit_crc32(const uint8_t *bytes, size_t bytes_length);
 

@@ -8,6 +8,13 @@ pub struct EitEdited {
     pub count: usize,
 }
 
+/// 01's number and value.
+#[repr(C)]
+pub struct EitBuilt {
+    pub number: u32,
+    pub value: usize,
+}
+
 extern "C" {
     fn eit_edit(
         list: *mut u32,
@@ -20,6 +27,34 @@ extern "C" {
         script: *const u8,
         script_length: usize,
     ) -> EitEdited;
+
+    fn eit_build(
+        list: *const u32,
+        list_length: usize,
+        count: usize,
+        day: *const u8,
+        day_length: usize,
+        series: *const u8,
+        series_length: usize,
+        base_day: u32,
+        service_id: u16,
+        transport_stream_id: u16,
+        original_network_id: u16,
+        version: u8,
+        out: *mut u8,
+        out_length: usize,
+    ) -> EitBuilt;
+
+    fn eit_plan(
+        list: *const u32,
+        list_length: usize,
+        count: usize,
+        day: *const u8,
+        day_length: usize,
+        series: *const u8,
+        series_length: usize,
+        plan: *mut [u8; 512],
+    );
 
     fn eit_crc32(bytes: *const u8, length: usize) -> u32;
 }
@@ -40,6 +75,43 @@ pub fn edit(list: &mut [u32], count: usize, day: &[u8], series: &[u8], script: &
             script.len(),
         )
     }
+}
+
+/// The ids are those of service, transport stream and original network.
+pub fn build(
+    list: &[u32],
+    count: usize,
+    day: &[u8],
+    series: &[u8],
+    base_day: u32,
+    [service_id, transport_stream_id, original_network_id]: [u16; 3],
+    version: u8,
+    out: &mut [u8],
+) -> EitBuilt {
+    // As above.
+    unsafe {
+        eit_build(
+            list.as_ptr(),
+            list.len(),
+            count,
+            day.as_ptr(),
+            day.len(),
+            series.as_ptr(),
+            series.len(),
+            base_day,
+            service_id,
+            transport_stream_id,
+            original_network_id,
+            version,
+            out.as_mut_ptr(),
+            out.len(),
+        )
+    }
+}
+
+pub fn plan(list: &[u32], count: usize, day: &[u8], series: &[u8], plan: &mut [u8; 512]) {
+    // As above; the plan's length is in its type.
+    unsafe { eit_plan(list.as_ptr(), list.len(), count, day.as_ptr(), day.len(), series.as_ptr(), series.len(), plan) }
 }
 
 pub fn crc32(bytes: &[u8]) -> u32 {

@@ -8,7 +8,7 @@ use crate::random::Random;
 use crate::scripts::{bytes, Command};
 
 pub fn run(comparison: &mut Comparison) -> Result<(), String> {
-    let random = &mut comparison.group("chains");
+    let random = &mut comparison.groups.begin("chains");
     for length in (0..=600).chain(4_060..=4_072).chain([65_535]) {
         for marks in [1, 6] {
             if length == 1 {

@@ -1,13 +1,16 @@
 //! One case of Edit: the library, or what stands in for it, is compared with the other implementation.
 
+use crate::groups::Groups;
 use crate::guarded::Guarded;
 use crate::lists::List;
 use crate::other::{self, Answer};
 use crate::pools::Pools;
 use crate::random::Random;
-use crate::tally::Tally;
+use crate::tally::{in_order, Precedence, Tally};
 
 const FIRST_SEED: u64 = 300_468;
+
+const ANSWERS: [u32; 9] = [0, 3, 4, 5, 6, 7, 8, 9, 12];
 
 /// What stands beside the buffer: a number that is nowhere in range, or zeros, which a list that is read too far takes for
 /// good.
@@ -20,21 +23,18 @@ pub type Edit = fn(&mut [u32], usize, &[u8], &[u8], &[u8]) -> Answer;
 pub struct Comparison {
     subject: Edit,
     pub tally: Tally,
-    /// The groups of cases so far and their seeds, the running one last.
-    pub groups: Vec<(&'static str, u64)>,
+    pub groups: Groups,
     guards: Random,
 }
 
 impl Comparison {
     pub fn new(subject: Edit) -> Comparison {
-        Comparison { subject, tally: Tally::default(), groups: Vec::new(), guards: Random::new(FIRST_SEED) }
-    }
-
-    /// Begins a group of cases, with a seed of its own.
-    pub fn group(&mut self, name: &'static str) -> Random {
-        let seed = FIRST_SEED + self.groups.len() as u64;
-        self.groups.push((name, seed));
-        Random::new(seed)
+        Comparison {
+            subject,
+            tally: Tally::new(&ANSWERS, precedences()),
+            groups: Groups::new(FIRST_SEED),
+            guards: Random::new(FIRST_SEED),
+        }
     }
 
     /// Both implementations answer alike, and leave the whole buffer alike.
@@ -49,6 +49,7 @@ impl Comparison {
         let script_as_lent = lent_script.clone();
         let got = (self.subject)(got_list.inside_mut(), list.count, day, series, lent_script.inside());
 
+        self.tally.cases += 1;
         self.tally.answer(wanted.number);
         let fault = if got != wanted {
             format!("answered {got:?}, and the other implementation {wanted:?}")
@@ -88,18 +89,23 @@ impl Comparison {
     }
 
     fn describe(&self, fault: &str, pools: &Pools, list: &List, script: &[u8]) -> String {
-        let (name, seed) = self.groups.last().copied().unwrap_or_default();
         let hex: String = script.iter().take(96).map(|byte| format!("{byte:02X}")).collect();
-        let records: Vec<_> = list.numbers.chunks(6).take(8).collect();
         format!(
-            "Edit {fault}\n  group {name}, seed {seed}, case {}\n  count {}, buffer of {} numbers, first {records:?}\n  \
-             day pool of {} bytes, series pool of {}\n  script of {} bytes, first {hex}",
+            "Edit {fault}\n  {}, case {}\n  {}\n  script of {} bytes, first {hex}",
+            self.groups.running(),
             self.tally.cases,
-            list.count,
-            list.numbers.len(),
-            pools.day.bytes().len(),
-            pools.series.bytes().len(),
+            list.describe(pools),
             script.len(),
         )
     }
+}
+
+/// Every precedence of 01, "When a call says no": Edit's order over the call, and per edit.
+fn precedences() -> Vec<Precedence> {
+    let mut all = vec![("MOVE", 5, 6), ("MOVE", 6, 7)];
+    all.extend(in_order("PUT", &[5, 9, 6, 7, 8]));
+    // Of two edits' refusals the earlier edit's comes, so the call orders 12, 3 and 4 alone.
+    let call = in_order("call", &[12, 3, 4, 5, 9, 6, 7, 8]);
+    all.extend(call.into_iter().filter(|(_, first, _)| [12, 3, 4].contains(first)));
+    all
 }

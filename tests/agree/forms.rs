@@ -7,7 +7,7 @@ use crate::pools::Pools;
 use crate::scripts::{bytes, Command};
 
 pub fn run(comparison: &mut Comparison) -> Result<(), String> {
-    let random = &mut comparison.group("forms");
+    let random = &mut comparison.groups.begin("forms");
     let pools = Pools::of_lengths(random, 60, 40);
     for _ in 0..4 {
         let list = List::sound(random, &pools, 4, 6 * 8 + 5);

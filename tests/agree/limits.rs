@@ -9,7 +9,7 @@ use crate::random::Random;
 use crate::scripts::{bytes, Command};
 
 pub fn run(comparison: &mut Comparison) -> Result<(), String> {
-    let random = &mut comparison.group("limits");
+    let random = &mut comparison.groups.begin("limits");
     let pools = Pools::of_lengths(random, 60, 40);
     for numbers in 0..=40 {
         for count in 0..=numbers / 6 {

@@ -15,6 +15,7 @@ pub const START: usize = 1;
 pub const DURATION: usize = 2;
 pub const MARKS: usize = 3;
 pub const OFFSET: usize = 4;
+pub const LENGTH: usize = 5;
 
 /// The lowest bit above each field's range. Offset and length have their pool for a range.
 const ABOVE_RANGE: [usize; 4] = [16, 23, 19, 3];
@@ -24,7 +25,7 @@ pub fn high_bit(random: &mut Random, field: usize) -> u32 {
     random.bit(ABOVE_RANGE[field], 31)
 }
 
-/// A buffer and a count, as they are lent to Edit.
+/// A buffer and a count, as they are lent to a call.
 #[derive(Clone)]
 pub struct List {
     pub numbers: Vec<u32>,
@@ -61,6 +62,18 @@ impl List {
         self.numbers[NUMBERS * place + field]
     }
 
+    /// What is lent, for the message about a difference.
+    pub fn describe(&self, pools: &Pools) -> String {
+        let records: Vec<_> = self.numbers.chunks(NUMBERS).take(8).collect();
+        format!(
+            "count {}, buffer of {} numbers, first {records:?}\n  day pool of {} bytes, series pool of {}",
+            self.count,
+            self.numbers.len(),
+            pools.day.bytes().len(),
+            pools.series.bytes().len(),
+        )
+    }
+
     fn with(&self, place: usize, field: usize, values: &[u32]) -> List {
         let mut changed = self.clone();
         changed.set(place, field, values);
@@ -81,7 +94,7 @@ pub fn record(random: &mut Random, pools: &Pools) -> [u32; NUMBERS] {
     [random.number() & 0xFFFF, start, duration, marks, offset, length]
 }
 
-fn new_id(random: &mut Random, ids: &mut HashSet<u32>, end: usize) -> u32 {
+pub fn new_id(random: &mut Random, ids: &mut HashSet<u32>, end: usize) -> u32 {
     loop {
         let id = random.below(end) as u32;
         if ids.insert(id) {
@@ -92,12 +105,16 @@ fn new_id(random: &mut Random, ids: &mut HashSet<u32>, end: usize) -> u32 {
 
 /// That many starts, rising; crowded ones stand close together.
 fn starts(random: &mut Random, count: usize, crowded: bool) -> BTreeSet<u32> {
-    let end = if crowded { 2 * count + 8 } else { START_END as usize };
-    let mut starts = BTreeSet::new();
-    while starts.len() < count {
-        starts.insert(random.below(end) as u32);
+    rising(random, count, if crowded { 2 * count + 8 } else { START_END as usize })
+}
+
+/// That many numbers below `end`, rising. There are as many.
+pub fn rising(random: &mut Random, count: usize, end: usize) -> BTreeSet<u32> {
+    let mut numbers = BTreeSet::new();
+    while numbers.len() < count {
+        numbers.insert(random.below(end) as u32);
     }
-    starts
+    numbers
 }
 
 /// The list, of at least one event, with one value at its limit each: all are sound.

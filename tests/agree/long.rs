@@ -11,7 +11,7 @@ use crate::scripts::{bytes, unstruck, Command};
 const MB: usize = 1 << 20;
 
 pub fn run(comparison: &mut Comparison) -> Result<(), String> {
-    let random = &mut comparison.group("long");
+    let random = &mut comparison.groups.begin("long");
     let pools = Pools::of_lengths(random, 300, 200);
     for number in 3..=9 {
         // From 64 KB to 2 MB, so that each bit of the offset from 16 to 20 counts.

@@ -2,6 +2,7 @@
 //! with `--self-check` it does only that.
 
 mod breaking;
+mod build;
 mod chains;
 mod crcs;
 mod edits;
@@ -9,9 +10,13 @@ mod edits;
 mod face;
 mod faults;
 mod forms;
+mod groups;
 mod guarded;
 mod held;
+#[path = "../library.rs"]
+mod library;
 mod limits;
+mod lineup;
 mod lists;
 mod long;
 mod mixed;
@@ -22,11 +27,11 @@ mod precedence;
 mod random;
 mod scripts;
 mod soundness;
+mod stock;
 mod tally;
 mod undo;
 
 use edits::Comparison;
-use other::Answer;
 use std::process::ExitCode;
 
 fn main() -> ExitCode {
@@ -45,22 +50,31 @@ fn main() -> ExitCode {
 }
 
 fn self_check() -> Result<Vec<String>, String> {
-    let faults = faults::run(all_groups)?;
+    let faults = [faults::run(all_groups)?, build::self_check()?].concat();
     println!("self-check  {} faults, each shown", faults.len());
     Ok(faults)
 }
 
 fn compare() -> Result<(), String> {
-    let mut comparison = Comparison::new(library);
-    all_groups(&mut comparison)?;
+    let mut edits = Comparison::new(library::edit);
+    all_groups(&mut edits)?;
     let crcs = crcs::run(face::crc32)?;
+    let mut builds = build::Comparison::new(build::Subject { build: library::build, plan: library::plan });
+    build::all_groups(&mut builds)?;
 
-    let tally = &comparison.tally;
-    let seeds: Vec<_> = comparison.groups.iter().map(|(name, seed)| format!("{name} {seed}")).collect();
-    println!("Edit        {} cases agree\n{}", tally.cases, tally.summary());
+    let tallies = [("Edit", &edits.tally), ("Build", &builds.tally), ("Plan", &builds.entries)];
+    for (call, tally) in tallies {
+        println!("{call:<12}{} cases agree\nanswers     {}", tally.cases, tally.answers());
+        if let Some(precedences) = tally.precedences() {
+            println!("precedences {precedences}");
+        }
+    }
     println!("CRC_32      {crcs} inputs agree");
-    println!("seeds       {}, CRC_32 {}", seeds.join(", "), crcs::SEED);
-    let missing = tally.missing();
+    println!("seeds       {}, CRC_32 {}, {}", edits.groups.seeds(), crcs::SEED, builds.groups.seeds());
+    let missing: Vec<_> = tallies
+        .iter()
+        .flat_map(|(call, tally)| tally.missing().into_iter().map(move |what| format!("{call}'s {what}")))
+        .collect();
     if missing.is_empty() {
         return Ok(());
     }
@@ -76,9 +90,4 @@ fn all_groups(comparison: &mut Comparison) -> Result<(), String> {
     soundness::run(comparison)?;
     mixed::run(comparison)?;
     long::run(comparison)
-}
-
-fn library(list: &mut [u32], count: usize, day: &[u8], series: &[u8], script: &[u8]) -> Answer {
-    let face::EitEdited { number, value, count } = face::edit(list, count, day, series, script);
-    Answer { number, value, count }
 }

@@ -8,7 +8,7 @@ use crate::random::Random;
 use crate::scripts::{bytes, Command};
 
 pub fn run(comparison: &mut Comparison) -> Result<(), String> {
-    let random = &mut comparison.group("mixed");
+    let random = &mut comparison.groups.begin("mixed");
     for (day, series) in [(0, 0), (50, 0), (500, 300), (9_000, 70_000)] {
         let pools = Pools::of_lengths(random, day, series);
         let sizes = [(12, 30, 2_000), (200, 100, 200), (EVENTS_MAX, 300, 100), (EVENTS_MAX, 30_000, 2)];

@@ -2,6 +2,7 @@
 
 use crate::guarded::Guarded;
 use crate::random::Random;
+use crate::stock::Stock;
 
 /// A lent pool, most often one chain from end to end.
 #[derive(Clone)]
@@ -20,22 +21,9 @@ impl Pool {
 
     /// A chain of that many bytes, which are not 1: no chain has one byte.
     pub fn of_length(random: &mut Random, length: usize) -> Pool {
-        let mut bytes: Vec<u8> = Vec::with_capacity(length);
-        let mut cuts = vec![0];
-        while bytes.len() < length {
-            let left = length - bytes.len();
-            let most = if random.one_in(4) { 257 } else { 16 };
-            let mut descriptor = (2 + random.below(most - 1)).min(left);
-            if left - descriptor == 1 {
-                // One byte would stay, which is no descriptor.
-                descriptor = if descriptor > 2 { descriptor - 1 } else { left };
-            }
-            bytes.push(random.byte());
-            bytes.push((descriptor - 2) as u8);
-            bytes.extend((2..descriptor).map(|_| random.byte()));
-            cuts.push(bytes.len());
-        }
-        Pool::new(&bytes, cuts)
+        let mut stock = Stock::new();
+        stock.append(random, length);
+        stock.pool()
     }
 
     /// The same pool with one descriptor's length byte one off, which leaves no chain up to the end if it is the last one's.

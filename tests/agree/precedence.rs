@@ -12,7 +12,7 @@ use crate::scripts::{bytes, unstruck, Command};
 const ORDER: [u32; 5] = [5, 9, 6, 7, 8];
 
 pub fn run(comparison: &mut Comparison) -> Result<(), String> {
-    let random = &mut comparison.group("precedence");
+    let random = &mut comparison.groups.begin("precedence");
     for (day, series) in [(200, 90), (0, 30), (30, 0), (0, 0)] {
         let pools = Pools::of_lengths(random, day, series);
         for _ in 0..24 {

@@ -8,7 +8,7 @@ use crate::random::Random;
 use crate::scripts::bytes;
 
 pub fn run(comparison: &mut Comparison) -> Result<(), String> {
-    let random = &mut comparison.group("soundness");
+    let random = &mut comparison.groups.begin("soundness");
     for (day, series) in [(0, 0), (0, 40), (40, 0), (300, 200)] {
         let pools = Pools::of_lengths(random, day, series);
         for (count, times) in [(1, 10), (2, 10), (3, 10), (12, 20), (100, 4), (EVENTS_MAX, 1)] {

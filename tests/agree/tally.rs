@@ -2,21 +2,27 @@
 
 use std::collections::BTreeMap;
 
-const ANSWERS: [u32; 9] = [0, 3, 4, 5, 6, 7, 8, 9, 12];
-
 /// Two refusals that one input asks for, by the command that breaks both rules or by the whole call: the first one comes.
 pub type Precedence = (&'static str, u32, u32);
 
-#[derive(Default)]
 pub struct Tally {
     pub cases: usize,
+    /// What must come up stands here from the start, with 0.
     answers: BTreeMap<u32, usize>,
     precedences: BTreeMap<Precedence, usize>,
 }
 
 impl Tally {
+    /// The answers and precedences that must come up.
+    pub fn new(answers: &[u32], precedences: Vec<Precedence>) -> Tally {
+        Tally {
+            cases: 0,
+            answers: answers.iter().map(|number| (*number, 0)).collect(),
+            precedences: precedences.into_iter().map(|precedence| (precedence, 0)).collect(),
+        }
+    }
+
     pub fn answer(&mut self, number: u32) {
-        self.cases += 1;
         *self.answers.entry(number).or_default() += 1;
     }
 
@@ -26,37 +32,29 @@ impl Tally {
 
     /// The answers and precedences that never came up.
     pub fn missing(&self) -> Vec<String> {
-        let answers = ANSWERS.iter().filter(|number| !self.answers.contains_key(number));
-        let precedences = precedences().into_iter().filter(|name| !self.precedences.contains_key(name));
+        let answers = self.answers.iter().filter(|(_, times)| **times == 0);
+        let precedences = self.precedences.iter().filter(|(_, times)| **times == 0);
         answers
-            .map(|number| format!("answer {number}"))
-            .chain(precedences.map(|(by, first, second)| format!("{first} before {second} ({by})")))
+            .map(|(number, _)| format!("answer {number}"))
+            .chain(precedences.map(|((by, first, second), _)| format!("{first} before {second} ({by})")))
             .collect()
     }
 
-    /// The answers and precedences with how often each came up.
-    pub fn summary(&self) -> String {
+    /// The answers with how often each came up.
+    pub fn answers(&self) -> String {
         let answers: Vec<_> = self.answers.iter().map(|(number, times)| format!("{number}: {times}")).collect();
-        let least = self.precedences.values().min().copied().unwrap_or_default();
-        format!(
-            "answers     {}\nprecedences {} of two refusals, each tried {least} times or more",
-            answers.join(", "),
-            self.precedences.len(),
-        )
+        answers.join(", ")
+    }
+
+    /// How often each precedence was tried, if there are any.
+    pub fn precedences(&self) -> Option<String> {
+        let least = self.precedences.values().min()?;
+        Some(format!("{} of two refusals, each tried {least} times or more", self.precedences.len()))
     }
 }
 
-/// Every precedence of 01, "When a call says no": Edit's order over the call, and per edit.
-fn precedences() -> Vec<Precedence> {
-    let mut all = vec![("MOVE", 5, 6), ("MOVE", 6, 7)];
-    all.extend(in_order("PUT", &[5, 9, 6, 7, 8]));
-    // Of two edits' refusals the earlier edit's comes, so the call orders 12, 3 and 4 alone.
-    let call = in_order("call", &[12, 3, 4, 5, 9, 6, 7, 8]);
-    all.extend(call.into_iter().filter(|(_, first, _)| [12, 3, 4].contains(first)));
-    all
-}
-
-fn in_order(by: &'static str, order: &[u32]) -> Vec<Precedence> {
+/// Each two of an order of checks.
+pub fn in_order(by: &'static str, order: &[u32]) -> Vec<Precedence> {
     let pairs = (0..order.len()).flat_map(|k| order[k + 1..].iter().map(move |second| (by, order[k], *second)));
     pairs.collect()
 }

@@ -8,7 +8,7 @@ use crate::random::Random;
 use crate::scripts::{bytes, Command};
 
 pub fn run(comparison: &mut Comparison) -> Result<(), String> {
-    let random = &mut comparison.group("UNDO");
+    let random = &mut comparison.groups.begin("UNDO");
     let pools = Pools::of_lengths(random, 60, 40);
     for length in 0..=10 {
         for pattern in 0..1u32 << length {

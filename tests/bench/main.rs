@@ -1,21 +1,27 @@
 //! Times the library, through its C face, beside the other implementation on the same inputs. Nothing fails for being slow.
 
-mod crc;
+mod builds;
 #[path = "../face.rs"]
 mod face;
-#[path = "../other/mod.rs"]
-mod other;
+#[path = "../library.rs"]
+mod library;
+mod table;
 
-// The comparison's makers of inputs, of which a part is needed here.
+// The other implementation and the comparison's makers of inputs, of which a part is needed here.
 #[allow(dead_code)]
 #[path = "../agree/guarded.rs"]
 mod guarded;
 #[allow(dead_code)]
 #[path = "../agree/held.rs"]
 mod held;
+#[path = "../agree/lineup.rs"]
+mod lineup;
 #[allow(dead_code)]
 #[path = "../agree/lists.rs"]
 mod lists;
+#[allow(dead_code, unused_imports)]
+#[path = "../other/mod.rs"]
+mod other;
 #[allow(dead_code)]
 #[path = "../agree/pools.rs"]
 mod pools;
@@ -24,6 +30,8 @@ mod random;
 #[allow(dead_code)]
 #[path = "../agree/scripts.rs"]
 mod scripts;
+#[path = "../agree/stock.rs"]
+mod stock;
 
 use held::Held;
 use lists::{List, EVENTS_MAX};
@@ -32,23 +40,17 @@ use pools::Pools;
 use random::Random;
 use scripts::{bytes, Command};
 use std::hint::black_box;
-use std::time::{Duration, Instant};
+use std::time::Instant;
+use table::{head, row, shortest, size_name, KB};
 
 const SEED: u64 = 101_154;
-const KB: usize = 1 << 10;
 const SCRIPTS: [usize; 6] = [KB, 4 * KB, 16 * KB, 64 * KB, 256 * KB, 1_024 * KB];
-
-/// How long one measurement goes on, unless fewer than the least calls are done by then, or the most are earlier. A call
-/// that takes longer is not repeated.
-const BUDGET: Duration = Duration::from_millis(200);
-const CALLS_MIN: usize = 5;
-const CALLS_MAX: usize = 1_000;
 
 fn main() {
     let random = &mut Random::new(SEED);
     let pools = Pools::of_lengths(random, 20_000, 20_000);
     println!("Time per call, the shortest of many; seed {SEED}. KB and MB are 2^10 and 2^20 bytes.");
-    println!("Growth is the time over that of the row above, for four times the script.\n");
+    println!("Growth is the time over that of the row above, for four times the script or the events.\n");
 
     head("Edit, no script (soundness)");
     for (name, count) in [("1,024 events", EVENTS_MAX / 2), ("2,048 events", EVENTS_MAX)] {
@@ -63,10 +65,12 @@ fn main() {
         script(random, &pools, &list, size, Some(usize::MAX))
     });
 
+    builds::run(random);
+
     head("CRC_32, beside one table");
     for (size, calls) in [(64, 1_000), (4 * KB, 50), (1_024 * KB, 1)] {
         let input: Vec<_> = (0..size).map(|_| random.byte()).collect();
-        let subjects = [face::crc32, crc::crc32];
+        let subjects = [face::crc32, other::crc32_by_table];
         assert_eq!(subjects.map(|crc| crc(&input)), [other::crc32(&input); 2], "the two disagree");
         let times = subjects.map(|crc| {
             shortest(|| {
@@ -130,59 +134,8 @@ fn edit_row(name: &str, size: usize, pools: &Pools, list: &List, script: &[u8], 
         (begun.elapsed(), answer)
     };
     let (_, answer) = call(other::edit);
-    assert_eq!((answer.number, answer), (0, call(library).1), "a refusal, or the two disagree");
-    let times = [library, other::edit].map(|edit| shortest(|| call(edit).0));
+    assert_eq!((answer.number, answer), (0, call(library::edit).1), "a refusal, or the two disagree");
+    let times = [library::edit, other::edit].map(|edit| shortest(|| call(edit).0));
     row(name, size, times, before);
     times
-}
-
-fn library(list: &mut [u32], count: usize, day: &[u8], series: &[u8], script: &[u8]) -> Answer {
-    let face::EitEdited { number, value, count } = face::edit(list, count, day, series, script);
-    Answer { number, value, count }
-}
-
-/// The shortest time of a call in seconds, which other programs on the machine disturb least.
-fn shortest(mut call: impl FnMut() -> Duration) -> f64 {
-    let begun = Instant::now();
-    let mut shortest = call();
-    for calls in 1..CALLS_MAX {
-        if begun.elapsed() > BUDGET && (calls >= CALLS_MIN || shortest > BUDGET) {
-            break;
-        }
-        shortest = shortest.min(call());
-    }
-    shortest.as_secs_f64()
-}
-
-fn head(title: &str) {
-    println!(
-        "{title:<36}{:>10}{:>10}{:>8}{:>12}{:>10}{:>8}{:>9}",
-        "library", "MB/s", "growth", "other", "MB/s", "growth", "ratio"
-    );
-}
-
-fn row(name: &str, size: usize, times: [f64; 2], before: Option<[f64; 2]>) {
-    print!("  {name:<32}");
-    for (which, time) in times.iter().enumerate() {
-        let speed = size as f64 / (KB * KB) as f64 / time;
-        let growth = before.map_or(String::new(), |before| format!("{:.2}", time / before[which]));
-        print!("{:>12}{speed:>10.2}{growth:>8}", duration_name(*time));
-    }
-    println!("{:>9.2}", times[0] / times[1]);
-}
-
-fn duration_name(seconds: f64) -> String {
-    match seconds {
-        s if s < 1e-6 => format!("{:.1} ns", s * 1e9),
-        s if s < 1e-3 => format!("{:.1} us", s * 1e6),
-        s => format!("{:.2} ms", s * 1e3),
-    }
-}
-
-fn size_name(size: usize) -> String {
-    if size < KB {
-        format!("{size} B")
-    } else {
-        format!("{} KB", size / KB)
-    }
 }

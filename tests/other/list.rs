@@ -62,7 +62,8 @@ impl<'a> Pools<'a> {
         self.part(event).is_some_and(is_chain)
     }
 
-    fn part(&self, event: &Event) -> Option<&'a [u8]> {
+    /// The event's part of its pool, if it lies in it.
+    pub fn part(&self, event: &Event) -> Option<&'a [u8]> {
         let pool = if event.marks & SERIES_POOL != 0 { self.series } else { self.day };
         let offset = event.offset as usize;
         let end = offset.checked_add(event.length as usize)?;
@@ -123,6 +124,10 @@ impl List {
 
     pub fn len(&self) -> usize {
         self.by_start.len()
+    }
+
+    pub fn events(&self) -> impl Iterator<Item = &Event> {
+        self.by_start.values()
     }
 
     pub fn start_of(&self, id: u32) -> Option<u32> {

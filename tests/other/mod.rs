@@ -1,9 +1,20 @@
 //! Another implementation of document 01, written from the paper alone and in a shape of its own. The library's answers are
 //! compared with it.
 
+mod build;
 mod crc;
+mod crc_table;
 mod edit;
 mod list;
+mod plan;
+mod schedule;
+mod section;
 
+pub use build::{build, build_by, Built};
 pub use crc::crc32;
+pub use crc_table::crc32_by_table;
 pub use edit::{edit, Answer};
+pub use list::Event;
+pub use plan::{plan, Plan};
+pub use schedule::{pack, pack_within, Lent, EVENT_FRONT, EVENT_ROOM};
+pub use section::Identity;

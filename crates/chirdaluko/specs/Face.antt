@@ -1,9 +1,20 @@
--- What a struct of the face and the lent buffer say, as the outcome of the call's definition. Assumes nothing.
+-- What the face's numbers say: the identity that a call is given, and a struct and the lent buffer as the outcome of the call's
+-- definition. Assumes nothing.
 use mathlib.Core.List.{List}
 use Prim.Native.Nat.{ℕ}
 use Rattle.eit.specs.Records.{lentList}
+use Rattle.eit.specs.declared.Identity.{Identity}
 use Rattle.script.specs.Edit.{Edited}
+use Rattle.schedule.specs.Build.{Built}
 use Rattle.chirdaluko.specs.declared.EitEdited.{EitEdited}
+use Rattle.chirdaluko.specs.declared.EitBuilt.{EitBuilt}
+
+abbrev pub identityOf : ℕ → ℕ → ℕ → ℕ → Identity
+identityOf service stream network version =
+    record { «service_id» = service; «transport_stream_id» = stream; «original_network_id» = network; version = version }
 
 abbrev pub editedOf : EitEdited → List ℕ → Edited
 editedOf r buffer = record { number = r .number; value = r .value; list = lentList buffer (r .count) }
+
+abbrev pub builtOf : EitBuilt → List ℕ → Built
+builtOf r output = record { number = r .number; value = r .value; output = output }

@@ -1,14 +1,18 @@
 // The face for C and Rust: numbers and slices only (include/chirdaluko.h). Each call turns an answer into document 01's numbers,
 // and has the same equation as the call behind it.
+use build::tables;
 use codec::crc;
-use edit::answer;
+use eit::Identity;
 ghost use mathlib.Core.Path.{_≡_};
+ghost use mathlib.Core.List.{flatten};
 ghost use Rattle.eit.specs.Crc.{crc32};
 ghost use Rattle.eit.specs.Sizes.{broadcast};
 ghost use Rattle.eit.specs.Pools.{lentPools};
 ghost use Rattle.eit.specs.Records.{lentList};
 ghost use Rattle.script.specs.Edit.{edit};
-ghost use Rattle.chirdaluko.specs.Face.{editedOf};
+ghost use Rattle.schedule.specs.Plan.{plan};
+ghost use Rattle.schedule.specs.Build.{build};
+ghost use Rattle.chirdaluko.specs.Face.{editedOf, builtOf, identityOf};
 
 // What Edit returns: document 01's number and value, and the count then held.
 #[repr(C)]
@@ -16,6 +20,13 @@ pub struct EitEdited {
     pub number: u32,
     pub value: usize,
     pub count: usize,
+}
+
+// What Build returns: document 01's number and value.
+#[repr(C)]
+pub struct EitBuilt {
+    pub number: u32,
+    pub value: usize,
 }
 
 // Edit: number, value, count and every number of the list are those of the definition.
@@ -36,10 +47,58 @@ pub extern "C" fn eit_edit<'a>(
     let said = r.answer;
     let held = r.count;
     EitEdited {
-        number: answer::number_of(said),
-        value: answer::value_of(said, held),
+        number: edit::answer::number_of(said),
+        value: edit::answer::value_of(said, held),
         count: held,
     }
+}
+
+// Build: number, value and every byte of the output are those of the definition.
+#[no_mangle]
+pub extern "C" fn eit_build<'a>(
+    list: &[u32],
+    count: usize,
+    day: &'a [u8],
+    series: &'a [u8],
+    base_day: u32,
+    service_id: u16,
+    transport_stream_id: u16,
+    original_network_id: u16,
+    version: u8,
+    out: &mut [u8],
+) -> EitBuilt
+    ensures { λ r. ⌜
+        build broadcast (lentPools (now (day .entry)) (now (series .entry))) (lentList (now (list .entry)) count) «base_day»
+        (identityOf «service_id» «transport_stream_id» «original_network_id» version) (now (out .entry))
+        ≡ builtOf r (now (out .exit)) ⌝ }
+{
+    let identity = Identity {
+        service_id,
+        transport_stream_id,
+        original_network_id,
+        version,
+    };
+    let said = build::build(list, count, day, series, base_day, identity, out);
+    EitBuilt {
+        number: build::answer::number_of(said),
+        value: build::answer::value_of(said),
+    }
+}
+
+// Plan: its sixteen tables of thirty-two section counts, one behind the other.
+#[no_mangle]
+pub extern "C" fn eit_plan<'a>(
+    list: &[u32],
+    count: usize,
+    day: &'a [u8],
+    series: &'a [u8],
+    counts: &mut [u8; 512],
+)
+    ensures { λ _. ⌜
+        now (counts .exit)
+        ≡ flatten (plan broadcast (lentPools (now (day .entry)) (now (series .entry))) (lentList (now (list .entry)) count)) ⌝ }
+{
+    *counts = tables::flat_of(build::plan(list, count, day, series));
 }
 
 #[no_mangle]

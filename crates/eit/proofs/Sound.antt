@@ -1,11 +1,11 @@
 -- What soundness says, part by part, and from its parts back: by the laws of conjunction. Assumes nothing.
-use mathlib.Core.Path.{_≡_, _∙_}
+use mathlib.Core.Path.{_≡_, refl, _∙_}
 use Prim.Native.Nat.{ℕ, zero, suc, _+_, _*_, _≤_, _<_}
 use native.Mathlib.Omega.{arith}
 use mathlib.Core.List.{List, [], _∷_, _++_}
 use lib.Dec.{T, leb→le, le→leb, ltb→lt}
 use lib.ListN.{length, getD, length-map}
-use Rattle.eit.specs.Sizes.{Sizes}
+use Rattle.eit.specs.Sizes.{Sizes, sized, limitedTo}
 use Rattle.eit.specs.Limits.{idMost, startLimit, durationLeast, durationMost, marksMost}
 use Rattle.eit.specs.Chain.{isChain}
 use Rattle.eit.specs.Pools.{Pools, poolOf, choose}
@@ -113,3 +113,9 @@ events-length pools list = length-map (recordsOf list) (eventOf pools) ∙ count
 pub events-rise : (sizes : Sizes) (pools : Pools) (list : EventList) → T (sound sizes pools list) → T (rising (eventsOf pools list))
 unfolding eventsOf
 events-rise sizes pools list t = sound-list sizes pools list t .records .rises
+
+-- a list does not see the section's size
+pub sound-limited : (bytes limit : ℕ) (pools : Pools) (list : EventList)
+    → sound (limitedTo limit) pools list ≡ sound (sized bytes limit) pools list
+unfolding sound
+sound-limited bytes limit pools list = refl

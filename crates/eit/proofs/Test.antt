@@ -35,6 +35,12 @@ pub not-not : (a : Bool) → T a → T (not (not a))
 not-not true t = t
 not-not false t = absurd t
 
+-- two tests that hold together are equal
+pub both-ways : (a b : Bool) → (T a → T b) → (T b → T a) → a ≡ b
+both-ways true b to back = sym (true-is b (to tt))
+both-ways false true to back = absurd (back tt)
+both-ways false false to back = refl
+
 -- a test holds or fails
 pub test-or : (a : Bool) → T a ⊎ T (not a)
 test-or true = inl tt

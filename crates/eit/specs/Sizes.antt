@@ -12,9 +12,17 @@ pub record Sizes : Type 0 where
 abbrev pub broadcast : Sizes
 broadcast = record { sectionBytes = 4096; eventLimit = 2048 }
 
+-- sizes that the code is given as numbers
+abbrev pub sized : ℕ → ℕ → Sizes
+sized bytes limit = record { sectionBytes = bytes; eventLimit = limit }
+
 -- a list does not see the section's size: sizes with another limit of events
 abbrev pub limitedTo : ℕ → Sizes
-limitedTo limit = record { sectionBytes = broadcast .sectionBytes; eventLimit = limit }
+limitedTo limit = sized (broadcast .sectionBytes) limit
+
+-- a section does not see the limit of events: sizes with other bytes of a section
+abbrev pub sectionsUpTo : ℕ → Sizes
+sectionsUpTo bytes = sized bytes (broadcast .eventLimit)
 
 -- bytes of a section around its events: 14 before them, and the four of CRC_32
 abbrev pub sectionOverhead : ℕ

@@ -15,16 +15,10 @@ use Rattle.eit.specs.Among.{isAmong}
 use Rattle.eit.specs.Events.{eventOf, eventsIn, rising}
 use Rattle.eit.specs.Sound.{idsOf, soundRecords, sound}
 use Rattle.eit.specs.declared.Record.{Record}
-use Rattle.eit.proofs.Test.{tests, true-is, ne-sym, nor-left, nor-right, nor-both}
+use Rattle.eit.proofs.Test.{tests, ne-sym, nor-left, nor-right, nor-both, both-ways}
 use Rattle.eit.proofs.Events.{follows-later, later-follows}
 use Rattle.eit.proofs.Sound.{RecordFacts, records-sound, sound-records}
 use Rattle.event_list.specs.Forward.{soundFrom}
-
--- two tests that hold together are equal
-both-ways : (a b : Bool) → (T a → T b) → (T b → T a) → a ≡ b
-both-ways true b to back = sym (true-is b (to tt))
-both-ways false true to back = absurd (back tt)
-both-ways false false to back = refl
 
 -- the first record, if there is one, starts at `least` or later
 abbrev FrontFrom : ℕ → List Record → Type 0

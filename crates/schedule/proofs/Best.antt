@@ -35,12 +35,12 @@ use Rattle.schedule.proofs.Rival.{joined-parts, segment-packing, first-
 -- a segment's parts are the greedy ones, and one empty part where there are none
 module _ (sizes : Sizes) where
   packed-fewest : (es : List Event) (ps : List (List Event)) → Packing eventSize (room sizes) es ps → 0 < length ps
-      → length (packed sizes es) ≤ length ps
+      → length (packed (room sizes) es) ≤ length ps
   unfolding packed
   packed-fewest [] ps packing some = some
   packed-fewest (e ∷ es) ps packing some = greedy-fewest eventSize (room sizes) 8 (e ∷ es) ps packing
 
-  packed-held : (k : ℕ) (es : List Event) → held k (greedy eventSize (room sizes) 8 es) ≤ held k (packed sizes es)
+  packed-held : (k : ℕ) (es : List Event) → held k (greedy eventSize (room sizes) 8 es) ≤ held k (packed (room sizes) es)
   unfolding packed
   packed-held k [] = omega (arith, ap (λ (ps : List (List Event)). length (joined ps)) (take-nil {A = List Event} k))
   packed-held k (e ∷ es) = omega arith
@@ -54,7 +54,7 @@ module _ (sizes : Sizes) (identity : Identity) (es : List Event) where
   unfolding segmentPart
   part-parts index = numbered-parts index (firstSection index) (partsOf sizes es index)
 
-parts-are : (sizes : Sizes) (es : List Event) (index : ℕ) → partsOf sizes es index ≡ packed sizes (segmentEvents index es)
+parts-are : (sizes : Sizes) (es : List Event) (index : ℕ) → partsOf sizes es index ≡ packed (room sizes) (segmentEvents index es)
 unfolding partsOf
 parts-are sizes es index = refl
 
@@ -101,7 +101,7 @@ module _ (sizes : Sizes) (es : List Event) (facts : SoundEvents sizes es)
     best-fewest =
         ⊎-elim
         (λ inside.
-        let built : length (segmentSections index (sectionsOf sizes identity es)) ≡ length (packed sizes (segmentEvents index es)) =
+        let built : length (segmentSections index (sectionsOf sizes identity es)) ≡ length (packed (room sizes) (segmentEvents index es)) =
         ap length (sections-inside sizes identity es index (parts-few sizes es) inside)
         ∙ sym (length-map (segmentPart sizes identity es index) (λ (s : Section). s .events))
         ∙ ap length (part-parts sizes identity es index ∙ parts-are sizes es index) in
@@ -134,7 +134,7 @@ module _ (sizes : Sizes) (es : List Event) (facts : SoundEvents sizes es)
         ) in
         ⊎-elim
         (λ inside.
-        let parts : partsIn (segmentSections index B) ≡ packed sizes xs =
+        let parts : partsIn (segmentSections index B) ≡ packed (room sizes) xs =
         ap partsIn (sections-inside sizes identity es index (parts-few sizes es) inside)
         ∙ part-parts sizes identity es index
         ∙ parts-are sizes es index in

@@ -4,7 +4,8 @@ use mathlib.Core.Bool.{Bool, not}
 use mathlib.Core.Logic.{_⊎_, inl, inr, ⊎-elim}
 use mathlib.Core.List.{List, [], _∷_, _++_, flatten, append-nil, append-assoc}
 use mathlib.Core.Option.{none, some}
-use Prim.Native.Nat.{ℕ, zero, suc, _+_, _≤_, _<_}
+use Prim.Native.Nat.{ℕ, zero, suc, _+_, _-_, _*_, _≤_, _<_}
+use native.Mathlib.Nat.{add-zero, zero-add, add-comm, zero-mul, suc-mul}
 use native.Mathlib.Omega.{arith}
 use lib.Dec.{T}
 use lib.ListN.{length, getD}
@@ -30,6 +31,47 @@ module _ {A : Type 0} where
   unfolding each
   each-same f g least zero same = refl
   each-same f g least (suc n) same = ap₂ (λ (x : A) (xs : List A). x ∷ xs) (same least) (each-same f g (suc least) n same)
+
+  -- the same in the row
+  pub each-within : (f g : ℕ → A) (least n : ℕ) → ((k : ℕ) → least ≤ k → k < least + n → f k ≡ g k)
+      → each f least n ≡ each g least n
+  unfolding each
+  each-within f g least zero same = refl
+  each-within f g least (suc n) same =
+      ap₂ (λ (x : A) (xs : List A). x ∷ xs) (same least (omega arith) (omega arith))
+      (each-within f g (suc least) n (λ k low high. same k (omega arith) (omega arith)))
+
+  -- numbers counted from `first` on
+  pub each-shift : (f : ℕ → A) (first least n : ℕ) → each (λ (k : ℕ). f (first + k)) least n ≡ each f (first + least) n
+  unfolding each
+  each-shift f first least zero = refl
+  each-shift f first least (suc n) =
+      let next : first + suc least ≡ suc (first + least) = omega arith in
+      ap (λ (xs : List A). f (first + least) ∷ xs)
+      (each-shift f first (suc least) n ∙ ap (λ (k : ℕ). each f k n) next)
+
+  -- a row cut in two
+  pub each-cut : (f : ℕ → A) (least m n : ℕ) → each f least (m + n) ≡ each f least m ++ each f (least + m) n
+  unfolding each
+  each-cut f least zero n = rw (zero-add, add-zero)
+  each-cut f least (suc m) n =
+      let more : suc m + n ≡ suc (m + n) = omega arith in
+      let next : suc least + m ≡ least + suc m = omega arith in
+      ap (each f least) more
+      ∙ ap (λ (xs : List A). f least ∷ xs)
+      (each-cut f (suc least) m n ∙ ap (λ (k : ℕ). each f (suc least) m ++ each f k n) next)
+
+  -- rows of m, one behind the other, are one row
+  pub each-rows : (f : ℕ → A) (m first n : ℕ)
+      → flatten (each (λ (k : ℕ). each f (k * m) m) first n) ≡ each f (first * m) (n * m)
+  unfolding each flatten
+  each-rows f m first zero = rw zero-mul
+  each-rows f m first (suc n) =
+      let more : suc n * m ≡ m + n * m = suc-mul n m ∙ add-comm (n * m) m in
+      ap (λ (xs : List A). each f (first * m) m ++ xs)
+      (each-rows f m (suc first) n ∙ ap (λ (k : ℕ). each f k (n * m)) (suc-mul first m))
+      ∙ sym (each-cut f (first * m) m (n * m))
+      ∙ ap (each f (first * m)) (sym more)
 
 module _ {A : Type 0} (f : ℕ → List A) where
   -- joined, with one more in front
@@ -81,6 +123,37 @@ joined-map {B = B} h nil append f least (suc n) =
     append (f least) (flatten (each f (suc least) n))
     ∙ ap (λ (ys : List B). h (f least) ++ ys) (joined-map h nil append f (suc least) n)
 
+flatten-append : {A : Type 0} (xss yss : List (List A)) → flatten (xss ++ yss) ≡ flatten xss ++ flatten yss
+unfolding flatten
+flatten-append [] yss = refl
+flatten-append {A = A} (xs ∷ xss) yss =
+    ap (λ (zs : List A). xs ++ zs) (flatten-append xss yss) ∙ sym (append-assoc xs (flatten xss) (flatten yss))
+
+-- a row cut in two, joined
+pub joined-cut : {A : Type 0} (f : ℕ → List A) (least m n : ℕ)
+    → flatten (each f least (m + n)) ≡ flatten (each f least m) ++ flatten (each f (least + m) n)
+joined-cut f least m n = ap flatten (each-cut f least m n) ∙ flatten-append (each f least m) (each f (least + m) n)
+
+-- where all behind the first m are empty
+pub joined-front : {A : Type 0} (f : ℕ → List A) (least m n : ℕ) → m ≤ n
+    → ((k : ℕ) → least + m ≤ k → k < least + n → f k ≡ []) → flatten (each f least m) ≡ flatten (each f least n)
+joined-front {A = A} f least m n few empty =
+    let front : List A = flatten (each f least m) in
+    let all : m + (n - m) ≡ n = omega arith in
+    sym (append-nil front)
+    ∙ ap (λ (xs : List A). front ++ xs)
+    (sym (joined-none f (least + m) (n - m) (λ k low high. empty k low (omega arith))))
+    ∙ sym (joined-cut f least m (n - m))
+    ∙ ap (λ (k : ℕ). flatten (each f least k)) all
+
+-- rows of m, each joined, one behind the other
+pub joined-rows : {A : Type 0} (f : ℕ → List A) (m first n : ℕ)
+    → flatten (each (λ (k : ℕ). flatten (each f (k * m) m)) first n) ≡ flatten (each f (first * m) (n * m))
+unfolding flatten
+joined-rows f m first n =
+    sym (joined-map flatten refl flatten-append (λ (k : ℕ). each f (k * m) m) first n)
+    ∙ ap flatten (each-rows f m first n)
+
 -- what holds of every element of each list in a row holds of every element of the joined list
 pub joined-every : {A : Type 0} (P : A → Type 0) (f : ℕ → List A) (least n : ℕ)
     → ((k : ℕ) → least ≤ k → k < least + n → Every P (f k)) → Every P (flatten (each f least n))
@@ -116,3 +189,26 @@ lowest-or p least (suc n) =
     ))
     (lowest-or p (suc least) n))
     (test-or (p least))
+
+-- the same the other way: where none passes, and where one does and none before it
+pub no-lowest : (p : ℕ → Bool) (least n : ℕ) → ((i : ℕ) → least ≤ i → i < least + n → T (not (p i)))
+    → lowest p least n ≡ none
+unfolding lowest
+no-lowest p least zero fails = refl
+no-lowest p least (suc n) fails =
+    rw (lowest, false-is (p least) (fails least (omega arith) (omega arith)))
+    (no-lowest p (suc least) n (λ i low high. fails i (omega arith) (omega arith)))
+
+pub lowest-is : (p : ℕ → Bool) (i least n : ℕ) → least ≤ i → i < least + n → T (p i)
+    → ((j : ℕ) → least ≤ j → j < i → T (not (p j))) → lowest p least n ≡ some i
+unfolding lowest
+lowest-is p i least zero low high passes before = absurd (omega arith)
+lowest-is p i least (suc n) low high passes before =
+    ⊎-elim
+    (λ first.
+    let here : least ≡ i = omega arith in
+    rw (lowest, true-is (p least) (rw here passes)) (ap some here))
+    (λ later.
+    rw (lowest, false-is (p least) (before least (omega arith) later))
+    (lowest-is p i (suc least) n later (omega arith) passes (λ j behind less. before j (omega arith) less)))
+    (le-or-lt i least)

@@ -22,22 +22,22 @@ use Rattle.schedule.proofs.Each.{joined-split}
 use Rattle.schedule.proofs.Extent.{startIndex, segment-in-table, last-most, segment-most}
 
 -- the events that start in a segment or in a later one
-abbrev eventsFrom : ℕ → List Event → List Event
+abbrev pub eventsFrom : ℕ → List Event → List Event
 eventsFrom least [] = []
 eventsFrom least (e ∷ es) = elim (leb least (startIndex e)) [ true ↦ e ∷ eventsFrom least es | false ↦ eventsFrom least es ]
 
 module _ (least : ℕ) (e : Event) (es : List Event) where
-  from-more : least ≤ startIndex e → eventsFrom least (e ∷ es) ≡ e ∷ eventsFrom least es
+  pub from-more : least ≤ startIndex e → eventsFrom least (e ∷ es) ≡ e ∷ eventsFrom least es
   from-more behind = rw (eventsFrom, le-leb least (startIndex e) behind)
 
-  from-same : startIndex e < least → eventsFrom least (e ∷ es) ≡ eventsFrom least es
+  pub from-same : startIndex e < least → eventsFrom least (e ∷ es) ≡ eventsFrom least es
   from-same before = rw (eventsFrom, lt-leb least (startIndex e) before)
 
-from-all : (es : List Event) → eventsFrom 0 es ≡ es
+pub from-all : (es : List Event) → eventsFrom 0 es ≡ es
 from-all [] = refl
 from-all (e ∷ es) = from-more 0 e es (omega arith) ∙ ap (λ (fs : List Event). e ∷ fs) (from-all es)
 
-from-none : (least : ℕ) (es : List Event) → Every (λ (e : Event). startIndex e < least) es → eventsFrom least es ≡ []
+pub from-none : (least : ℕ) (es : List Event) → Every (λ (e : Event). startIndex e < least) es → eventsFrom least es ≡ []
 from-none least [] before = refl
 from-none least (e ∷ es) before = from-same least e es (before .0) ∙ from-none least es (before .1)
 
@@ -58,7 +58,7 @@ none-held index s (e ∷ es) later after =
     events-same index e es (λ here. omega (arith, after .0)) ∙ none-held index s es later (after .1)
 
 -- in a list that rises a segment's events stand before those of later segments
-from-segment : (index : ℕ) (es : List Event) → T (rising es)
+pub from-segment : (index : ℕ) (es : List Event) → T (rising es)
     → eventsFrom index es ≡ segmentEvents index es ++ eventsFrom (suc index) es
 from-segment index [] rises = refl
 from-segment index (e ∷ es) rises =

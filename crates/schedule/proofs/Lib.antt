@@ -28,6 +28,8 @@ pub mod Packable
 pub mod Best
 -- Plan's counts
 pub mod Plan
+-- segments in one row of indices, not by tables
+pub mod ByIndex
 -- Build of what it is given, and any file that carries the same events
 pub mod Given
 -- demands 2 and 3

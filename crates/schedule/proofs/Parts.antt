@@ -55,30 +55,30 @@ sizes-same [] = refl
 sizes-same (e ∷ es) = ap (λ (n : ℕ). eventSize e + n) (sizes-same es)
 
 module _ (sizes : Sizes) where
-  packed-fits : (es : List Event) → AllFit eventSize (room sizes) (packed sizes es)
+  packed-fits : (es : List Event) → AllFit eventSize (room sizes) (packed (room sizes) es)
   unfolding packed
   packed-fits [] = (omega arith, tt)
   packed-fits (e ∷ es) = greedy-fits eventSize (room sizes) 8 (e ∷ es)
 
   packed-nonempty : (es : List Event) → T (not (unpackable eventSize (room sizes) 8 es))
-      → OneOrFilled (packed sizes es)
+      → OneOrFilled (packed (room sizes) es)
   unfolding packed
   packed-nonempty [] fits = inl refl
   packed-nonempty (e ∷ es) fits = inr (greedy-nonempty eventSize (room sizes) 8 (e ∷ es) fits)
 
   -- the parts of events that are not unpackable are these events
-  packed-all : (es : List Event) → T (not (unpackable eventSize (room sizes) 8 es)) → flatten (packed sizes es) ≡ es
+  packed-all : (es : List Event) → T (not (unpackable eventSize (room sizes) 8 es)) → flatten (packed (room sizes) es) ≡ es
   unfolding packed flatten
   packed-all [] fits = refl
   packed-all (e ∷ es) fits =
       sym (joined-flatten (greedy eventSize (room sizes) 8 (e ∷ es))) ∙ packable eventSize (room sizes) 8 (e ∷ es) fits .ordered
 
-  packed-some : (es : List Event) → 0 < length (packed sizes es)
+  packed-some : (es : List Event) → 0 < length (packed (room sizes) es)
   unfolding packed greedy
   packed-some [] = omega arith
   packed-some (e ∷ es) = omega arith
 
-  packed-few : (es : List Event) → length (packed sizes es) ≤ 8
+  packed-few : (es : List Event) → length (packed (room sizes) es) ≤ 8
   unfolding packed
   packed-few [] = omega arith
   packed-few (e ∷ es) = greedy-count eventSize (room sizes) 8 (e ∷ es)

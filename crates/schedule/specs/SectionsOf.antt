@@ -29,17 +29,18 @@ unfoldable pub lowestUnpackable : Sizes → List Event → Option ℕ
 unfolding lowest isUnpackable
 lowestUnpackable sizes es = lowest (isUnpackable sizes es) 0 (suc (lastIndex 0 es))
 
--- packing rule: each section takes as many of the segment's next events as fit. A segment without events is one section
-unfoldable pub packed : Sizes → List Event → List (List Event)
+-- packing rule: each section takes as many of the segment's next events as fit, in `bytes` bytes. A segment without events is
+-- one section
+unfoldable pub packed : ℕ → List Event → List (List Event)
 unfolding greedy
-packed sizes [] = [] ∷ []
-packed sizes (e ∷ es) = greedy eventSize (room sizes) segmentMost (e ∷ es)
+packed bytes [] = [] ∷ []
+packed bytes (e ∷ es) = greedy eventSize bytes segmentMost (e ∷ es)
 
 module _ (sizes : Sizes) (es : List Event) where
   -- the events of each section of a segment
   unfoldable pub partsOf : ℕ → List (List Event)
   unfolding packed
-  partsOf index = packed sizes (segmentEvents index es)
+  partsOf index = packed (room sizes) (segmentEvents index es)
 
   -- G: the number of a segment's last section
   unfoldable pub segmentLast : ℕ → ℕ

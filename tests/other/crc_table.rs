@@ -1,5 +1,5 @@
-//! CRC_32 with one table, a byte a step: what the library is timed beside. The other implementation goes bit by bit, which is
-//! no measure of speed.
+//! CRC_32 with one table, a byte a step. It is what Build uses, and what the library is timed beside: bit by bit is no measure
+//! of speed.
 
 const POLYNOMIAL: u32 = 0x04C1_1DB7;
 
@@ -23,6 +23,6 @@ const fn table() -> [u32; 256] {
     table
 }
 
-pub fn crc32(bytes: &[u8]) -> u32 {
+pub fn crc32_by_table(bytes: &[u8]) -> u32 {
     bytes.iter().fold(0xFFFF_FFFF, |register, &byte| register << 8 ^ TABLE[(register >> 24 ^ u32::from(byte)) as usize])
 }

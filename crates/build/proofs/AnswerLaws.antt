@@ -1,0 +1,174 @@
+-- What Build answers, case by case, by what it has found out of the list. Assumes nothing.
+use mathlib.Core.Path.{_≡_, refl, sym, ap, ap₂, subst, _∙_}
+use mathlib.Core.Bool.{Bool, true, false, not}
+use mathlib.Core.Logic.{⊎-elim}
+use mathlib.Core.List.{List, flatten}
+use mathlib.Core.Option.{Option, none, some}
+use Prim.Native.Nat.{ℕ, _≤_, _<_}
+use native.Mathlib.Omega.{arith}
+use lib.Dec.{T}
+use lib.ListN.{length}
+use Rattle.eit.specs.Sizes.{Sizes, sized, sectionsUpTo}
+use Rattle.eit.specs.Limits.{baseMost, versionMost, startLimit}
+use Rattle.eit.specs.Fields.{Bytes}
+use Rattle.eit.specs.Overwrite.{overwrite}
+use Rattle.eit.specs.Pools.{Pools}
+use Rattle.eit.specs.Records.{EventList, lentList, recordsIn}
+use Rattle.eit.specs.Events.{Event, eventsIn}
+use Rattle.eit.specs.Sound.{sound, eventsOf}
+use Rattle.eit.specs.declared.Identity.{Identity}
+use Rattle.eit.proofs.Test.{test-or, true-is, false-is}
+use Rattle.sections.specs.Every.{Every}
+use Rattle.sections.specs.Section.{Section, sectionSizes}
+use Rattle.sections.specs.Encode.{fileBytes}
+use Rattle.sections.proofs.Every.{every-map}
+use Rattle.schedule.specs.Each.{each}
+use Rattle.schedule.specs.SectionsOf.{isUnpackable, lowestUnpackable, sectionsOf}
+use Rattle.schedule.specs.Plan.{sectionCount, plan}
+use Rattle.schedule.specs.Build.{Built, written, buildEvents, build}
+use Rattle.schedule.proofs.Each.{each-same}
+use Rattle.schedule.proofs.SoundEvents.{EventFacts, SoundEvents, sound-events}
+use Rattle.schedule.proofs.Packable.{packable-or}
+use Rattle.schedule.proofs.Plan.{plan-sound}
+use Rattle.schedule.proofs.ByIndex.{flat-plan}
+use Rattle.schedule.proofs.Build.{build-unsound, build-sound, events-refused, events-written, written-short, written-fits}
+use Rattle.section_counts.specs.Counting.{indexOr512, needOf, countedOf}
+use Rattle.section_counts.specs.declared.count.Counted.{Counted}
+use Rattle.section_counts.proofs.WalkLaws.{events-are}
+use Rattle.section_counts.proofs.CountEnd.{counted-counts}
+use Rattle.section_counts.proofs.NeedLaws.{need-is}
+use Rattle.build.specs.Writing.{Writable}
+
+-- ---- what is counted of a list
+
+module _ (sizes : Sizes) (pools : Pools) (list : EventList) where
+  sound-is : countedOf sizes pools list .«is_sound» ≡ sound sizes pools list
+  unfolding countedOf
+  sound-is =
+      ⊎-elim (λ is. rw (countedOf, true-is (sound sizes pools list) is)) (λ fails. rw (countedOf, false-is (sound sizes pools list) fails))
+      (test-or (sound sizes pools list))
+
+  module _ (is-sound : T (sound sizes pools list)) where
+    lowest-is : countedOf sizes pools list .lowest ≡ indexOr512 (lowestUnpackable sizes (eventsOf pools list))
+    unfolding countedOf
+    lowest-is = rw (countedOf, true-is (sound sizes pools list) is-sound)
+
+    bytes-are : countedOf sizes pools list .need ≡ needOf sizes (eventsOf pools list)
+    unfolding countedOf
+    bytes-are = rw (countedOf, true-is (sound sizes pools list) is-sound)
+
+index-found : (o : Option ℕ) {n : ℕ} → n ≡ indexOr512 o → n < 512 → o ≡ some n
+index-found none is few = absurd (omega arith)
+index-found (some index) is few = ap some (sym is)
+
+-- ---- a section does not see the limit of events
+
+module _ (bytes limit : ℕ) (es : List Event) where
+  unpackable-sized : (index : ℕ) → isUnpackable (sectionsUpTo bytes) es index ≡ isUnpackable (sized bytes limit) es index
+  unfolding isUnpackable
+  unpackable-sized index = refl
+
+  count-sized : (index : ℕ) → sectionCount (sectionsUpTo bytes) es index ≡ sectionCount (sized bytes limit) es index
+  unfolding sectionCount
+  count-sized index = refl
+
+  sections-sized : (identity : Identity) → sectionsOf (sectionsUpTo bytes) identity es ≡ sectionsOf (sized bytes limit) identity es
+  unfolding sectionsOf
+  sections-sized identity = refl
+
+-- ---- the answers
+
+module _ (bytes limit : ℕ) (pools : Pools) (numbers : List ℕ) (count : ℕ) (counted : Counted)
+    (is-counted : counted ≡ countedOf (sized bytes limit) pools (lentList numbers count)) (base : ℕ) (identity : Identity)
+    (output : List ℕ) (legalBase : base ≤ baseMost) (legalVersion : identity .version ≤ versionMost) where
+  abbrev sizes : Sizes
+  sizes = sized bytes limit
+
+  abbrev list : EventList
+  list = lentList numbers count
+
+  abbrev answer : Built
+  answer = build sizes pools list base identity output
+
+  pub answer-unsound : counted .«is_sound» ≡ false → answer ≡ record { number = 12; value = 0; output = output }
+  answer-unsound fails =
+      let unsound : sound sizes pools list ≡ false =
+      sym (sound-is sizes pools list) ∙ sym (ap (λ (c : Counted). c .«is_sound») is-counted) ∙ fails in
+      build-unsound sizes pools list base identity output legalBase legalVersion (subst (λ (b : Bool). T (not b)) (sym unsound) tt)
+
+  module _ (is : counted .«is_sound» ≡ true) where
+    abbrev es : List Event
+    es = eventsOf pools list
+
+    holds : T (sound sizes pools list)
+    holds = subst T (sym (sym (sound-is sizes pools list) ∙ sym (ap (λ (c : Counted). c .«is_sound») is-counted) ∙ is)) tt
+
+    lowest-found : counted .lowest ≡ indexOr512 (lowestUnpackable sizes es)
+    lowest-found = ap (λ (c : Counted). c .lowest) is-counted ∙ lowest-is sizes pools list holds
+
+    need-found : counted .need ≡ sectionSizes (sectionsOf sizes identity es)
+    need-found =
+        ap (λ (c : Counted). c .need) is-counted ∙ bytes-are sizes pools list holds ∙ sym (need-is sizes es identity)
+
+    built-events : answer ≡ buildEvents sizes base identity es output
+    built-events = build-sound sizes pools list base identity output legalBase legalVersion holds
+
+    pub answer-unpackable : counted .lowest < 512 → answer ≡ record { number = 10; value = counted .lowest; output = output }
+    answer-unpackable found =
+        built-events
+        ∙ events-refused sizes base identity es output (counted .lowest) (index-found (lowestUnpackable sizes es) lowest-found found)
+
+    module _ (day : Bytes (pools .day)) (series : Bytes (pools .series)) (none-found : 512 ≤ counted .lowest) where
+      facts : SoundEvents sizes es
+      facts = sound-events pools day series sizes list holds
+
+      none-unpackable : (lowestUnpackable sizes es ≡ none) × ((index : ℕ) → T (not (isUnpackable sizes es index)))
+      none-unpackable =
+          ⊎-elim
+          (λ fits. fits)
+          (λ (index, found, few, fails, before). absurd (omega (arith, lowest-found, ap indexOr512 found)))
+          (packable-or sizes es facts)
+
+      built-sections : answer ≡ written base (sectionsOf sizes identity es) output
+      built-sections = built-events ∙ events-written sizes base identity es output (none-unpackable .0)
+
+      pub answer-short : length output < counted .need → answer ≡ record { number = 11; value = counted .need; output = output }
+      answer-short short =
+          built-sections
+          ∙ written-short base (sectionsOf sizes identity es) output (omega (arith, need-found))
+          ∙ ap (λ (n : ℕ). record { number = 11; value = n; output = output }) (sym need-found)
+
+      starts : Every (λ (e : Event). e .start < startLimit) es
+      starts = every-map (λ (e : Event) (f : EventFacts e). f .start) es (facts .facts)
+
+      counts-are : counted .counts ≡ each (sectionCount (sectionsUpTo bytes) es) 0 512
+      counts-are =
+          ap (λ (c : Counted). c .counts) is-counted
+          ∙ counted-counts sizes pools list
+          ∙ ap flatten (plan-sound sizes pools list holds)
+          ∙ flat-plan (sectionCount sizes es)
+          ∙ each-same (sectionCount sizes es) (sectionCount (sectionsUpTo bytes) es) 0 512 (λ index. sym (count-sized bytes limit es index))
+
+      pub answer-writable : counted .need ≤ length output
+          → Writable (sectionsUpTo bytes) identity (eventsIn pools (recordsIn count numbers)) (counted .counts) output
+      answer-writable fits =
+          subst (λ (fs : List Event). Writable (sectionsUpTo bytes) identity fs (counted .counts) output) (events-are pools numbers count)
+          (record {
+            rises = facts .rises;
+            starts = starts;
+            packs = λ index. subst (λ (b : Bool). T (not b)) (sym (unpackable-sized bytes limit es index)) (none-unpackable .1 index);
+            counted = counts-are;
+            fits = omega (arith, need-found, ap sectionSizes (sections-sized bytes limit es identity));
+          })
+
+      pub answer-done : counted .need ≤ length output → {after : List ℕ}
+          → after ≡ overwrite output 0 (fileBytes base (sectionsOf (sectionsUpTo bytes) identity (eventsIn pools (recordsIn count numbers))))
+          → answer ≡ record { number = 0; value = counted .need; output = after }
+      answer-done fits {after} is-after =
+          let same : after ≡ overwrite output 0 (fileBytes base (sectionsOf sizes identity es)) =
+          is-after
+          ∙ ap (λ (fs : List Event). overwrite output 0 (fileBytes base (sectionsOf (sectionsUpTo bytes) identity fs))) (sym (events-are pools numbers count))
+          ∙ ap (λ (ss : List Section). overwrite output 0 (fileBytes base ss)) (sections-sized bytes limit es identity) in
+          built-sections
+          ∙ written-fits base (sectionsOf sizes identity es) output (omega (arith, need-found))
+          ∙ ap₂ (λ (n : ℕ) (o : List ℕ). record { number = 0; value = n; output = o }) (sym need-found) (sym same)

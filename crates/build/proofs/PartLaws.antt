@@ -1,0 +1,95 @@
+-- A segment's part of Build's file is what the code writes for it: greedy packing takes what fits, as often as there are
+-- parts, and the code's header holds the numbers S, G and L of the definition. Assumes nothing.
+use mathlib.Core.Path.{_≡_, refl, sym, ap, ap₂, _∙_}
+use mathlib.Core.List.{List, [], _∷_}
+use Prim.Native.Nat.{ℕ, zero, suc, _+_, _-_, _/_}
+use lib.ListN.{length, take, drop}
+use Rattle.eit.specs.Sizes.{Sizes, room}
+use Rattle.eit.specs.Events.{Event}
+use Rattle.eit.specs.declared.Identity.{Identity}
+use Rattle.packing.specs.Greedy.{fit, greedy}
+use Rattle.sections.specs.Segment.{tableOf, firstSection}
+use Rattle.sections.specs.Section.{Header, Section, eventSize}
+use Rattle.sections.specs.Count.{segmentEvents}
+use Rattle.section_codec.specs.HeaderRead.{heldHeader}
+use Rattle.section_codec.specs.declared.header.SectionHeader.{SectionHeader}
+use Rattle.schedule.specs.Extent.{lastTableIdOf, lastSegment}
+use Rattle.schedule.specs.SectionsOf.{packed, partsOf, segmentLast, tableLast, headerOf, numberedFrom, segmentPart}
+use Rattle.build.specs.Sections.{sectionsFrom}
+
+-- ---- the numbers G and L
+
+module _ (sizes : Sizes) (es : List Event) where
+  segment-number : (index : ℕ) → segmentLast sizes es index ≡ firstSection index + (length (partsOf sizes es index) - 1)
+  unfolding segmentLast
+  segment-number index = refl
+
+  pub table-number : (table : ℕ)
+      → let last = lastSegment es table in
+      tableLast sizes es table ≡ firstSection last + (length (partsOf sizes es last) - 1)
+  unfolding tableLast
+  table-number table = segment-number (lastSegment es table)
+
+-- ---- the header
+
+-- the header that the code makes for a segment with so many sections
+abbrev pub madeHeader : Identity → ℕ → ℕ → ℕ → ℕ → SectionHeader
+madeHeader identity index sections last lastId =
+    record {
+      «table_id» = tableOf index;
+      «section_number» = firstSection index;
+      «last_section_number» = last;
+      «segment_last_section_number» = firstSection index + (sections - 1);
+      «last_table_id» = lastId;
+      identity = identity;
+    }
+
+module _ (sizes : Sizes) (identity : Identity) (es : List Event) (index : ℕ) where
+  pub header-is : {sections last lastId : ℕ}
+      → sections ≡ length (partsOf sizes es index)
+      → last ≡ tableLast sizes es (index / 32)
+      → lastId ≡ lastTableIdOf es
+      → heldHeader (madeHeader identity index sections last lastId) ≡ headerOf sizes identity es index (firstSection index)
+  header-is {sections} {last} {lastId} counted is-last is-id =
+      let held : ℕ → ℕ → ℕ → Header =
+      λ G L i.
+      record {
+        tableId = tableOf index;
+        sectionNumber = firstSection index;
+        lastSectionNumber = L;
+        segmentLastSectionNumber = G;
+        lastTableId = i;
+        identity = identity;
+      } in
+      let is-number : firstSection index + (sections - 1) ≡ segmentLast sizes es index =
+      ap (λ (n : ℕ). firstSection index + (n - 1)) counted ∙ sym (segment-number sizes es index) in
+      ap (λ (G : ℕ). held G last lastId) is-number ∙ ap₂ (held (segmentLast sizes es index)) is-last is-id
+
+  -- ---- the sections
+
+  greedy-from : (S k : ℕ) (xs : List Event)
+      → let parts = greedy eventSize (room sizes) k xs in
+      numberedFrom sizes identity es index S parts
+      ≡ sectionsFrom (room sizes) (headerOf sizes identity es index S) (length parts) xs
+  unfolding greedy sectionsFrom
+  greedy-from S zero xs = refl
+  greedy-from S (suc k) [] = refl
+  greedy-from S (suc k) (x ∷ xs) =
+      let n : ℕ = fit eventSize (room sizes) (x ∷ xs) in
+      let s : Section = record { header = headerOf sizes identity es index S; events = take n (x ∷ xs) } in
+      ap (λ (ss : List Section). s ∷ ss) (greedy-from (suc S) k (drop n (x ∷ xs)))
+
+  -- a segment without events is one section
+  packed-from : (S : ℕ) (xs : List Event)
+      → let parts = packed (room sizes) xs in
+      numberedFrom sizes identity es index S parts
+      ≡ sectionsFrom (room sizes) (headerOf sizes identity es index S) (length parts) xs
+  unfolding packed sectionsFrom
+  packed-from S [] = refl
+  packed-from S (x ∷ xs) = greedy-from S 8 (x ∷ xs)
+
+  pub segment-is : segmentPart sizes identity es index
+      ≡ sectionsFrom (room sizes) (headerOf sizes identity es index (firstSection index)) (length (partsOf sizes es index))
+      (segmentEvents index es)
+  unfolding segmentPart partsOf
+  segment-is = packed-from (firstSection index) (segmentEvents index es)

@@ -1,0 +1,101 @@
+-- `build::section::write_events` meets its contract: in each turn the events from i on are left to write, from `place` on.
+-- Assumes nothing.
+use Prim.Native.Nat.{_+_, _-_, _≤_}
+use native.Mathlib.Omega.{arith}
+use denote.Ref.{now}
+use borrow.Author.Needs.{needs}
+use lib.ListN.{length}
+use Rattle.eit.specs.Pools.{lentPools}
+use Rattle.sections.specs.Section.{eventOverhead}
+use Rattle.section_counts.specs.Between.{eventsBetween}
+use Rattle.build.proofs.SectionLaws.{Left, all-left, next-fits, next-written, events-written}
+use Rattle.build.proofs.section.write_events.Statement.{statement}
+use Rattle.build.proofs.section.write_events.Tie as tie
+
+abbrev Inv-loop : tie.InvT-loop
+Inv-loop out₀ at base-day list from to day series place₀ i₀ out place i =
+    let pools = lentPools day series in
+    Left base-day out₀ at (eventsBetween pools list from to) out place (eventsBetween pools list i to)
+
+abbrev μ-loop : tie.MeasureT-loop
+μ-loop out₀ at base-day list from to day series place₀ i₀ out place i = to - i
+
+loop-holds : tie.Need-loop-holds Inv-loop μ-loop
+loop-holds c =
+    let start = c .before .before .before .before in
+    let a = start .args in
+    let all = eventsBetween (lentPools (now (a .day)) (now (a .series))) (now (a .list)) (a .from) (a .to) in
+    all-left (a .base-day) (now (a .out)) (a .at) all (start .pre)
+
+record-at-requires : tie.Need-record-at-requires Inv-loop μ-loop
+record-at-requires c κs = search needs
+
+choose-requires : tie.Need-choose-requires Inv-loop μ-loop
+choose-requires c κs = search needs
+
+write-event-requires : tie.Need-write-event-requires Inv-loop μ-loop
+write-event-requires c κs = search needs
+
+-- back from the chosen chain to the turn and to the call
+abbrev turn : tie.After-choose Inv-loop μ-loop → tie.At-loop Inv-loop μ-loop
+turn c = c .before .before .before
+
+abbrev start : tie.At-loop Inv-loop μ-loop → tie.Start Inv-loop μ-loop
+start c = c .before .before .before .before .before
+
+-- the turn's event has room
+room : (c : tie.After-choose Inv-loop μ-loop)
+    → turn c .loop .place + (eventOverhead + length (c .choose .result .now)) ≤ length (now (start (turn c) .args .out))
+room c =
+    let loop = turn c .loop in
+    let a = start (turn c) .args in
+    next-fits (lentPools (now (a .day)) (now (a .series))) (now (a .list)) (loop .i) (a .to)
+    (c .before .before .loop-test .taken) (c .before .record-at .ensures) (c .choose .ensures) (loop .inv)
+
+add-place : tie.Need-add-place Inv-loop μ-loop
+add-place c = omega (arith, room (c .before .before .before .before))
+
+add-place-2 : tie.Need-add-place-2 Inv-loop μ-loop
+add-place-2 c = omega (arith, room (c .before .before .before .before))
+
+add-i : tie.Need-add-i Inv-loop μ-loop
+add-i c = omega arith
+
+loop-less : tie.Need-loop-less Inv-loop μ-loop
+loop-less c = omega arith
+
+loop-again : tie.Need-loop-again Inv-loop μ-loop
+loop-again c =
+    let chosen = c .before .before .before .before in
+    let loop = turn chosen .loop in
+    let a = start (turn chosen) .args in
+    next-written (lentPools (now (a .day)) (now (a .series))) (now (a .list)) (loop .i) (a .to)
+    (chosen .before .before .loop-test .taken) (chosen .before .record-at .ensures) (chosen .choose .ensures) (loop .inv)
+    (c .before .before .write-event .ensures)
+
+same-length : tie.Need-same-length Inv-loop μ-loop
+same-length c = c .before .loop .inv .size
+
+returns : tie.Need-returns Inv-loop μ-loop
+returns c =
+    let loop = c .before .loop in
+    let a = start (c .before) .args in
+    events-written (lentPools (now (a .day)) (now (a .series))) (now (a .list)) (loop .i) (a .to) (omega arith) (loop .inv)
+
+pub write-events-spec : {M : Type 1} → statement M
+write-events-spec =
+    tie.close
+    (tie.spec
+    Inv-loop
+    μ-loop
+    loop-holds
+    record-at-requires
+    choose-requires
+    write-event-requires
+    add-place
+    add-place-2
+    add-i
+    loop-less
+    loop-again
+    same-length
+    returns)

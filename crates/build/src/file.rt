@@ -1,0 +1,174 @@
+// The file written: its segments one behind the other (01, "The file of sections", "Build, Read").
+use crate::section;
+use codec::crc;
+use eit::Identity;
+use section_codec::header::SectionHeader;
+use section_counts::count;
+use section_counts::cut;
+use section_counts::segment;
+use section_counts::segment::SEGMENTS;
+use section_counts::segment::TABLE_SEGMENTS;
+ghost use mathlib.Core.Path.{_≡_};
+ghost use Prim.Native.Nat.{_+_, _≤_};
+ghost use lib.ListN.{length, drop};
+ghost use Rattle.eit.specs.Sizes.{sectionsUpTo};
+ghost use Rattle.eit.specs.Overwrite.{overwrite};
+ghost use Rattle.eit.specs.Pools.{lentPools};
+ghost use Rattle.eit.specs.Records.{recordsIn};
+ghost use Rattle.eit.specs.Events.{eventsIn};
+ghost use Rattle.sections.specs.Section.{sectionSizes};
+ghost use Rattle.sections.specs.Encode.{fileBytes};
+ghost use Rattle.codec.specs.CrcTable.{crcTable};
+ghost use Rattle.section_codec.specs.HeaderRead.{heldHeader};
+ghost use Rattle.section_counts.specs.Between.{eventsBetween};
+ghost use Rattle.schedule.specs.SectionsOf.{sectionsOf};
+ghost use Rattle.build.specs.Sections.{sectionsFrom};
+ghost use Rattle.build.specs.Rows.{IsRow, rowLast};
+ghost use Rattle.build.specs.Writing.{Writable};
+
+// table_id of the first table, and the section numbers of a segment.
+const TABLE_LEAST: usize = 0x50;
+
+const SEGMENT_NUMBERS: usize = 8;
+
+const SECTION_OVERHEAD: usize = 18;
+
+// So many sections of a segment with the events from `from` to `end`, numbered from the header's section_number on: each takes as
+// many of the next events as fit. Returns the place behind them.
+fn write_segment<'a>(
+    out: &mut [u8],
+    at: usize,
+    first: SectionHeader,
+    sections: u8,
+    base_day: u32,
+    list: &[u32],
+    from: usize,
+    end: usize,
+    day: &'a [u8],
+    series: &'a [u8],
+    room: u16,
+    table: &[u32; 256],
+) -> usize
+    requires { ⌜
+        (at
+        + sectionSizes
+        (sectionsFrom room (heldHeader first) sections (eventsBetween (lentPools (now day) (now series)) (now list) from end))
+        ≤ length (now out))
+        × (first .«section_number» + sections ≤ 256)
+        × (now table ≡ crcTable) ⌝ }
+    ensures { λ r. ⌜
+        (now (out .exit)
+        ≡ overwrite (now (out .entry)) at
+        (fileBytes «base_day»
+        (sectionsFrom room (heldHeader first) sections
+        (eventsBetween (lentPools (now (day .entry)) (now (series .entry))) (now (list .entry)) from end))))
+        × (r
+        ≡ at
+        + sectionSizes
+        (sectionsFrom room (heldHeader first) sections
+        (eventsBetween (lentPools (now (day .entry)) (now (series .entry))) (now (list .entry)) from end))) ⌝ }
+{
+    let mut header = first;
+    let mut place = at;
+    let mut next = from;
+    let mut k: u8 = 0;
+    while k < sections {
+        header.section_number = first.section_number + k;
+        let taken = cut::next_cut(list, next, end, day, series, room as usize);
+        let size = SECTION_OVERHEAD + taken.bytes;
+        section::write_section(
+            out,
+            place,
+            size,
+            header,
+            base_day,
+            list,
+            next,
+            taken.to,
+            day,
+            series,
+            table,
+        );
+        place += size;
+        next = taken.to;
+        k += 1;
+    }
+    place
+}
+
+// last_section_number of the table whose first segment has this index: that of the last section of its last segment.
+fn last_section(counts: &[u8], first: usize) -> u8
+    requires { ⌜ IsRow (drop first (now counts)) ⌝ }
+    ensures { λ r. ⌜ r ≡ rowLast (drop first (now (counts .entry))) ⌝ }
+{
+    let mut segment = TABLE_SEGMENTS - 1;
+    while 0 < segment && counts[first + segment] == 0 {
+        segment -= 1;
+    }
+    (SEGMENT_NUMBERS * segment) as u8 + (counts[first + segment] - 1)
+}
+
+// The whole file, by the sections counted in each segment.
+pub fn write_file<'a>(
+    out: &mut [u8],
+    base_day: u32,
+    identity: Identity,
+    list: &[u32],
+    count: usize,
+    day: &'a [u8],
+    series: &'a [u8],
+    section_size: u16,
+    counts: &[u8],
+)
+    requires { ⌜
+        Writable (sectionsUpTo «section_size») identity (eventsIn (lentPools (now day) (now series)) (recordsIn count (now list)))
+        (now counts) (now out) ⌝ }
+    ensures { λ _. ⌜
+        now (out .exit)
+        ≡ overwrite (now (out .entry)) 0
+        (fileBytes «base_day»
+        (sectionsOf (sectionsUpTo «section_size») identity
+        (eventsIn (lentPools (now (day .entry)) (now (series .entry))) (recordsIn count (now (list .entry)))))) ⌝ }
+{
+    let room = count::room_of(section_size);
+    let table = crc::table();
+    let last_table_id = (TABLE_LEAST + segment::last_index(list, count) / TABLE_SEGMENTS) as u8;
+    let mut last: u8 = 0;
+    let mut at = 0;
+    let mut from = 0;
+    let mut index = 0;
+    while index < SEGMENTS {
+        let sections = counts[index];
+        if 0 < sections {
+            if index % TABLE_SEGMENTS == 0 {
+                last = last_section(counts, index);
+            }
+            let number = (SEGMENT_NUMBERS * (index % TABLE_SEGMENTS)) as u8;
+            let end = segment::end_of(list, from, count, index);
+            let header = SectionHeader {
+                table_id: (TABLE_LEAST + index / TABLE_SEGMENTS) as u8,
+                section_number: number,
+                last_section_number: last,
+                segment_last_section_number: number + (sections - 1),
+                last_table_id,
+                identity,
+            };
+            at = write_segment(
+                out,
+                at,
+                header,
+                sections,
+                base_day,
+                list,
+                from,
+                end,
+                day,
+                series,
+                room,
+                &table,
+            );
+            from = end;
+        }
+        index += 1;
+    }
+}

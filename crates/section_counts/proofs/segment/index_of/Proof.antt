@@ -1,0 +1,19 @@
+-- `index_of` meets its contract: the record's start decides. Assumes nothing.
+use mathlib.Core.Path.{ap}
+use borrow.Author.Needs.{needs}
+use Rattle.eit.specs.declared.Record.{Record}
+use Rattle.sections.specs.Segment.{segmentIndex}
+use Rattle.section_counts.proofs.segment.index_of.Statement.{statement}
+use Rattle.section_counts.proofs.segment.index_of.Tie as tie
+
+record-at-requires : tie.Need-record-at-requires
+record-at-requires c κs = search needs
+
+cast-result : tie.Need-cast-result
+cast-result c = search needs
+
+returns : tie.Need-returns
+returns c = ap (λ (r : Record). segmentIndex (r .start)) (c .before .record-at .ensures)
+
+pub index-of-spec : {M : Type 1} → statement M
+index-of-spec = tie.close (tie.spec record-at-requires cast-result returns)

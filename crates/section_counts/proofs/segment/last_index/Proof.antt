@@ -1,0 +1,20 @@
+-- `last_index` meets its contract: the last record decides, if there is one. Assumes nothing.
+use borrow.Author.Needs.{needs}
+use Rattle.section_counts.proofs.SegmentLaws.{last-none, last-some}
+use Rattle.section_counts.proofs.segment.last_index.Statement.{statement}
+use Rattle.section_counts.proofs.segment.last_index.Tie as tie
+
+returns : tie.Need-returns
+returns c = last-none _ _ (c .if1 .taken)
+
+sub-index-of : tie.Need-sub-index-of
+sub-index-of c = search needs
+
+index-of-requires : tie.Need-index-of-requires
+index-of-requires c κs = search needs
+
+returns-2 : tie.Need-returns-2
+returns-2 c = last-some _ _ (c .before .if1 .left) (c .index-of .ensures)
+
+pub last-index-spec : {M : Type 1} → statement M
+last-index-spec = tie.close (tie.spec returns sub-index-of index-of-requires returns-2)

@@ -1,0 +1,40 @@
+//! A pool in the making: chains of chosen lengths are appended to it.
+
+use crate::pools::Pool;
+use crate::random::Random;
+
+pub struct Stock {
+    bytes: Vec<u8>,
+    /// Where a descriptor starts, and last the end.
+    cuts: Vec<usize>,
+}
+
+impl Stock {
+    pub fn new() -> Stock {
+        Stock { bytes: Vec::new(), cuts: vec![0] }
+    }
+
+    /// Appends a chain of that many bytes, which are not 1: no chain has one byte. Returns its offset and length.
+    pub fn append(&mut self, random: &mut Random, length: usize) -> [u32; 2] {
+        let offset = self.bytes.len();
+        let end = offset + length;
+        while self.bytes.len() < end {
+            let left = end - self.bytes.len();
+            let most = if random.one_in(4) { 257 } else { 16 };
+            let mut descriptor = (2 + random.below(most - 1)).min(left);
+            if left - descriptor == 1 {
+                // One byte would stay, which is no descriptor.
+                descriptor = if descriptor > 2 { descriptor - 1 } else { left };
+            }
+            self.bytes.push(random.byte());
+            self.bytes.push((descriptor - 2) as u8);
+            self.bytes.extend((2..descriptor).map(|_| random.byte()));
+            self.cuts.push(self.bytes.len());
+        }
+        [offset as u32, length as u32]
+    }
+
+    pub fn pool(self) -> Pool {
+        Pool::new(&self.bytes, self.cuts)
+    }
+}

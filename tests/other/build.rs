@@ -1,0 +1,83 @@
+//! Build: 01, "Build, Read" and "When a call says no".
+
+use super::list::{Event, Pools};
+use super::schedule::{pack, Lent, Schedule, SECTIONS_MAX, SEGMENTS};
+use super::section::{Header, Identity};
+
+const BASE_DAY_MAX: u32 = 65_472;
+const VERSION_MAX: u8 = 31;
+const TABLE_ID_FIRST: u8 = 0x50;
+
+const BASE_DAY_ABOVE: u32 = 1;
+const VERSION_ABOVE: u32 = 2;
+const NOT_PACKABLE: u32 = 10;
+const OUTPUT_SHORT: u32 = 11;
+const UNSOUND: u32 = 12;
+
+/// 01's number and value.
+#[derive(Clone, Copy, Debug, PartialEq)]
+pub struct Built {
+    pub number: u32,
+    pub value: usize,
+}
+
+/// The events of each of a segment's sections.
+type Segment<'a> = Vec<&'a [Event]>;
+
+/// How a segment's events are cut into sections; nothing if they cannot be.
+type Packing = fn(&[Event]) -> Option<Segment<'_>>;
+
+pub fn build(lent: &Lent, base_day: u32, identity: Identity, output: &mut [u8]) -> Built {
+    build_by(pack, lent, base_day, identity, output)
+}
+
+/// Build by another packing rule than the paper's: the self-check's faults have their own.
+pub fn build_by(packing: Packing, lent: &Lent, base_day: u32, identity: Identity, output: &mut [u8]) -> Built {
+    if base_day > BASE_DAY_MAX {
+        return Built { number: BASE_DAY_ABOVE, value: 0 };
+    }
+    if identity.version > VERSION_MAX {
+        return Built { number: VERSION_ABOVE, value: 0 };
+    }
+    let Some(schedule) = Schedule::of(lent) else {
+        return Built { number: UNSOUND, value: 0 };
+    };
+    let tables = match packed(packing, &schedule) {
+        Ok(tables) => tables,
+        Err(index) => return Built { number: NOT_PACKABLE, value: index },
+    };
+    let file = file(&tables, lent.pools(), base_day, identity);
+    let Some(front) = output.get_mut(..file.len()) else {
+        return Built { number: OUTPUT_SHORT, value: file.len() };
+    };
+    front.copy_from_slice(&file);
+    Built { number: 0, value: file.len() }
+}
+
+/// Every table's segments with their sections, or the index of the first segment that is unpackable.
+fn packed(packing: Packing, schedule: &Schedule) -> Result<Vec<Vec<Segment<'_>>>, usize> {
+    let segment = |table, segment| packing(schedule.events(table, segment)).ok_or(SEGMENTS * table + segment);
+    let table = |table| (0..=schedule.last_segment(table)).map(|place| segment(table, place)).collect();
+    (0..=schedule.last_table()).map(table).collect()
+}
+
+/// The sections of every table, joined.
+fn file(tables: &[Vec<Segment>], pools: Pools, base_day: u32, identity: Identity) -> Vec<u8> {
+    let mut file = Vec::new();
+    for (table, segments) in tables.iter().enumerate() {
+        let last_section = |segment: usize| (SECTIONS_MAX * segment + segments[segment].len() - 1) as u8;
+        for (segment, sections) in segments.iter().enumerate() {
+            for (place, events) in sections.iter().enumerate() {
+                let header = Header {
+                    table_id: TABLE_ID_FIRST + table as u8,
+                    section_number: (SECTIONS_MAX * segment + place) as u8,
+                    last_section_number: last_section(segments.len() - 1),
+                    segment_last_section_number: last_section(segment),
+                    last_table_id: TABLE_ID_FIRST + (tables.len() - 1) as u8,
+                };
+                header.write(identity, base_day, events, pools, &mut file);
+            }
+        }
+    }
+    file
+}
