@@ -6,7 +6,7 @@ use mathlib.Core.List.{List, _++_, flatten}
 use Prim.Native.Nat.{ℕ, suc, _+_, _-_, _/_, _%_, _≤_, _<_}
 use native.Mathlib.Omega.{arith}
 use lib.Dec.{T, T-not}
-use lib.ListN.{length, getD, take, drop, length-append}
+use lib.ListN.{length, getD}
 use Rattle.eit.specs.Sizes.{Sizes, room}
 use Rattle.eit.specs.Overwrite.{overwrite}
 use Rattle.eit.specs.Pools.{Pools}
@@ -15,22 +15,20 @@ use Rattle.eit.specs.declared.Identity.{Identity}
 use Rattle.sections.specs.Segment.{firstSection}
 use Rattle.sections.specs.Section.{Header, Section, sectionSizes}
 use Rattle.sections.specs.Encode.{fileBytes}
-use Rattle.sections.specs.Count.{segmentEvents}
 use Rattle.section_codec.specs.HeaderRead.{heldHeader}
+use Rattle.section_codec.specs.declared.header.SectionHeader.{SectionHeader}
 use Rattle.section_counts.specs.Between.{eventsBetween, leading}
-use Rattle.section_counts.proofs.RunLaws.{run-length, run-first, run-next, run-none, outside-none}
+use Rattle.section_counts.proofs.WalkLaws.{Walk, heldEvents, walk-start, walk-past, walk-events, walk-on}
 use Rattle.schedule.specs.Each.{each}
 use Rattle.schedule.specs.Extent.{lastTable, lastTableIdOf, lastSegment, isInside}
 use Rattle.schedule.specs.SectionsOf.{partsOf, tableLast, headerOf, sectionsOf}
 use Rattle.schedule.proofs.Each.{joined-more, joined-none}
-use Rattle.schedule.proofs.EventsFrom.{eventsFrom, from-all, from-segment}
 use Rattle.schedule.proofs.Extent.{tables-few, is-inside, inside-is}
 use Rattle.schedule.proofs.ByIndex.{insidePart, part-inside, part-outside, file-by-index}
-use Rattle.build.specs.Sections.{sectionsFrom}
+use Rattle.build.specs.Sections.{firstHeader, sectionsFrom}
 use Rattle.build.specs.Writing.{Writable}
 use Rattle.build.proofs.SectionsLaws.{SectionsLeft, sections-start, sections-written, sections-fit, sections-end}
-use Rattle.build.proofs.SectionsLaws.{between-front}
-use Rattle.build.proofs.PartLaws.{madeHeader, header-is, segment-is}
+use Rattle.build.proofs.PartLaws.{header-is, segment-is}
 use Rattle.build.proofs.CountsLaws.{count-parts, counted-inside, counted-outside}
 
 -- the sections of the segments from an index on
@@ -38,48 +36,56 @@ abbrev pub sectionsAfter : Sizes → Identity → List Event → ℕ → List Se
 sectionsAfter sizes identity es index = flatten (each (insidePart sizes identity es) index (512 - index))
 
 -- the segments before this one are written, and the events from `from` on are those that start in this one or later
-pub record FileSoFar (sizes : Sizes) (identity : Identity) (es : List Event) (base : ℕ) (d out : List ℕ)
-    (last at from index : ℕ)
+pub record FileSoFar (pools : Pools) (numbers : List ℕ) (count : ℕ) (sizes : Sizes) (identity : Identity) (base : ℕ)
+    (d out : List ℕ) (last at from index : ℕ)
     : Type 0 where
-  pub left : SectionsLeft base d 0 (sectionsOf sizes identity es) out at (sectionsAfter sizes identity es index)
-  pub rest : drop from es ≡ eventsFrom index es
+  pub left :
+      let es = heldEvents pools numbers count in
+      SectionsLeft base d 0 (sectionsOf sizes identity es) out at (sectionsAfter sizes identity es index)
+  pub walk : Walk pools numbers count from index
   pub few : index ≤ 512
   -- behind the first segment of a table L is known
-  pub known : 0 < index % 32 → T (isInside es index) → last ≡ tableLast sizes es (index / 32)
+  pub known :
+      let es = heldEvents pools numbers count in
+      0 < index % 32 → T (isInside es index) → last ≡ tableLast sizes es (index / 32)
 
 -- the same values under other names
-pub file-same : {sizes : Sizes} {identity : Identity} {es : List Event} {base : ℕ} {d out out′ : List ℕ}
-    {last last′ at at′ from from′ index : ℕ}
+pub file-same : {pools : Pools} {numbers : List ℕ} {count : ℕ} {sizes : Sizes} {identity : Identity} {base : ℕ}
+    {d out out′ : List ℕ} {last last′ at at′ from from′ index : ℕ}
     → out′ ≡ out → last′ ≡ last → at′ ≡ at → from′ ≡ from
-    → FileSoFar sizes identity es base d out last at from index
-    → FileSoFar sizes identity es base d out′ last′ at′ from′ index
-file-same {sizes} {identity} {es} {base} {d} {out} {out′} {last} {last′} {at} {at′} {from} {from′} {index} o l a f so-far =
-    let So : List ℕ → ℕ → ℕ → ℕ → Type 0 = λ bs k m n. FileSoFar sizes identity es base d bs k m n index in
+    → FileSoFar pools numbers count sizes identity base d out last at from index
+    → FileSoFar pools numbers count sizes identity base d out′ last′ at′ from′ index
+file-same {pools} {numbers} {count} {sizes} {identity} {base} {d} {out} {out′} {last} {last′} {at} {at′} {from} {from′} {index}
+    o l a f so-far =
+    let So : List ℕ → ℕ → ℕ → ℕ → Type 0 = λ bs k m n. FileSoFar pools numbers count sizes identity base d bs k m n index in
     subst (So out′ last′ at′) (sym f)
     (subst (λ (m : ℕ). So out′ last′ m from) (sym a)
     (subst (λ (k : ℕ). So out′ k at from) (sym l) (subst (λ (bs : List ℕ). So bs last at from) (sym o) so-far)))
 
-module _ {sizes : Sizes} {identity : Identity} {es : List Event} {counts d : List ℕ}
-    (ready : Writable sizes identity es counts d)
+module _ (pools : Pools) (numbers : List ℕ) (count : ℕ) {sizes : Sizes} {identity : Identity} {counts d : List ℕ}
+    (ready : Writable sizes identity (heldEvents pools numbers count) counts d)
   where
+    abbrev es : List Event
+    es = heldEvents pools numbers count
+
     -- last_table_id is at most 0x5F
     pub table-small : lastTable es < 16
     table-small = tables-few es (ready .starts)
 
-    pub file-start : (base last : ℕ) → FileSoFar sizes identity es base d d last 0 0 0
+    pub file-start : (base last : ℕ) → FileSoFar pools numbers count sizes identity base d d last 0 0 0
     file-start base last =
         let all : List Section = sectionsOf sizes identity es in
         record {
           left =
               subst (SectionsLeft base d 0 all d 0) (file-by-index sizes identity es (ready .starts))
               (sections-start base d 0 all (omega (arith, ready .fits)));
-          rest = sym (from-all es);
+          walk = walk-start pools numbers count;
           few = omega arith;
           known = λ later. absurd (omega arith);
         }
 
     module _ {base : ℕ} {out : List ℕ} {last at from index : ℕ}
-        (so-far : FileSoFar sizes identity es base d out last at from index)
+        (so-far : FileSoFar pools numbers count sizes identity base d out last at from index)
       where
         pub file-end : 512 ≤ index → out ≡ overwrite d 0 (fileBytes base (sectionsOf sizes identity es))
         file-end ended =
@@ -111,18 +117,14 @@ module _ {sizes : Sizes} {identity : Identity} {es : List Event} {counts d : Lis
 
           -- ---- a segment outside the range has no part, and no later one of its table has
 
-          pub file-skip : getD counts index 0 ≤ 0 → FileSoFar sizes identity es base d out last at from (index + 1)
+          pub file-skip : getD counts index 0 ≤ 0 → FileSoFar pools numbers count sizes identity base d out last at from (index + 1)
           file-skip none =
               let outside : T (not (isInside es index)) = counted-outside ready index few none in
-              let next : suc index ≡ index + 1 = omega arith in
               record {
                 left =
                     subst (SectionsLeft base d 0 (sectionsOf sizes identity es) out at)
                     (ap (λ (ss : List Section). ss ++ behind) (part-outside sizes identity es index outside)) next-part;
-                rest =
-                    so-far .rest
-                    ∙ sym (run-none es (ready .rises) index (outside-none es (ready .rises) index outside))
-                    ∙ ap (λ (k : ℕ). eventsFrom k es) next;
+                walk = walk-past pools numbers count (ready .rises) (so-far .walk) outside;
                 few = omega arith;
                 known =
                     λ later inside.
@@ -143,73 +145,49 @@ module _ {sizes : Sizes} {identity : Identity} {es : List Event} {counts d : Lis
             last-later later = so-far .known (omega arith) inside-range
 
             -- its events stand in the list from `from` to `end`
-            module _ (pools : Pools) (numbers : List ℕ) (count : ℕ)
-                (listed : eventsBetween pools numbers from count ≡ drop from es) {end : ℕ}
-                (ends : end ≡ from + leading index (eventsBetween pools numbers from count))
-              where
-                end-is : end ≡ from + length (segmentEvents index es)
-                end-is =
-                    ends
-                    ∙ ap (λ (fs : List Event). from + leading index fs) (listed ∙ so-far .rest)
-                    ∙ ap (λ (n : ℕ). from + n) (run-length es (ready .rises) index)
+            module _ {end : ℕ} (ends : end ≡ from + leading index (eventsBetween pools numbers from count)) where
+              -- the sections that are written are its part
+              module _ {bytes last′ lastId : ℕ} {header : SectionHeader} (is-room : bytes ≡ room sizes)
+                  (is-last : last′ ≡ tableLast sizes es (index / 32)) (is-id : lastId ≡ lastTableIdOf es)
+                  (is-header : header ≡ firstHeader index (getD counts index 0) last′ lastId identity)
+                where
+                  abbrev sections : List Section
+                  sections =
+                      let n = getD counts index 0 in
+                      sectionsFrom bytes (heldHeader header) n (eventsBetween pools numbers from end)
 
-                segment-between : eventsBetween pools numbers from end ≡ segmentEvents index es
-                segment-between =
-                    let here : List Event = segmentEvents index es in
-                    let later : List Event = eventsFrom (suc index) es in
-                    let split : eventsBetween pools numbers from count ≡ here ++ later =
-                    listed ∙ so-far .rest ∙ from-segment index es (ready .rises) in
-                    ap (eventsBetween pools numbers from) end-is
-                    ∙ between-front pools numbers from count (length here)
-                    (omega (arith, ap length split, length-append here later))
-                    ∙ ap (take (length here)) listed
-                    ∙ run-first es (ready .rises) from index (so-far .rest)
+                  written-is : sections ≡ insidePart sizes identity es index
+                  written-is =
+                      let n : ℕ = getD counts index 0 in
+                      let parts : n ≡ length (partsOf sizes es index) = count-parts ready index few inside-range in
+                      let held : Header = headerOf sizes identity es index (firstSection index) in
+                      ap₂ (λ (r : ℕ) (h : Header). sectionsFrom r h n (eventsBetween pools numbers from end)) is-room
+                      (ap heldHeader is-header ∙ header-is sizes identity es index parts is-last is-id)
+                      ∙ ap₂ (sectionsFrom (room sizes) held) parts
+                      (walk-events pools numbers count (ready .rises) (so-far .walk) end ends)
+                      ∙ sym (segment-is sizes identity es index)
+                      ∙ sym (part-inside sizes identity es index inside-range)
 
-                -- the sections that are written are its part
-                module _ {bytes last′ lastId : ℕ} (is-room : bytes ≡ room sizes)
-                    (is-last : last′ ≡ tableLast sizes es (index / 32)) (is-id : lastId ≡ lastTableIdOf es)
-                  where
-                    abbrev sections : List Section
-                    sections =
-                        let n = getD counts index 0 in
-                        sectionsFrom bytes (heldHeader (madeHeader identity index n last′ lastId)) n
-                        (eventsBetween pools numbers from end)
+                  part-left : SectionsLeft base d 0 (sectionsOf sizes identity es) out at (sections ++ behind)
+                  part-left =
+                      subst
+                      (λ (ss : List Section). SectionsLeft base d 0 (sectionsOf sizes identity es) out at (ss ++ behind))
+                      (sym written-is) next-part
 
-                    written-is : sections ≡ insidePart sizes identity es index
-                    written-is =
-                        let n : ℕ = getD counts index 0 in
-                        let parts : n ≡ length (partsOf sizes es index) = count-parts ready index few inside-range in
-                        let header : Header = headerOf sizes identity es index (firstSection index) in
-                        ap₂ (λ (r : ℕ) (h : Header). sectionsFrom r h n (eventsBetween pools numbers from end)) is-room
-                        (header-is sizes identity es index parts is-last is-id)
-                        ∙ ap₂ (sectionsFrom (room sizes) header) parts segment-between
-                        ∙ sym (segment-is sizes identity es index)
-                        ∙ sym (part-inside sizes identity es index inside-range)
+                  pub part-fits : at + sectionSizes sections ≤ length out
+                  part-fits = sections-fit sections behind part-left
 
-                    part-left : SectionsLeft base d 0 (sectionsOf sizes identity es) out at (sections ++ behind)
-                    part-left =
-                        subst
-                        (λ (ss : List Section). SectionsLeft base d 0 (sectionsOf sizes identity es) out at (ss ++ behind))
-                        (sym written-is) next-part
-
-                    pub part-fits : at + sectionSizes sections ≤ length out
-                    part-fits = sections-fit sections behind part-left
-
-                    pub file-more : {out′ : List ℕ} {at′ : ℕ}
-                        → out′ ≡ overwrite out at (fileBytes base sections)
-                        → at′ ≡ at + sectionSizes sections
-                        → FileSoFar sizes identity es base d out′ last′ at′ end (index + 1)
-                    file-more written seam =
-                        let next : suc index ≡ index + 1 = omega arith in
-                        record {
-                          left = sections-written sections behind part-left written seam;
-                          rest =
-                              ap (λ (k : ℕ). drop k es) end-is
-                              ∙ run-next es (ready .rises) from index (so-far .rest)
-                              ∙ ap (λ (k : ℕ). eventsFrom k es) next;
-                          few = omega arith;
-                          known =
-                              λ later inside.
-                              let same : index / 32 ≡ (index + 1) / 32 = omega arith in
-                              is-last ∙ ap (tableLast sizes es) same;
-                        }
+                  pub file-more : {out′ : List ℕ} {at′ : ℕ}
+                      → out′ ≡ overwrite out at (fileBytes base sections)
+                      → at′ ≡ at + sectionSizes sections
+                      → FileSoFar pools numbers count sizes identity base d out′ last′ at′ end (index + 1)
+                  file-more written seam =
+                      record {
+                        left = sections-written sections behind part-left written seam;
+                        walk = walk-on pools numbers count (ready .rises) (so-far .walk) end ends;
+                        few = omega arith;
+                        known =
+                            λ later inside.
+                            let same : index / 32 ≡ (index + 1) / 32 = omega arith in
+                            is-last ∙ ap (tableLast sizes es) same;
+                      }

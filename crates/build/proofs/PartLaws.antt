@@ -12,10 +12,9 @@ use Rattle.sections.specs.Segment.{tableOf, firstSection}
 use Rattle.sections.specs.Section.{Header, Section, eventSize}
 use Rattle.sections.specs.Count.{segmentEvents}
 use Rattle.section_codec.specs.HeaderRead.{heldHeader}
-use Rattle.section_codec.specs.declared.header.SectionHeader.{SectionHeader}
 use Rattle.schedule.specs.Extent.{lastTableIdOf, lastSegment}
 use Rattle.schedule.specs.SectionsOf.{packed, partsOf, segmentLast, tableLast, headerOf, numberedFrom, segmentPart}
-use Rattle.build.specs.Sections.{sectionsFrom}
+use Rattle.build.specs.Sections.{firstHeader, sectionsFrom}
 
 -- ---- the numbers G and L
 
@@ -32,24 +31,12 @@ module _ (sizes : Sizes) (es : List Event) where
 
 -- ---- the header
 
--- the header that the code makes for a segment with so many sections
-abbrev pub madeHeader : Identity → ℕ → ℕ → ℕ → ℕ → SectionHeader
-madeHeader identity index sections last lastId =
-    record {
-      «table_id» = tableOf index;
-      «section_number» = firstSection index;
-      «last_section_number» = last;
-      «segment_last_section_number» = firstSection index + (sections - 1);
-      «last_table_id» = lastId;
-      identity = identity;
-    }
-
 module _ (sizes : Sizes) (identity : Identity) (es : List Event) (index : ℕ) where
   pub header-is : {sections last lastId : ℕ}
       → sections ≡ length (partsOf sizes es index)
       → last ≡ tableLast sizes es (index / 32)
       → lastId ≡ lastTableIdOf es
-      → heldHeader (madeHeader identity index sections last lastId) ≡ headerOf sizes identity es index (firstSection index)
+      → heldHeader (firstHeader index sections last lastId identity) ≡ headerOf sizes identity es index (firstSection index)
   header-is {sections} {last} {lastId} counted is-last is-id =
       let held : ℕ → ℕ → ℕ → Header =
       λ G L i.

@@ -1,11 +1,13 @@
 -- Sections with the next events that fit, one after the other, as they are written (01, "Build, Read": the packing rule). Laws:
 -- proofs/SectionsLaws.antt. Assumes nothing.
-use Prim.Native.Nat.{ℕ, zero, suc, _+_}
+use Prim.Native.Nat.{ℕ, zero, suc, _+_, _-_}
 use mathlib.Core.List.{List, [], _∷_}
 use lib.ListN.{take, drop}
 use Rattle.eit.specs.Sizes.{sectionOverhead}
 use Rattle.eit.specs.Events.{Event}
+use Rattle.eit.specs.declared.Identity.{Identity}
 use Rattle.packing.specs.Greedy.{fit}
+use Rattle.sections.specs.Segment.{tableOf, firstSection}
 use Rattle.sections.specs.Section.{Header, Section, eventSize, eventSizes}
 use Rattle.section_codec.specs.HeaderRead.{heldHeader}
 use Rattle.section_codec.specs.declared.header.SectionHeader.{SectionHeader}
@@ -16,6 +18,18 @@ sectionOf header es = record { header = heldHeader header; events = es }
 
 abbrev pub sectionSizeOf : List Event → ℕ
 sectionSizeOf es = sectionOverhead + eventSizes es
+
+-- the header of the first section of a segment that has so many, with L and last_table_id
+abbrev pub firstHeader : ℕ → ℕ → ℕ → ℕ → Identity → SectionHeader
+firstHeader index sections last lastTable identity =
+    record {
+      «table_id» = tableOf index;
+      «section_number» = firstSection index;
+      «last_section_number» = last;
+      «segment_last_section_number» = firstSection index + (sections - 1);
+      «last_table_id» = lastTable;
+      identity = identity;
+    }
 
 -- the header of the next section of a segment
 abbrev pub nextHeader : Header → Header

@@ -4,12 +4,13 @@ use codec::crc;
 use eit::Identity;
 use section_codec::header::SectionHeader;
 use section_counts::count;
+use section_counts::count::SECTION_OVERHEAD;
 use section_counts::cut;
 use section_counts::segment;
 use section_counts::segment::SEGMENTS;
 use section_counts::segment::TABLE_SEGMENTS;
 ghost use mathlib.Core.Path.{_≡_};
-ghost use Prim.Native.Nat.{_+_, _≤_};
+ghost use Prim.Native.Nat.{_+_, _≤_, _<_};
 ghost use lib.ListN.{length, drop};
 ghost use Rattle.eit.specs.Sizes.{sectionsUpTo};
 ghost use Rattle.eit.specs.Overwrite.{overwrite};
@@ -22,7 +23,7 @@ ghost use Rattle.codec.specs.CrcTable.{crcTable};
 ghost use Rattle.section_codec.specs.HeaderRead.{heldHeader};
 ghost use Rattle.section_counts.specs.Between.{eventsBetween};
 ghost use Rattle.schedule.specs.SectionsOf.{sectionsOf};
-ghost use Rattle.build.specs.Sections.{sectionsFrom};
+ghost use Rattle.build.specs.Sections.{firstHeader, sectionsFrom};
 ghost use Rattle.build.specs.Rows.{IsRow, rowLast};
 ghost use Rattle.build.specs.Writing.{Writable};
 
@@ -30,8 +31,6 @@ ghost use Rattle.build.specs.Writing.{Writable};
 const TABLE_LEAST: usize = 0x50;
 
 const SEGMENT_NUMBERS: usize = 8;
-
-const SECTION_OVERHEAD: usize = 18;
 
 // So many sections of a segment with the events from `from` to `end`, numbered from the header's section_number on: each takes as
 // many of the next events as fit. Returns the place behind them.
@@ -108,6 +107,28 @@ fn last_section(counts: &[u8], first: usize) -> u8
     (SEGMENT_NUMBERS * segment) as u8 + (counts[first + segment] - 1)
 }
 
+// The header of the first section of a segment that has so many.
+fn first_header(
+    index: usize,
+    sections: u8,
+    last: u8,
+    last_table_id: u8,
+    identity: Identity,
+) -> SectionHeader
+    requires { ⌜ (index < 512) × (0 < sections) × (sections ≤ 8) ⌝ }
+    ensures { λ r. ⌜ r ≡ firstHeader index sections last «last_table_id» identity ⌝ }
+{
+    let number = (SEGMENT_NUMBERS * (index % TABLE_SEGMENTS)) as u8;
+    SectionHeader {
+        table_id: (TABLE_LEAST + index / TABLE_SEGMENTS) as u8,
+        section_number: number,
+        last_section_number: last,
+        segment_last_section_number: number + (sections - 1),
+        last_table_id,
+        identity,
+    }
+}
+
 // The whole file, by the sections counted in each segment.
 pub fn write_file<'a>(
     out: &mut [u8],
@@ -143,16 +164,8 @@ pub fn write_file<'a>(
             if index % TABLE_SEGMENTS == 0 {
                 last = last_section(counts, index);
             }
-            let number = (SEGMENT_NUMBERS * (index % TABLE_SEGMENTS)) as u8;
             let end = segment::end_of(list, from, count, index);
-            let header = SectionHeader {
-                table_id: (TABLE_LEAST + index / TABLE_SEGMENTS) as u8,
-                section_number: number,
-                last_section_number: last,
-                segment_last_section_number: number + (sections - 1),
-                last_table_id,
-                identity,
-            };
+            let header = first_header(index, sections, last, last_table_id, identity);
             at = write_segment(
                 out,
                 at,

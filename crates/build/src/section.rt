@@ -7,6 +7,7 @@ use event_list::records;
 use section_codec::event;
 use section_codec::header;
 use section_codec::header::SectionHeader;
+use section_counts::cut::EVENT_OVERHEAD;
 ghost use mathlib.Core.Path.{_≡_};
 ghost use Prim.Native.Nat.{_+_, _≤_};
 ghost use lib.ListN.{length};
@@ -18,10 +19,8 @@ ghost use Rattle.codec.specs.CrcTable.{crcTable};
 ghost use Rattle.section_counts.specs.Between.{eventsBetween};
 ghost use Rattle.build.specs.Sections.{sectionOf, sectionSizeOf};
 
-// Bytes of a section before its events, of an event before its chain, and of CRC_32.
+// Bytes of a section before its events, and of CRC_32.
 const HEADER_SIZE: usize = 14;
-
-const EVENT_OVERHEAD: usize = 12;
 
 const CRC_SIZE: usize = 4;
 

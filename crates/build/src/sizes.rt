@@ -18,6 +18,7 @@ const BASE_DAY_MOST: u32 = 65_472;
 
 const VERSION_MOST: u8 = 31;
 
+// The counts of all segments, 254 each if the list is unsound.
 pub fn plan_within<'a>(
     list: &[u32],
     count: usize,

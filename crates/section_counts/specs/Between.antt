@@ -1,5 +1,5 @@
 -- The events between two places of a list, and what the events from a place on say of the next segment: a sound list's events
--- stand segment by segment. Laws: proofs/PassLaws.antt. Assumes nothing.
+-- stand segment by segment. Laws: proofs/BetweenLaws.antt, proofs/RunLaws.antt. Assumes nothing.
 use Prim.Native.Nat.{ℕ, suc, _/_, _%_}
 use mathlib.Core.Bool.{Bool, true, false, _||_}
 use mathlib.Core.List.{List, [], _∷_}

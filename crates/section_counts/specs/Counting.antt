@@ -1,5 +1,5 @@
 -- The sections of a segment and of all segments, with the bytes that they need (01, "Build, Read"). Laws:
--- proofs/SegmentLaws.antt, proofs/PassLaws.antt. Assumes nothing.
+-- proofs/PackLaws.antt, proofs/CountLaws.antt. Assumes nothing.
 use Prim.Native.Nat.{ℕ, _+_}
 use mathlib.Core.Bool.{true, false}
 use mathlib.Core.List.{List, [], _∷_, flatten}

@@ -27,9 +27,10 @@ pub struct Counted {
     pub need: usize,
 }
 
-// Bytes of a section around its events, and the most sections of a segment.
-const SECTION_OVERHEAD: usize = 18;
+// Bytes of a section around its events.
+pub const SECTION_OVERHEAD: usize = 18;
 
+// The most sections of a segment.
 const SEGMENT_MOST: u8 = 8;
 
 // Plan's entries for an unpackable segment and for an unsound list.
@@ -122,6 +123,7 @@ fn count_sound<'a>(
     }
 }
 
+// What Build asks of a list. Of an unsound one nothing is counted.
 pub fn count_sections<'a>(
     list: &[u32],
     count: usize,

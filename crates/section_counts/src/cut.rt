@@ -18,7 +18,7 @@ pub struct Cut {
 }
 
 // Bytes of an event before its chain.
-const EVENT_OVERHEAD: usize = 12;
+pub const EVENT_OVERHEAD: usize = 12;
 
 // The bytes of event i.
 pub fn event_size<'a>(list: &[u32], i: usize, day: &'a [u8], series: &'a [u8]) -> usize

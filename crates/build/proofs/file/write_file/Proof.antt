@@ -9,10 +9,10 @@ use denote.Ref.{now}
 use borrow.Author.Needs.{needs}
 use Rattle.eit.specs.Sizes.{sectionsUpTo}
 use Rattle.eit.specs.Pools.{Pools, lentPools}
-use Rattle.eit.specs.Records.{recordsIn}
-use Rattle.eit.specs.Events.{Event, eventsIn}
+use Rattle.eit.specs.Events.{Event}
 use Rattle.sections.specs.Segment.{tableOf}
-use Rattle.section_counts.proofs.BetweenLaws.{between-all}
+use Rattle.section_codec.specs.declared.header.SectionHeader.{SectionHeader}
+use Rattle.section_counts.proofs.WalkLaws.{heldEvents}
 use Rattle.schedule.specs.SectionsOf.{tableLast}
 use Rattle.build.proofs.CountsLaws.{counts-length, count-few, row-is, row-last}
 use Rattle.build.proofs.FileLaws.{FileSoFar, file-same, table-small, file-start, file-end}
@@ -23,8 +23,7 @@ use Rattle.build.proofs.file.write_file.Tie as tie
 abbrev Inv-loop : tie.InvT-loop
 Inv-loop out₀ base-day identity list count day series section-size counts room table last-table-id last₀ at₀ from₀ index₀
     out last at from index =
-    FileSoFar (sectionsUpTo section-size) identity (eventsIn (lentPools day series) (recordsIn count list)) base-day out₀
-    out last at from index
+    FileSoFar (lentPools day series) list count (sectionsUpTo section-size) identity base-day out₀ out last at from index
 
 abbrev μ-loop : tie.MeasureT-loop
 μ-loop out₀ base-day identity list count day series section-size counts room table last-table-id last₀ at₀ from₀ index₀
@@ -43,7 +42,7 @@ abbrev pools : tie.Start Inv-loop μ-loop → Pools
 pools c = lentPools (now (c .args .day)) (now (c .args .series))
 
 abbrev events : tie.Start Inv-loop μ-loop → List Event
-events c = eventsIn (pools c) (recordsIn (c .args .count) (now (c .args .list)))
+events c = heldEvents (pools c) (now (c .args .list)) (c .args .count)
 
 room-of-requires : tie.Need-room-of-requires Inv-loop μ-loop
 room-of-requires c κs = search needs
@@ -56,7 +55,7 @@ last-index-requires c κs = search needs
 
 -- last_table_id
 table-fits : (c : tie.After-last-index Inv-loop μ-loop) → c .last-index .result / 32 < 16
-table-fits c = omega (arith, table-small (called c .pre), c .last-index .ensures (pools (called c)))
+table-fits c = omega (arith, table-small (pools (called c)) _ _ (called c .pre), c .last-index .ensures (pools (called c)))
 
 add-last-table-id : tie.Need-add-last-table-id Inv-loop μ-loop
 add-last-table-id c = omega (arith, table-fits c)
@@ -65,7 +64,7 @@ cast-last-table-id : tie.Need-cast-last-table-id Inv-loop μ-loop
 cast-last-table-id c = omega (arith, table-fits c)
 
 loop-holds : tie.Need-loop-holds Inv-loop μ-loop
-loop-holds c = file-start (called c .pre) _ _
+loop-holds c = file-start (pools (called c)) _ _ (called c .pre) _ _
 
 shared-slice-read-sections : tie.Need-shared-slice-read-sections Inv-loop μ-loop
 shared-slice-read-sections c = omega (arith, counts-length (start (c .before .before) .pre))
@@ -76,29 +75,14 @@ last-section-requires c κs =
     let turn = c .before .before .before .before in
     row-is (start turn .pre) (turn .loop .index) few (c .if2 .taken) (c .before .if1 .taken)
 
-mul-number : tie.Need-mul-number Inv-loop μ-loop
-mul-number c = omega arith
-
-cast-number : tie.Need-cast-number Inv-loop μ-loop
-cast-number c = omega arith
-
 end-of-requires : tie.Need-end-of-requires Inv-loop μ-loop
 end-of-requires c κs = search needs
 
-add-t30 : tie.Need-add-t30 Inv-loop μ-loop
-add-t30 c = omega arith
-
-cast-t31 : tie.Need-cast-t31 Inv-loop μ-loop
-cast-t31 c = omega (arith, c .before .before .before .before .loop-test .taken)
-
-sub-t32 : tie.Need-sub-t32 Inv-loop μ-loop
-sub-t32 c = c .before .before .if1 .taken
-
-add-t33 : tie.Need-add-t33 Inv-loop μ-loop
-add-t33 c =
+first-header-requires : tie.Need-first-header-requires Inv-loop μ-loop
+first-header-requires c κs =
     let few = c .before .before .before .before .loop-test .taken in
     let turn = c .before .before .before .before .before in
-    omega (arith, count-few (start turn .pre) (turn .loop .index) few)
+    (few, c .before .before .if1 .taken, count-few (start turn .pre) (turn .loop .index) few)
 
 -- L of the segment's table: found at its first segment, kept for the others
 table-last : (c : tie.Joined2 Inv-loop μ-loop)
@@ -110,23 +94,21 @@ table-last c =
     let turn = c .before .before .before .before in
     let ready = start turn .pre in
     ⊎-elim (λ w. w .2 ∙ w .1 .ensures ∙ row-last ready (turn .loop .index) few (w .0 .taken) some)
-    (λ w. w .1 ∙ last-later ready (turn .loop .inv) few some (w .0 .left)) (c .if2 .came)
+    (λ w. w .1 ∙ last-later (pools (start turn)) _ _ ready (turn .loop .inv) few some (w .0 .left)) (c .if2 .came)
 
 write-segment-requires : tie.Need-write-segment-requires Inv-loop μ-loop
 write-segment-requires c κs =
-    let ended = c .before .before in
+    let made = c .before .before .first-header in
+    let ended = c .before .before .before in
     let joined = ended .before in
     let some = joined .before .if1 .taken in
     let few = joined .before .before .before .loop-test .taken in
     let turn = joined .before .before .before .before in
     let ready = start turn .pre in
-    let ps = pools (start turn) in
-    let list = now (start turn .args .list) in
-    let count = start turn .args .count in (
-      part-fits ready (turn .loop .inv) few some ps list count (between-all ps list count (turn .loop .from))
-          (ended .end-of .ensures ps) (turn .before .before .before .room-of .ensures) (table-last joined)
-          (ap tableOf (turn .before .last-index .ensures ps)),
-      omega (arith, count-few ready (turn .loop .index) few),
+    let ps = pools (start turn) in (
+      part-fits ps _ _ ready (turn .loop .inv) few some (ended .end-of .ensures ps) (turn .before .before .before .room-of .ensures)
+          (table-last joined) (ap tableOf (turn .before .last-index .ensures ps)) (made .ensures),
+      omega (arith, count-few ready (turn .loop .index) few, ap (λ (h : SectionHeader). h .«section_number») (made .ensures)),
       turn .before .before .table .ensures,
     )
 
@@ -142,24 +124,20 @@ loop-again c =
     let turn = c .before .before .before in
     let ready = start turn .pre in
     let ps = pools (start turn) in
-    let list = now (start turn .args .list) in
-    let count = start turn .args .count in
     ⊎-elim
     (λ w.
-    let joined : tie.Joined2 Inv-loop μ-loop =
-    record { before = record { before = c .before; if1 = w .0 }; if2 = w .1 } in
-    file-same (w .8) (w .9) (w .10) (w .11)
-    (file-more ready (turn .loop .inv) few (w .0 .taken) ps list count (between-all ps list count (turn .loop .from))
-    (w .2 .ensures ps) (turn .before .before .before .room-of .ensures) (table-last joined)
-    (ap tableOf (turn .before .last-index .ensures ps)) (w .5 .ensures .0) (w .5 .ensures .1)))
-    (λ w. file-same (w .1) (w .2) (w .3) (w .4) (file-skip ready (turn .loop .inv) few (w .0 .left)))
+    let joined : tie.Joined2 Inv-loop μ-loop = record { before = record { before = c .before; if1 = w .0 }; if2 = w .1 } in
+    file-same (w .9) (w .10) (w .11) (w .12)
+    (file-more ps _ _ ready (turn .loop .inv) few (w .0 .taken) (w .2 .ensures ps) (turn .before .before .before .room-of .ensures)
+    (table-last joined) (ap tableOf (turn .before .last-index .ensures ps)) (w .3 .ensures) (w .6 .ensures .0) (w .6 .ensures .1)))
+    (λ w. file-same (w .1) (w .2) (w .3) (w .4) (file-skip ps _ _ ready (turn .loop .inv) few (w .0 .left)))
     (c .if1 .came)
 
 same-length : tie.Need-same-length Inv-loop μ-loop
 same-length c = c .before .loop .inv .left .size
 
 returns : tie.Need-returns Inv-loop μ-loop
-returns c = file-end (start (c .before) .pre) (c .before .loop .inv) (c .loop-test .left)
+returns c = file-end (pools (start (c .before))) _ _ (start (c .before) .pre) (c .before .loop .inv) (c .loop-test .left)
 
 pub write-file-spec : {M : Type 1} → statement M
 write-file-spec =
@@ -175,13 +153,8 @@ write-file-spec =
     loop-holds
     shared-slice-read-sections
     last-section-requires
-    mul-number
-    cast-number
     end-of-requires
-    add-t30
-    cast-t31
-    sub-t32
-    add-t33
+    first-header-requires
     write-segment-requires
     add-index
     loop-less
