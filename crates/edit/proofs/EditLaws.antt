@@ -12,11 +12,11 @@ use Rattle.script.specs.Form.{formOf}
 use Rattle.script.specs.Struck.{unstruckIn, live}
 use Rattle.script.specs.Edit.{edit, refusal}
 use Rattle.script.proofs.Edit.{edit-unsound, edit-broken, edit-nothing, edit-runs}
-use Rattle.edit.specs.Commands.{formTold, strikesTold, commandsAt}
+use Rattle.script_scan.specs.Commands.{formTold, strikesTold, commandsAt}
+use Rattle.script_scan.specs.declared.scan.Form.the-variants.{Whole, Broken}
+use Rattle.script_scan.specs.declared.scan.Strikes.the-variants.{Enough, NothingAt}
+use Rattle.script_scan.proofs.ScanLaws.{form-whole-is, form-broken-is, strikes-enough-is, strikes-nothing-is}
 use Rattle.edit.specs.Run.{runFrom}
-use Rattle.edit.specs.declared.scan.Form.the-variants.{Whole, Broken}
-use Rattle.edit.specs.declared.scan.Strikes.the-variants.{Enough, NothingAt}
-use Rattle.edit.proofs.ScanLaws.{form-whole-is, form-broken-is, strikes-enough-is, strikes-nothing-is}
 
 module _ (limit : ℕ) (day series : List ℕ) (list : EventList) (script : List ℕ) where
   -- b is what the soundness pass says

@@ -17,10 +17,10 @@ use Rattle.script.specs.Struck.{live, passed}
 use Rattle.script.specs.Edit.{Edited, run}
 use Rattle.script.proofs.Struck.{live-append}
 use Rattle.script.proofs.Edit.{run-append, run-sound}
+use Rattle.script_scan.specs.Commands.{commandsAt, offsetBehind}
+use Rattle.script_scan.proofs.CommandLaws.{commands-next}
+use Rattle.script_scan.proofs.PartLaws.{part-whole, behind-drops}
 use Rattle.edit.specs.Run.{editsOf, runOne, runFrom, runPart}
-use Rattle.edit.specs.Commands.{commandsAt, offsetBehind}
-use Rattle.edit.proofs.CommandLaws.{commands-next}
-use Rattle.edit.proofs.PartLaws.{part-whole, behind-drops}
 use Rattle.edit.proofs.PendingLaws.{live-none}
 use Rattle.edit.proofs.RunLaws.{none-done, run-ends}
 

@@ -8,9 +8,9 @@ use lib.Dec.{T}
 use lib.ListN.{length, getD, take}
 use Rattle.script.specs.Form.{Command, doEdit, undo, operandBytes}
 use Rattle.script.specs.Struck.{passed, unlessStruck, live}
-use Rattle.edit.specs.Commands.{isWholeAt, commandsAt}
-use Rattle.edit.proofs.CommandLaws.{commands-edit, commands-undo}
-use Rattle.edit.proofs.PartLaws.{take-more}
+use Rattle.script_scan.specs.Commands.{isWholeAt, commandsAt}
+use Rattle.script_scan.proofs.CommandLaws.{commands-edit, commands-undo}
+use Rattle.script_scan.proofs.PartLaws.{take-more}
 
 -- ---- UNDOs that are enough to strike all
 

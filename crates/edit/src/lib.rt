@@ -8,9 +8,7 @@ ghost use Rattle.script.specs.Edit.{edit};
 ghost use Rattle.edit.specs.Told.{told};
 
 pub mod answer;
-mod command;
 mod machine;
-mod scan;
 
 // Events in a list at most (01, "Event record and sound list").
 const EVENT_LIMIT: usize = 2_048;

@@ -22,12 +22,12 @@ use Rattle.sections.specs.Decode.{statusField, statedEventSize, eventIn}
 use Rattle.sections.specs.Places.{recordAt}
 use Rattle.sections.specs.JudgeEvents.{isInSegment, isEvent}
 use Rattle.sections.proofs.EventBytes.{bit-forth}
-use Rattle.section_codec.specs.TimeRead.{durationAt, startAt}
-use Rattle.section_codec.specs.EventRead.{isWholeEvent, frontEvent, eventRead}
-use Rattle.section_codec.specs.declared.time.TimeRead.the-variants.{Seconds, Broken as NoTime}
-use Rattle.section_codec.specs.declared.event.EventRead.the-variants.{Whole, Broken}
 use Rattle.codec.proofs.FieldLaws.{drop-take}
-use Rattle.section_codec.proofs.TimeReadLaws.{no-start, is-start, no-duration, is-duration}
+use Rattle.time_codec.specs.TimeRead.{durationAt, startAt}
+use Rattle.time_codec.specs.declared.TimeRead.the-variants.{Seconds, Broken as NoTime}
+use Rattle.time_codec.proofs.TimeReadLaws.{no-start, is-start, no-duration, is-duration}
+use Rattle.section_codec.specs.EventRead.{isWholeEvent, frontEvent, eventRead}
+use Rattle.section_codec.specs.declared.event.EventRead.the-variants.{Whole, Broken}
 
 -- ---- the segment is all that `isEvent` asks besides
 

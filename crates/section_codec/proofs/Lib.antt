@@ -1,5 +1,3 @@
--- the times that bytes show, as they are read
-pub mod TimeReadLaws
 -- an event's bytes, field by field
 pub mod EventWriteLaws
 -- the event that bytes show, as it is read

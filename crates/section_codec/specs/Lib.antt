@@ -1,4 +1,3 @@
 -- What the contracts of this crate say beyond the model's definitions.
-pub mod TimeRead  -- the times that bytes show
 pub mod EventRead  -- the event at the front of some bytes
 pub mod HeaderRead  -- a header as the code has it, and the header at the front of some bytes

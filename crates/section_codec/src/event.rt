@@ -1,9 +1,8 @@
 // One event as bytes, and back (01, "The file of sections").
-use crate::time;
-use crate::time::TimeRead;
 use codec::chain;
 use codec::fields;
 use eit::Record;
+use time_codec::TimeRead;
 ghost use mathlib.Core.Path.{_≡_};
 ghost use mathlib.Core.Bool.{_||_};
 ghost use Prim.Native.Nat.{_+_, _*_};
@@ -57,8 +56,8 @@ pub fn write_event(out: &mut [u8], at: usize, base_day: u32, event: Record, chai
         return;
     }
     fields::write_field(out, at, 2, event.id as usize);
-    time::write_start(out, at + 2, base_day, event.start);
-    time::write_duration(out, at + 7, event.duration);
+    time_codec::write_start(out, at + 2, base_day, event.start);
+    time_codec::write_duration(out, at + 7, event.duration);
     fields::write_field(out, at + 10, 2, status_bits(event.marks) + chain.len());
     write_chain(out, at + OVERHEAD, chain);
 }
@@ -83,10 +82,10 @@ pub fn read_event(bytes: &[u8], base_day: u32) -> EventRead
     if !is_status(status) {
         return EventRead::Broken;
     }
-    let TimeRead::Seconds(start) = time::read_start(bytes, 2, base_day) else {
+    let TimeRead::Seconds(start) = time_codec::read_start(bytes, 2, base_day) else {
         return EventRead::Broken;
     };
-    let TimeRead::Seconds(duration) = time::read_duration(bytes, 7) else {
+    let TimeRead::Seconds(duration) = time_codec::read_duration(bytes, 7) else {
         return EventRead::Broken;
     };
     if !chain::is_chain(&bytes[OVERHEAD..size]) {

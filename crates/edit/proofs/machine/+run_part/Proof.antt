@@ -9,17 +9,17 @@ use borrow.Author.Needs.{needs}
 use borrow.Fn.Kinds.{In}
 use borrow.Fn.PlainCycle.{Measures, is, falls, and}
 use Rattle.eit.specs.Records.{lentList}
-use Rattle.edit.specs.Commands.{commandTold, commandsAt}
-use Rattle.edit.proofs.PartLaws.{commands-fit}
+use Rattle.script_scan.specs.Commands.{commandTold, commandsAt}
+use Rattle.script_scan.proofs.PartLaws.{commands-fit}
 use Rattle.edit.proofs.HalfLaws.{sound-held, part-struck, part-one, part-sound, half-within, half-ends, half-goes-on}
 use Rattle.edit.proofs.machine.run_part.Reads as run-part
 use Rattle.edit.proofs.machine.run_part.Kinds as run-part-kinds
 use Rattle.edit.proofs.machine.+run_part.Lts-run_part as run-part-lts
 use Rattle.edit.proofs.answer.number_of.Reads as number-of-reads
-use Rattle.edit.proofs.command.command_at.Reads as command-at-reads
 use Rattle.edit.proofs.machine.carry_out.Reads as carry-out-reads
 use Rattle.edit.proofs.machine.pending_before.Reads as pending-before-reads
-use Rattle.edit.proofs.scan.skip_commands.Reads as skip-commands-reads
+use Rattle.script_scan.proofs.command.command_at.Reads as command-at-reads
+use Rattle.script_scan.proofs.scan.skip_commands.Reads as skip-commands-reads
 use Rattle.edit.proofs.machine.+run_part.{statement}
 use Rattle.edit.proofs.machine.+run_part.Tie.{close}
 

@@ -11,9 +11,9 @@ use lib.ListN.{length, getD, take}
 use borrow.Author.Needs.{needs}
 use Rattle.script.specs.Form.{operandBytes}
 use Rattle.script.specs.Struck.{passed}
-use Rattle.edit.specs.Commands.{isWholeAt, commandsAt}
-use Rattle.edit.proofs.CommandLaws.{whole-here, whole-inside}
-use Rattle.edit.proofs.PartLaws.{commands-fit, part-whole, count-next}
+use Rattle.script_scan.specs.Commands.{isWholeAt, commandsAt}
+use Rattle.script_scan.proofs.CommandLaws.{whole-here, whole-inside}
+use Rattle.script_scan.proofs.PartLaws.{commands-fit, part-whole, count-next}
 use Rattle.edit.proofs.PendingLaws.{pendingAfter, pending-edit, pending-undo, pending-over}
 use Rattle.edit.proofs.machine.pending_before.Statement.{statement}
 use Rattle.edit.proofs.machine.pending_before.Tie as tie

@@ -1,0 +1,2 @@
+-- What the contracts of this crate say beyond the model's definitions.
+pub mod Commands  -- forms, UNDOs and commands as the model has them; the commands from an offset on

@@ -1,0 +1,95 @@
+// The passes over a script that come before any edit (01, "When a call says no": 3 over the script, 4 over the script), and its
+// commands, counted and skipped.
+use crate::command;
+ghost use mathlib.Core.Path.{_≡_};
+ghost use lib.ListN.{length};
+ghost use Rattle.script.specs.Form.{formOf};
+ghost use Rattle.script.specs.Struck.{unstruckIn};
+ghost use Rattle.script_scan.specs.Commands.{formTold, strikesTold, isWholeAt, commandsAt, offsetBehind};
+
+// The form of a script.
+pub enum Form {
+    Whole,
+    // The offset of the first unknown command or cut operand.
+    Broken(usize),
+}
+
+// Whether each UNDO has something to strike.
+pub enum Strikes {
+    Enough,
+    // The offset of the first UNDO that has not.
+    NothingAt(usize),
+}
+
+// Whether a known command stands at `at` with its operands.
+pub fn is_whole_at(script: &[u8], at: usize) -> bool
+    ensures { λ r. ⌜ r ≡ isWholeAt at (now (script .entry)) ⌝ }
+{
+    if script.len() <= at {
+        return false;
+    }
+    let code = script[at];
+    command::is_command(code) && command::operand_bytes(code) <= script.len() - at - 1
+}
+
+// A script is whole if its whole commands reach its end.
+pub fn form_of(script: &[u8]) -> Form
+    ensures { λ r. ⌜ r ≡ formTold (formOf (now (script .entry))) ⌝ }
+{
+    let mut at = 0;
+    while is_whole_at(script, at) {
+        at += 1 + command::operand_bytes(script[at]);
+    }
+    if at < script.len() {
+        return Form::Broken(at);
+    }
+    Form::Whole
+}
+
+// Whether each UNDO has something to strike: `kept` counts the edits that are not yet struck.
+pub fn strikes_in(script: &[u8]) -> Strikes
+    ensures { λ r. ⌜ r ≡ strikesTold (unstruckIn (commandsAt 0 (now (script .entry)))) ⌝ }
+{
+    let mut kept: usize = 0;
+    let mut at = 0;
+    while is_whole_at(script, at) {
+        if script[at] != command::UNDO {
+            kept += 1;
+        } else if kept == 0 {
+            return Strikes::NothingAt(at);
+        } else {
+            kept -= 1;
+        }
+        at += 1 + command::operand_bytes(script[at]);
+    }
+    Strikes::Enough
+}
+
+// How many whole commands there are.
+pub fn count_commands(script: &[u8]) -> usize
+    ensures { λ r. ⌜ r ≡ length (commandsAt 0 (now (script .entry))) ⌝ }
+{
+    let mut count: usize = 0;
+    let mut at = 0;
+    while is_whole_at(script, at) {
+        count += 1;
+        at += 1 + command::operand_bytes(script[at]);
+    }
+    count
+}
+
+// The offset behind k whole commands from `at` on, or behind as many as there are.
+pub fn skip_commands(script: &[u8], at: usize, k: usize) -> usize
+    ensures { λ r. ⌜ r ≡ offsetBehind k at (now (script .entry)) ⌝ }
+{
+    let mut i = at;
+    let mut left = k;
+    while 0 < left {
+        if !is_whole_at(script, i) {
+            return i;
+        }
+        i += 1 + command::operand_bytes(script[i]);
+        left -= 1;
+    }
+    i
+}

@@ -1,0 +1,2 @@
+-- the times that bytes show, as they are read
+pub mod TimeReadLaws
