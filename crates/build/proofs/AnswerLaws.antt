@@ -17,7 +17,6 @@ use Rattle.eit.specs.Records.{EventList, lentList, recordsIn}
 use Rattle.eit.specs.Events.{Event, eventsIn}
 use Rattle.eit.specs.Sound.{sound, eventsOf}
 use Rattle.eit.specs.declared.Identity.{Identity}
-use Rattle.eit.proofs.Test.{test-or, true-is, false-is}
 use Rattle.sections.specs.Every.{Every}
 use Rattle.sections.specs.Section.{Section, sectionSizes}
 use Rattle.sections.specs.Encode.{fileBytes}
@@ -35,27 +34,9 @@ use Rattle.schedule.proofs.Build.{build-unsound, build-sound, events-refused, e
 use Rattle.section_counts.specs.Counting.{indexOr512, needOf, countedOf}
 use Rattle.section_counts.specs.declared.count.Counted.{Counted}
 use Rattle.section_counts.proofs.WalkLaws.{events-are}
-use Rattle.section_counts.proofs.CountEnd.{counted-counts}
+use Rattle.section_counts.proofs.CountEnd.{soundWith, sound-is, counted-sound}
 use Rattle.section_counts.proofs.NeedLaws.{need-is}
 use Rattle.build.specs.Writing.{Writable}
-
--- ---- what is counted of a list
-
-module _ (sizes : Sizes) (pools : Pools) (list : EventList) where
-  sound-is : countedOf sizes pools list .«is_sound» ≡ sound sizes pools list
-  unfolding countedOf
-  sound-is =
-      ⊎-elim (λ is. rw (countedOf, true-is (sound sizes pools list) is)) (λ fails. rw (countedOf, false-is (sound sizes pools list) fails))
-      (test-or (sound sizes pools list))
-
-  module _ (is-sound : T (sound sizes pools list)) where
-    lowest-is : countedOf sizes pools list .lowest ≡ indexOr512 (lowestUnpackable sizes (eventsOf pools list))
-    unfolding countedOf
-    lowest-is = rw (countedOf, true-is (sound sizes pools list) is-sound)
-
-    bytes-are : countedOf sizes pools list .need ≡ needOf sizes (eventsOf pools list)
-    unfolding countedOf
-    bytes-are = rw (countedOf, true-is (sound sizes pools list) is-sound)
 
 index-found : (o : Option ℕ) {n : ℕ} → n ≡ indexOr512 o → n < 512 → o ≡ some n
 index-found none is few = absurd (omega arith)
@@ -93,7 +74,7 @@ module _ (bytes limit : ℕ) (pools : Pools) (numbers : List ℕ) (count : ℕ) 
   pub answer-unsound : counted .«is_sound» ≡ false → answer ≡ record { number = 12; value = 0; output = output }
   answer-unsound fails =
       let unsound : sound sizes pools list ≡ false =
-      sym (sound-is sizes pools list) ∙ sym (ap (λ (c : Counted). c .«is_sound») is-counted) ∙ fails in
+      sym (counted-sound sizes pools list) ∙ sym (ap (λ (c : Counted). c .«is_sound») is-counted) ∙ fails in
       build-unsound sizes pools list base identity output legalBase legalVersion (subst (λ (b : Bool). T (not b)) (sym unsound) tt)
 
   module _ (is : counted .«is_sound» ≡ true) where
@@ -101,22 +82,25 @@ module _ (bytes limit : ℕ) (pools : Pools) (numbers : List ℕ) (count : ℕ) 
     es = eventsOf pools list
 
     holds : T (sound sizes pools list)
-    holds = subst T (sym (sym (sound-is sizes pools list) ∙ sym (ap (λ (c : Counted). c .«is_sound») is-counted) ∙ is)) tt
+    holds = subst T (sym (sym (counted-sound sizes pools list) ∙ sym (ap (λ (c : Counted). c .«is_sound») is-counted) ∙ is)) tt
+
+    found : counted
+        ≡ soundWith (flatten (plan sizes pools list)) (indexOr512 (lowestUnpackable sizes es)) (needOf sizes es)
+    found = is-counted ∙ sound-is sizes pools list holds
 
     lowest-found : counted .lowest ≡ indexOr512 (lowestUnpackable sizes es)
-    lowest-found = ap (λ (c : Counted). c .lowest) is-counted ∙ lowest-is sizes pools list holds
+    lowest-found = ap (λ (c : Counted). c .lowest) found
 
     need-found : counted .need ≡ sectionSizes (sectionsOf sizes identity es)
-    need-found =
-        ap (λ (c : Counted). c .need) is-counted ∙ bytes-are sizes pools list holds ∙ sym (need-is sizes es identity)
+    need-found = ap (λ (c : Counted). c .need) found ∙ sym (need-is sizes es identity)
 
     built-events : answer ≡ buildEvents sizes base identity es output
     built-events = build-sound sizes pools list base identity output legalBase legalVersion holds
 
     pub answer-unpackable : counted .lowest < 512 → answer ≡ record { number = 10; value = counted .lowest; output = output }
-    answer-unpackable found =
+    answer-unpackable few =
         built-events
-        ∙ events-refused sizes base identity es output (counted .lowest) (index-found (lowestUnpackable sizes es) lowest-found found)
+        ∙ events-refused sizes base identity es output (counted .lowest) (index-found (lowestUnpackable sizes es) lowest-found few)
 
     module _ (day : Bytes (pools .day)) (series : Bytes (pools .series)) (none-found : 512 ≤ counted .lowest) where
       facts : SoundEvents sizes es
@@ -126,7 +110,7 @@ module _ (bytes limit : ℕ) (pools : Pools) (numbers : List ℕ) (count : ℕ) 
       none-unpackable =
           ⊎-elim
           (λ fits. fits)
-          (λ (index, found, few, fails, before). absurd (omega (arith, lowest-found, ap indexOr512 found)))
+          (λ (index, first, few, fails, before). absurd (omega (arith, lowest-found, ap indexOr512 first)))
           (packable-or sizes es facts)
 
       built-sections : answer ≡ written base (sectionsOf sizes identity es) output
@@ -143,8 +127,7 @@ module _ (bytes limit : ℕ) (pools : Pools) (numbers : List ℕ) (count : ℕ) 
 
       counts-are : counted .counts ≡ each (sectionCount (sectionsUpTo bytes) es) 0 512
       counts-are =
-          ap (λ (c : Counted). c .counts) is-counted
-          ∙ counted-counts sizes pools list
+          ap (λ (c : Counted). c .counts) found
           ∙ ap flatten (plan-sound sizes pools list holds)
           ∙ flat-plan (sectionCount sizes es)
           ∙ each-same (sectionCount sizes es) (sectionCount (sectionsUpTo bytes) es) 0 512 (λ index. sym (count-sized bytes limit es index))
@@ -162,12 +145,15 @@ module _ (bytes limit : ℕ) (pools : Pools) (numbers : List ℕ) (count : ℕ) 
           })
 
       pub answer-done : counted .need ≤ length output → {after : List ℕ}
-          → after ≡ overwrite output 0 (fileBytes base (sectionsOf (sectionsUpTo bytes) identity (eventsIn pools (recordsIn count numbers))))
+          → after
+          ≡ overwrite output 0
+          (fileBytes base (sectionsOf (sectionsUpTo bytes) identity (eventsIn pools (recordsIn count numbers))))
           → answer ≡ record { number = 0; value = counted .need; output = after }
       answer-done fits {after} is-after =
           let same : after ≡ overwrite output 0 (fileBytes base (sectionsOf sizes identity es)) =
           is-after
-          ∙ ap (λ (fs : List Event). overwrite output 0 (fileBytes base (sectionsOf (sectionsUpTo bytes) identity fs))) (sym (events-are pools numbers count))
+          ∙ ap (λ (fs : List Event). overwrite output 0 (fileBytes base (sectionsOf (sectionsUpTo bytes) identity fs)))
+          (sym (events-are pools numbers count))
           ∙ ap (λ (ss : List Section). overwrite output 0 (fileBytes base ss)) (sections-sized bytes limit es identity) in
           built-sections
           ∙ written-fits base (sectionsOf sizes identity es) output (omega (arith, need-found))

@@ -18,12 +18,12 @@ use Rattle.schedule.specs.SectionsOf.{partsOf, tableLast}
 use Rattle.schedule.specs.Plan.{sectionCount}
 use Rattle.schedule.proofs.Each.{each-length, each-at}
 use Rattle.schedule.proofs.Extent.{segment-in-table, is-inside, inside-is}
+use Rattle.schedule.proofs.Numbers.{segment-last-is, table-last-is}
 use Rattle.schedule.proofs.Parts.{parts-some, parts-few}
 use Rattle.schedule.proofs.Plan.{count-outside, count-inside}
 use Rattle.build.specs.Rows.{rowLast, IsRow}
 use Rattle.build.specs.Writing.{Writable}
 use Rattle.build.proofs.RowLaws.{counted-is, last-is}
-use Rattle.build.proofs.PartLaws.{table-number}
 
 module _ {sizes : Sizes} {identity : Identity} {es : List Event} {counts d : List ℕ}
     (ready : Writable sizes identity es counts d)
@@ -101,4 +101,4 @@ module _ {sizes : Sizes} {identity : Identity} {es : List Event} {counts d : Lis
           last-is (drop index counts) s
           (counted-is 31 s (drop index counts) (omega arith) (inr (λ none. omega arith)) behind)
           ∙ ap (λ (n : ℕ). 8 * s + (n - 1)) here
-          ∙ sym (table-number sizes es table)
+          ∙ sym (table-last-is sizes es table ∙ segment-last-is sizes es (lastSegment es table))

@@ -15,6 +15,9 @@ use Rattle.eit.specs.declared.Identity.{Identity}
 use Rattle.sections.specs.Segment.{firstSection}
 use Rattle.sections.specs.Section.{Header, Section, sectionSizes}
 use Rattle.sections.specs.Encode.{fileBytes}
+use Rattle.sections.proofs.RowBytes.{file-none, file-append}
+use Rattle.sections.proofs.Lengths.{file-length}
+use Rattle.codec.proofs.LeftLaws.{Left, left-all, left-fits, left-more, left-end}
 use Rattle.section_codec.specs.HeaderRead.{heldHeader}
 use Rattle.section_codec.specs.declared.header.SectionHeader.{SectionHeader}
 use Rattle.section_counts.specs.Between.{eventsBetween, leading}
@@ -27,7 +30,6 @@ use Rattle.schedule.proofs.Extent.{tables-few, is-inside, inside-is}
 use Rattle.schedule.proofs.ByIndex.{insidePart, part-inside, part-outside, file-by-index}
 use Rattle.build.specs.Sections.{firstHeader, sectionsFrom}
 use Rattle.build.specs.Writing.{Writable}
-use Rattle.build.proofs.SectionsLaws.{SectionsLeft, sections-start, sections-written, sections-fit, sections-end}
 use Rattle.build.proofs.PartLaws.{header-is, segment-is}
 use Rattle.build.proofs.CountsLaws.{count-parts, counted-inside, counted-outside}
 
@@ -41,7 +43,7 @@ pub record FileSoFar (pools : Pools) (numbers : List ℕ) (count : ℕ) (sizes :
     : Type 0 where
   pub left :
       let es = heldEvents pools numbers count in
-      SectionsLeft base d 0 (sectionsOf sizes identity es) out at (sectionsAfter sizes identity es index)
+      Left d 0 (fileBytes base (sectionsOf sizes identity es)) out at (fileBytes base (sectionsAfter sizes identity es index))
   pub walk : Walk pools numbers count from index
   pub few : index ≤ 512
   -- behind the first segment of a table L is known
@@ -77,8 +79,9 @@ module _ (pools : Pools) (numbers : List ℕ) (count : ℕ) {sizes : Sizes} {ide
         let all : List Section = sectionsOf sizes identity es in
         record {
           left =
-              subst (SectionsLeft base d 0 all d 0) (file-by-index sizes identity es (ready .starts))
-              (sections-start base d 0 all (omega (arith, ready .fits)));
+              subst (Left d 0 (fileBytes base all) d 0)
+              (ap (fileBytes base) (file-by-index sizes identity es (ready .starts)))
+              (left-all d 0 (fileBytes base all) (omega (arith, ready .fits, file-length base all)));
           walk = walk-start pools numbers count;
           few = omega arith;
           known = λ later. absurd (omega arith);
@@ -91,29 +94,26 @@ module _ (pools : Pools) (numbers : List ℕ) (count : ℕ) {sizes : Sizes} {ide
         file-end ended =
             let parts : ℕ → List Section = insidePart sizes identity es in
             let none : 512 - index ≡ 0 = omega arith in
-            sections-end
-            (subst (SectionsLeft base d 0 (sectionsOf sizes identity es) out at)
+            left-end (so-far .left)
+            (ap (fileBytes base)
             (ap (λ (n : ℕ). flatten (each parts index n)) none
             ∙ joined-none parts index 0 (λ k low high. absurd (omega arith)))
-            (so-far .left)) .0
+            ∙ file-none base) .0
 
         module _ (few : index < 512) where
           abbrev behind : List Section
           behind = sectionsAfter sizes identity es (index + 1)
 
           -- the segment's part, and those behind it
-          next-part : SectionsLeft base d 0 (sectionsOf sizes identity es) out at
-              (insidePart sizes identity es index ++ behind)
+          next-part : sectionsAfter sizes identity es index ≡ insidePart sizes identity es index ++ behind
           next-part =
               let parts : ℕ → List Section = insidePart sizes identity es in
               let n : ℕ = 512 - (index + 1) in
               let one : 512 - index ≡ suc n = omega arith in
               let next : suc index ≡ index + 1 = omega arith in
-              subst (SectionsLeft base d 0 (sectionsOf sizes identity es) out at)
-              (ap (λ (k : ℕ). flatten (each parts index k)) one
+              ap (λ (k : ℕ). flatten (each parts index k)) one
               ∙ joined-more parts index n
-              ∙ ap (λ (k : ℕ). parts index ++ flatten (each parts k n)) next)
-              (so-far .left)
+              ∙ ap (λ (k : ℕ). parts index ++ flatten (each parts k n)) next
 
           -- ---- a segment outside the range has no part, and no later one of its table has
 
@@ -122,8 +122,10 @@ module _ (pools : Pools) (numbers : List ℕ) (count : ℕ) {sizes : Sizes} {ide
               let outside : T (not (isInside es index)) = counted-outside ready index few none in
               record {
                 left =
-                    subst (SectionsLeft base d 0 (sectionsOf sizes identity es) out at)
-                    (ap (λ (ss : List Section). ss ++ behind) (part-outside sizes identity es index outside)) next-part;
+                    subst (Left d 0 (fileBytes base (sectionsOf sizes identity es)) out at)
+                    (ap (fileBytes base)
+                    (next-part ∙ ap (λ (ss : List Section). ss ++ behind) (part-outside sizes identity es index outside)))
+                    (so-far .left);
                 walk = walk-past pools numbers count (ready .rises) (so-far .walk) outside;
                 few = omega arith;
                 known =
@@ -168,14 +170,19 @@ module _ (pools : Pools) (numbers : List ℕ) (count : ℕ) {sizes : Sizes} {ide
                       ∙ sym (segment-is sizes identity es index)
                       ∙ sym (part-inside sizes identity es index inside-range)
 
-                  part-left : SectionsLeft base d 0 (sectionsOf sizes identity es) out at (sections ++ behind)
-                  part-left =
-                      subst
-                      (λ (ss : List Section). SectionsLeft base d 0 (sectionsOf sizes identity es) out at (ss ++ behind))
-                      (sym written-is) next-part
+                  bytes-are : fileBytes base (sectionsAfter sizes identity es index)
+                      ≡ fileBytes base sections ++ fileBytes base behind
+                  bytes-are =
+                      ap (fileBytes base) (next-part ∙ ap (λ (ss : List Section). ss ++ behind) (sym written-is))
+                      ∙ file-append base sections behind
 
                   pub part-fits : at + sectionSizes sections ≤ length out
-                  part-fits = sections-fit sections behind part-left
+                  part-fits =
+                      omega (
+                        arith,
+                        left-fits (so-far .left) (fileBytes base sections) (fileBytes base behind) bytes-are,
+                        file-length base sections,
+                      )
 
                   pub file-more : {out′ : List ℕ} {at′ : ℕ}
                       → out′ ≡ overwrite out at (fileBytes base sections)
@@ -183,7 +190,9 @@ module _ (pools : Pools) (numbers : List ℕ) (count : ℕ) {sizes : Sizes} {ide
                       → FileSoFar pools numbers count sizes identity base d out′ last′ at′ end (index + 1)
                   file-more written seam =
                       record {
-                        left = sections-written sections behind part-left written seam;
+                        left =
+                            left-more (so-far .left) (fileBytes base sections) (fileBytes base behind) bytes-are written
+                            (omega (arith, seam, file-length base sections));
                         walk = walk-on pools numbers count (ready .rises) (so-far .walk) end ends;
                         few = omega arith;
                         known =

@@ -1,7 +1,7 @@
 -- Laws of this crate's definitions, and the proofs of its functions.
 -- a section written part by part
 pub mod SectionLaws
--- sections written one behind the other
+-- the sections of a segment, written one after the other
 pub mod SectionsLaws
 -- the last section of a table, searched downwards
 pub mod RowLaws

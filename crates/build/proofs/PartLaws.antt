@@ -12,22 +12,10 @@ use Rattle.sections.specs.Segment.{tableOf, firstSection}
 use Rattle.sections.specs.Section.{Header, Section, eventSize}
 use Rattle.sections.specs.Count.{segmentEvents}
 use Rattle.section_codec.specs.HeaderRead.{heldHeader}
-use Rattle.schedule.specs.Extent.{lastTableIdOf, lastSegment}
+use Rattle.schedule.specs.Extent.{lastTableIdOf}
 use Rattle.schedule.specs.SectionsOf.{packed, partsOf, segmentLast, tableLast, headerOf, numberedFrom, segmentPart}
+use Rattle.schedule.proofs.Numbers.{segment-last-is}
 use Rattle.build.specs.Sections.{firstHeader, sectionsFrom}
-
--- ---- the numbers G and L
-
-module _ (sizes : Sizes) (es : List Event) where
-  segment-number : (index : ℕ) → segmentLast sizes es index ≡ firstSection index + (length (partsOf sizes es index) - 1)
-  unfolding segmentLast
-  segment-number index = refl
-
-  pub table-number : (table : ℕ)
-      → let last = lastSegment es table in
-      tableLast sizes es table ≡ firstSection last + (length (partsOf sizes es last) - 1)
-  unfolding tableLast
-  table-number table = segment-number (lastSegment es table)
 
 -- ---- the header
 
@@ -49,7 +37,7 @@ module _ (sizes : Sizes) (identity : Identity) (es : List Event) (index : ℕ) w
         identity = identity;
       } in
       let is-number : firstSection index + (sections - 1) ≡ segmentLast sizes es index =
-      ap (λ (n : ℕ). firstSection index + (n - 1)) counted ∙ sym (segment-number sizes es index) in
+      ap (λ (n : ℕ). firstSection index + (n - 1)) counted ∙ sym (segment-last-is sizes es index) in
       ap (λ (G : ℕ). held G last lastId) is-number ∙ ap₂ (held (segmentLast sizes es index)) is-last is-id
 
   -- ---- the sections

@@ -1,8 +1,8 @@
 -- A section written part by part, header, events and CRC_32, is one write of its bytes: what is left to write shrinks
 -- with each write, by the laws of `overwrite`. Assumes nothing.
 use Prim.Native.Nat.{ℕ, suc, _+_, _-_, _*_, _≤_, _<_}
-use mathlib.Core.List.{List, [], _∷_, _++_}
-use mathlib.Core.Path.{_≡_, refl, sym, ap, ap₂, subst, _∙_}
+use mathlib.Core.List.{List, _∷_, _++_}
+use mathlib.Core.Path.{_≡_, sym, ap, ap₂, _∙_}
 use native.Mathlib.Omega.{arith}
 use lib.ListN.{length, take, drop}
 use Rattle.eit.specs.Fields.{Bytes, bigEndian}
@@ -13,113 +13,61 @@ use Rattle.eit.specs.Records.{recordSize, frontRecord}
 use Rattle.eit.specs.Events.{Event, eventWith, eventOf}
 use Rattle.eit.specs.declared.Record.{Record}
 use Rattle.eit.proofs.Fields.{bytes-take, bytes-drop}
-use Rattle.eit.proofs.Overwrite.{over-nothing, over-length, over-within, over-over, over-then}
-use Rattle.sections.specs.Section.{Section, headerSize, eventOverhead, eventSize, eventSizes, sectionSize}
+use Rattle.eit.proofs.Overwrite.{over-length, over-within, over-then}
+use Rattle.sections.specs.Section.{Section, headerSize, eventOverhead, eventSizes, sectionSize}
 use Rattle.sections.specs.Encode.{eventBytes, headerBytes, eventLoopBytes, coveredBytes, sectionBytes}
+use Rattle.sections.proofs.RowBytes.{loop-none, loop-more}
+use Rattle.sections.proofs.SectionBack.{section-is, covered-is}
 use Rattle.sections.proofs.Lengths.{event-length, header-length, covered-length}
 use Rattle.codec.specs.Write.{writeAt}
 use Rattle.codec.specs.CrcTable.{crcTable, crcBy}
 use Rattle.codec.proofs.WriteLaws.{write-fits}
+use Rattle.codec.proofs.LeftLaws.{Left, left-fits, left-more, left-end}
 use Rattle.codec.proofs.CrcLaws.{crc32-by-table}
 use Rattle.section_counts.specs.Between.{eventsBetween}
 use Rattle.section_counts.proofs.BetweenLaws.{between-more, between-end}
 
 -- ---- the events
 
-loop-none : (base : ℕ) → eventLoopBytes base [] ≡ []
-unfolding eventLoopBytes
-loop-none base = refl
+-- the events from `at` on are to be written, and those from place i on are left
+module _ (base : ℕ) (pools : Pools) (numbers : List ℕ) (i end : ℕ) {d : List ℕ} {at : ℕ} {all out : List ℕ} {place : ℕ}
+    (left : Left d at all out place (eventLoopBytes base (eventsBetween pools numbers i end)))
+  where
+    pub events-written : end ≤ i → (out ≡ overwrite d at all) × (place ≡ at + length all)
+    events-written behind =
+        left-end left (ap (eventLoopBytes base) (between-end pools numbers i end behind) ∙ loop-none base)
 
-loop-more : (base : ℕ) (e : Event) (es : List Event)
-    → eventLoopBytes base (e ∷ es) ≡ eventBytes base e ++ eventLoopBytes base es
-unfolding eventLoopBytes
-loop-more base e es = refl
+    -- the next one, with its record and its chain as the code has them
+    module _ {r : Record} {chain : List ℕ} (within : i < end) (found : r ≡ frontRecord (drop (i * recordSize) numbers))
+        (chosen : chain ≡ choose pools (r .marks) (r .offset) (r .«chain_length»))
+      where
+        abbrev next : List ℕ
+        next = eventBytes base (eventWith r chain)
 
--- of the events that d gets from `at` on, those before `rest` stand in `out`; the rest goes there from `place` on
-pub record Left (base : ℕ) (d : List ℕ) (at : ℕ) (all : List Event) (out : List ℕ) (place : ℕ) (rest : List Event)
-    : Type 0 where
-  pub bytes : overwrite d at (eventLoopBytes base all) ≡ overwrite out place (eventLoopBytes base rest)
-  pub ends : at + eventSizes all ≡ place + eventSizes rest
-  pub size : length out ≡ length d
-  pub fits : place + eventSizes rest ≤ length d
+        abbrev behind : List ℕ
+        behind = eventLoopBytes base (eventsBetween pools numbers (i + 1) end)
 
-pub all-left : (base : ℕ) (d : List ℕ) (at : ℕ) (all : List Event) → at + eventSizes all ≤ length d
-    → Left base d at all d at all
-all-left base d at all fits = record { bytes = refl; ends = refl; size = refl; fits = fits }
+        parts : eventLoopBytes base (eventsBetween pools numbers i end) ≡ next ++ behind
+        parts =
+            let same : eventOf pools (frontRecord (drop (i * recordSize) numbers)) ≡ eventWith r chain =
+            ap (eventOf pools) (sym found) ∙ ap (eventWith r) (sym chosen) in
+            let after : suc i ≡ i + 1 = omega arith in
+            ap (eventLoopBytes base)
+            (between-more pools numbers i end within
+            ∙ ap₂ (λ (e : Event) (k : ℕ). e ∷ eventsBetween pools numbers k end) same after)
+            ∙ loop-more base (eventWith r chain) (eventsBetween pools numbers (i + 1) end)
 
-module _ {base : ℕ} {d : List ℕ} {at : ℕ} {all : List Event} {out : List ℕ} {place : ℕ} where
-  rest-left : (e : Event) (rest : List Event) {out′ : List ℕ}
-      → Left base d at all out place (e ∷ rest)
-      → out′ ≡ writeAt out place (eventBytes base e)
-      → Left base d at all out′ (place + eventSize e) rest
-  rest-left e rest {out′} left written =
-      let bs : List ℕ = eventBytes base e in
-      let width : length bs ≡ eventSize e = event-length base e in
-      let room : place + length bs ≤ length out = omega (arith, left .size, left .fits) in
-      let over : out′ ≡ overwrite out place bs = written ∙ write-fits out place bs room in
-      let seam : place + length bs ≡ place + eventSize e = omega arith in
-      record {
-        bytes =
-            left .bytes
-            ∙ ap (overwrite out place) (loop-more base e rest)
-            ∙ sym (over-over out place bs (eventLoopBytes base rest) (omega arith))
-            ∙ ap₂ (λ (l : List ℕ) (k : ℕ). overwrite l k (eventLoopBytes base rest)) (sym over) seam;
-        ends = omega (arith, left .ends);
-        size = ap length over ∙ over-length out place bs room ∙ left .size;
-        fits = omega (arith, left .fits);
-      }
+        pub next-fits : place + (eventOverhead + length chain) ≤ length out
+        next-fits = omega (arith, left-fits left next behind parts, event-length base (eventWith r chain))
 
-  none-left : Left base d at all out place []
-      → (out ≡ overwrite d at (eventLoopBytes base all)) × (place ≡ at + eventSizes all)
-  none-left left = (
-    sym (left .bytes ∙ ap (overwrite out place) (loop-none base) ∙ over-nothing out place),
-    omega (arith, left .ends),
-  )
-
--- the events of a list, from place i on
-module _ (pools : Pools) (numbers : List ℕ) (i end : ℕ) where
-  -- with record i and its chain as the code has them
-  module _ {r : Record} {chain : List ℕ} (within : i < end) (found : r ≡ frontRecord (drop (i * recordSize) numbers))
-      (chosen : chain ≡ choose pools (r .marks) (r .offset) (r .«chain_length»))
-    where
-      next-event : eventsBetween pools numbers i end ≡ eventWith r chain ∷ eventsBetween pools numbers (i + 1) end
-      next-event =
-          let same : eventOf pools (frontRecord (drop (i * recordSize) numbers)) ≡ eventWith r chain =
-          ap (eventOf pools) (sym found) ∙ ap (eventWith r) (sym chosen) in
-          let next : suc i ≡ i + 1 = omega arith in
-          between-more pools numbers i end within
-          ∙ ap₂ (λ (e : Event) (k : ℕ). e ∷ eventsBetween pools numbers k end) same next
-
-      module _ {base : ℕ} {d : List ℕ} {at : ℕ} {all : List Event} {out : List ℕ} {place : ℕ}
-          (left : Left base d at all out place (eventsBetween pools numbers i end))
-        where
-          pub next-fits : place + (eventOverhead + length chain) ≤ length d
-          next-fits = omega (arith, left .fits, ap eventSizes next-event)
-
-          pub next-written : {out′ : List ℕ} → out′ ≡ writeAt out place (eventBytes base (eventWith r chain))
-              → Left base d at all out′ (place + (eventOverhead + length chain)) (eventsBetween pools numbers (i + 1) end)
-          next-written written =
-              rest-left (eventWith r chain) (eventsBetween pools numbers (i + 1) end)
-              (subst (Left base d at all out place) next-event left) written
-
-  pub events-written : {base : ℕ} {d : List ℕ} {at : ℕ} {all : List Event} {out : List ℕ} {place : ℕ}
-      → end ≤ i
-      → Left base d at all out place (eventsBetween pools numbers i end)
-      → (out ≡ overwrite d at (eventLoopBytes base all)) × (place ≡ at + eventSizes all)
-  events-written {base} {d} {at} {all} {out} {place} behind left =
-      none-left (subst (Left base d at all out place) (between-end pools numbers i end behind) left)
+        pub next-written : {out′ : List ℕ} → out′ ≡ writeAt out place next
+            → Left d at all out′ (place + (eventOverhead + length chain)) behind
+        next-written written =
+            left-more left next behind parts
+            (written ∙ write-fits out place next (left-fits left next behind parts))
+            (omega (arith, event-length base (eventWith r chain)))
 
 -- ---- the section
-
-covered-is : (base : ℕ) (s : Section)
-    → coveredBytes base s ≡ headerBytes (sectionSize s) (s .header) ++ eventLoopBytes base (s .events)
-unfolding coveredBytes
-covered-is base s = refl
-
-section-is : (base : ℕ) (s : Section)
-    → sectionBytes base s ≡ coveredBytes base s ++ bigEndian 4 (crc32 (coveredBytes base s))
-unfolding sectionBytes
-section-is base s = refl
 
 module _ (base : ℕ) (s : Section) (d : List ℕ) (at : ℕ) {size : ℕ} (is-size : size ≡ sectionSize s)
     (fits : at + size ≤ length d)

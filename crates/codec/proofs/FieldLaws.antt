@@ -16,11 +16,11 @@ use Rattle.codec.proofs.WriteLaws.{write-fits, over-prepend}
 
 -- ---- parts of parts
 
-pub drop-take : (m n : ℕ) (bs : List ℕ) → drop m (take n bs) ≡ take (n - m) (drop m bs)
-drop-take zero n bs = let all : n - 0 ≡ n = omega arith in rw all
-drop-take (suc m) zero bs = let nothing : 0 - suc m ≡ 0 = omega arith in rw nothing
+pub drop-take : {A : Type 0} (m n : ℕ) (xs : List A) → drop m (take n xs) ≡ take (n - m) (drop m xs)
+drop-take zero n xs = let all : n - 0 ≡ n = omega arith in rw all
+drop-take (suc m) zero xs = let nothing : 0 - suc m ≡ 0 = omega arith in rw nothing
 drop-take (suc m) (suc n) [] = sym (take-nil (suc n - suc m))
-drop-take (suc m) (suc n) (b ∷ bs) = let one-less : suc n - suc m ≡ n - m = omega arith in rw one-less (drop-take m n bs)
+drop-take (suc m) (suc n) (x ∷ xs) = let one-less : suc n - suc m ≡ n - m = omega arith in rw one-less (drop-take m n xs)
 
 -- ---- reading
 

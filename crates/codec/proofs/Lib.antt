@@ -1,5 +1,7 @@
 -- a write that leaves all where it does not fit, and how such writes compose
 pub mod WriteLaws
+-- writes one behind the other, by what is left to write
+pub mod LeftLaws
 -- fields, byte by byte
 pub mod FieldLaws
 -- chains, from any place of some bytes on

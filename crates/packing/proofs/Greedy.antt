@@ -50,7 +50,18 @@ module _ {A : Type 0} (size : A → ℕ) where
   fit-length room (x ∷ xs) =
       by-test (fits size room x) (λ e. rw (fit, e) (omega (arith, fit-length (room - size x) xs))) (λ e. rw (fit, e) (omega arith))
 
-  -- nor do k parts
+  -- what k parts take, one after the other
+  pub reach-none : (room : ℕ) (xs : List A) → reach size room 0 xs ≡ 0
+  unfolding reach
+  reach-none room xs = refl
+
+  pub reach-more : (room k : ℕ) (xs : List A)
+      → let n = fit size room xs in
+      reach size room (suc k) xs ≡ n + reach size room k (drop n xs)
+  unfolding reach
+  reach-more room k xs = refl
+
+  -- no more than there are
   pub reach-length : (room k : ℕ) (xs : List A) → reach size room k xs ≤ length xs
   unfolding reach
   reach-length room zero xs = omega arith
@@ -114,6 +125,24 @@ module _ {A : Type 0} (size : A → ℕ) where
   greedy-best room k xs ps h = rw (h .ordered) at (parts-best room k ps (h .allFit))
 
   -- ---- the parts that greedy packing makes
+
+  -- one after the other
+  pub greedy-none : (room : ℕ) (xs : List A) → greedy size room 0 xs ≡ []
+  unfolding greedy
+  greedy-none room xs = refl
+
+  pub greedy-end : (room k : ℕ) (xs : List A) → length xs ≡ 0 → greedy size room k xs ≡ []
+  unfolding greedy
+  greedy-end room zero xs none-left = refl
+  greedy-end room (suc k) [] none-left = refl
+  greedy-end room (suc k) (x ∷ xs) none-left = absurd (omega arith)
+
+  pub greedy-more : (room k : ℕ) (xs : List A) → 0 < length xs
+      → let n = fit size room xs in
+      greedy size room (suc k) xs ≡ take n xs ∷ greedy size room k (drop n xs)
+  unfolding greedy
+  greedy-more room k [] some = absurd (omega arith)
+  greedy-more room k (x ∷ xs) some = refl
 
   -- each fits
   pub greedy-fits : (room k : ℕ) (xs : List A) → AllFit size room (greedy size room k xs)

@@ -54,7 +54,7 @@ module _ (sizes : Sizes) (identity : Identity) (es : List Event) where
   unfolding segmentPart
   part-parts index = numbered-parts index (firstSection index) (partsOf sizes es index)
 
-parts-are : (sizes : Sizes) (es : List Event) (index : ℕ) → partsOf sizes es index ≡ packed (room sizes) (segmentEvents index es)
+pub parts-are : (sizes : Sizes) (es : List Event) (index : ℕ) → partsOf sizes es index ≡ packed (room sizes) (segmentEvents index es)
 unfolding partsOf
 parts-are sizes es index = refl
 

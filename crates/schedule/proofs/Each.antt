@@ -111,7 +111,9 @@ unfolding each flatten
 joined-split f rest splits least zero = ap rest (omega arith)
 joined-split {A = A} f rest splits least (suc n) =
     splits least
-    ∙ ap (λ (xs : List A). f least ++ xs) (joined-split f rest splits (suc least) n ∙ ap (λ (k : ℕ). flatten (each f (suc least) n) ++ rest k) (omega arith))
+    ∙ ap (λ (xs : List A). f least ++ xs)
+    (joined-split f rest splits (suc least) n
+    ∙ ap (λ (k : ℕ). flatten (each f (suc least) n) ++ rest k) (omega arith))
     ∙ sym (append-assoc (f least) (flatten (each f (suc least) n)) (rest (least + suc n)))
 
 -- a function that keeps the joining of two lists keeps that of a row

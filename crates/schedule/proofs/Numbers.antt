@@ -23,39 +23,40 @@ use Rattle.schedule.proofs.Extent.{segment-in-table}
 use Rattle.schedule.proofs.Parts.{OneOrFilled, parts-some, parts-few}
 use Rattle.schedule.proofs.Linked.{Linked, one, more, linked-ordered, row-linked}
 
-module _ (sizes : Sizes) (identity : Identity) (es : List Event) where
-  -- ---- G and L
+-- ---- G and L
 
-  segment-last-is : (index : ℕ) → segmentLast sizes es index ≡ firstSection index + (length (partsOf sizes es index) - 1)
+module _ (sizes : Sizes) (es : List Event) where
+  pub segment-last-is : (index : ℕ) → segmentLast sizes es index ≡ firstSection index + (length (partsOf sizes es index) - 1)
   unfolding segmentLast
   segment-last-is index = refl
 
-  table-last-is : (table : ℕ) → tableLast sizes es table ≡ segmentLast sizes es (lastSegment es table)
+  pub table-last-is : (table : ℕ) → tableLast sizes es table ≡ segmentLast sizes es (lastSegment es table)
   unfolding tableLast
   table-last-is table = refl
 
+module _ (sizes : Sizes) (identity : Identity) (es : List Event) where
   -- s0 ≤ G ≤ s0 + 7
   segment-last-least : (index : ℕ) → firstSection index ≤ segmentLast sizes es index
-  segment-last-least index = omega (arith, segment-last-is index)
+  segment-last-least index = omega (arith, segment-last-is sizes es index)
 
   segment-last-most : (index : ℕ) → segmentLast sizes es index ≤ firstSection index + 7
-  segment-last-most index = omega (arith, segment-last-is index, parts-few sizes es index)
+  segment-last-most index = omega (arith, segment-last-is sizes es index, parts-few sizes es index)
 
   -- L has a byte
   table-last-byte : (table : ℕ) → tableLast sizes es table < 256
-  table-last-byte table = omega (arith, table-last-is table, segment-last-most (lastSegment es table))
+  table-last-byte table = omega (arith, table-last-is sizes es table, segment-last-most (lastSegment es table))
 
   -- a segment behind which its table has another: s0 + 8 ≤ L
   table-last-later : (index : ℕ) → index < lastSegment es (index / 32) → firstSection index + 8 ≤ tableLast sizes es (index / 32)
   table-last-later index before =
       let l : ℕ = lastSegment es (index / 32) in
       let same : l / 32 ≡ index / 32 = segment-in-table es (index / 32) in
-      omega (arith, table-last-is (index / 32), segment-last-least l)
+      omega (arith, table-last-is sizes es (index / 32), segment-last-least l)
 
   -- its table's last segment: G = L
   table-last-here : (index : ℕ) → index ≡ lastSegment es (index / 32)
       → segmentLast sizes es index ≡ tableLast sizes es (index / 32)
-  table-last-here index here = ap (segmentLast sizes es) here ∙ sym (table-last-is (index / 32))
+  table-last-here index here = ap (segmentLast sizes es) here ∙ sym (table-last-is sizes es (index / 32))
 
   -- so G = L or L ≥ s0 + 8, and G ≤ L
   segment-whole : (index : ℕ) → index ≤ lastSegment es (index / 32)
@@ -137,7 +138,7 @@ module _ (sizes : Sizes) (identity : Identity) (es : List Event) where
       sections-every Keeps
       (λ index table inside.
       numbered-every Keeps index (firstSection index) (partsOf sizes es index)
-      (λ S p least most. header-keeps index S table inside least (omega (arith, segment-last-is index))))
+      (λ S p least most. header-keeps index S table inside least (omega (arith, segment-last-is sizes es index))))
 
   -- no section has no events
   none-empty : (index S : ℕ) (ps : List (List Event)) → NoneEmpty ps
@@ -150,7 +151,7 @@ module _ (sizes : Sizes) (identity : Identity) (es : List Event) where
 
   -- one section alone
   one-alone : (index : ℕ) → length (partsOf sizes es index) ≡ 1 → Alone (headerOf sizes identity es index (firstSection index))
-  one-alone index single = record { number = omega arith; last = omega (arith, segment-last-is index) }
+  one-alone index single = record { number = omega arith; last = omega (arith, segment-last-is sizes es index) }
 
   -- a section without events is alone in its segment
   pub empty-alone : ((index : ℕ) → OneOrFilled (partsOf sizes es index))
@@ -197,7 +198,7 @@ module _ (sizes : Sizes) (identity : Identity) (es : List Event) where
 
   -- a table's last section has the number L
   table-ends : (table : ℕ) → segmentLast sizes es (lastSegment es table) ≡ tableLast sizes es (lastSegment es table / 32)
-  table-ends table = sym (table-last-is table) ∙ ap (tableLast sizes es) (sym (segment-in-table es table))
+  table-ends table = sym (table-last-is sizes es table) ∙ ap (tableLast sizes es) (sym (segment-in-table es table))
 
   -- from a table to the next
   next-table : (table : ℕ) → Next (lastHeader (lastSegment es table)) (firstHeader (suc table * 32))
@@ -226,7 +227,7 @@ module _ (sizes : Sizes) (identity : Identity) (es : List Event) where
   unfolding segmentPart
   segment-linked index inside =
       parts-linked index (firstSection index) (partsOf sizes es index) inside (parts-some sizes es index)
-      (omega (arith, segment-last-is index, parts-some sizes es index))
+      (omega (arith, segment-last-is sizes es index, parts-some sizes es index))
 
   table-linked : (table : ℕ)
       → Linked (firstHeader (table * 32)) (lastHeader (lastSegment es table)) (headersOf (tablePart sizes identity es table))

@@ -1,17 +1,19 @@
 -- The events between two places of a list are a part of the list's events: fewer records give the first of the events,
 -- and event i is that of record i, which stands at i × 6. Assumes nothing.
 use mathlib.Core.Path.{_≡_, refl, sym, ap, _∙_}
+use mathlib.Core.Logic.{⊎-elim}
 use mathlib.Core.List.{List, [], _∷_}
 use Prim.Native.Nat.{ℕ, zero, suc, _+_, _-_, _*_, _≤_, _<_}
-use native.Mathlib.Nat.{zero-add}
 use native.Mathlib.Omega.{arith}
 use lib.ListN.{length, take, drop, length-map, length-drop}
-use lib.Seq.{take-nil, drop-drop}
+use lib.Seq.{drop-drop}
 use Rattle.eit.specs.Pools.{Pools}
 use Rattle.eit.specs.Records.{recordSize, frontRecord, recordsIn}
 use Rattle.eit.specs.Events.{Event, eventOf, eventsIn}
 use Rattle.eit.specs.declared.Record.{Record}
+use Rattle.eit.proofs.Test.{le-or-lt}
 use Rattle.eit.proofs.Records.{records-length}
+use Rattle.codec.proofs.FieldLaws.{drop-take}
 use Rattle.event_list.proofs.RestLaws.{records-from, records-end}
 use Rattle.section_counts.specs.Between.{eventsBetween}
 
@@ -24,13 +26,6 @@ records-fewer zero n d fewer = refl
 records-fewer (suc k) zero d fewer = absurd (omega arith)
 records-fewer (suc k) (suc n) d fewer =
     ap (λ (rs : List Record). frontRecord d ∷ rs) (records-fewer k n (drop recordSize d) (omega arith))
-
-part-of : {A : Type 0} (from n : ℕ) (xs : List A) → drop from (take (from + n) xs) ≡ take n (drop from xs)
-part-of zero n xs = ap (λ (k : ℕ). take k xs) (zero-add n)
-part-of (suc from) n [] = ap (drop (suc from)) (take-nil (suc from + n)) ∙ sym (take-nil n)
-part-of (suc from) n (x ∷ xs) =
-    let e : suc from + n ≡ suc (from + n) = omega arith in
-    rw e (part-of from n xs)
 
 module _ (pools : Pools) where
   events-drop : (n : ℕ) (rs : List Record) → eventsIn pools (drop n rs) ≡ drop n (eventsIn pools rs)
@@ -58,8 +53,9 @@ module _ (pools : Pools) (numbers : List ℕ) where
   unfolding eventsBetween
   between-take count from n within =
       let rs : List Record = recordsIn count numbers in
+      let width : from + n - from ≡ n = omega arith in
       ap (λ (ss : List Record). eventsIn pools (drop from ss)) (records-fewer (from + n) count numbers within)
-      ∙ ap (eventsIn pools) (part-of from n rs)
+      ∙ ap (eventsIn pools) (drop-take from (from + n) rs ∙ ap (λ (k : ℕ). take k (drop from rs)) width)
       ∙ events-take pools n (drop from rs)
       ∙ ap (take n) (events-drop pools from rs)
 
@@ -85,3 +81,16 @@ module _ (pools : Pools) (numbers : List ℕ) where
       length-map (drop i (recordsIn end numbers)) (eventOf pools)
       ∙ length-drop i (recordsIn end numbers)
       ∙ ap (λ (n : ℕ). n - i) (records-length end numbers)
+
+  -- the first of them
+  pub between-front : (from end n : ℕ) → n ≤ length (eventsBetween pools numbers from end)
+      → eventsBetween pools numbers from (from + n) ≡ take n (eventsBetween pools numbers from end)
+  between-front from end n within =
+      let es : List Event = eventsBetween pools numbers from end in
+      let there : n ≤ end - from = omega (arith, between-length from end) in
+      ⊎-elim
+      (λ behind.
+      let none : n ≡ 0 = omega arith in
+      between-end from (from + n) (omega arith) ∙ sym (ap (λ (k : ℕ). take k es) none))
+      (λ before. between-take end from n (omega arith) ∙ ap (take n) (sym (between-all end from)))
+      (le-or-lt end from)

@@ -4,12 +4,10 @@ use mathlib.Core.Path.{_≡_, refl, sym, ap, ap₂, subst, _∙_}
 use mathlib.Core.Bool.{Bool, true, false, not}
 use mathlib.Core.Logic.{⊎-elim}
 use mathlib.Core.List.{List, _∷_, flatten}
-use mathlib.Core.Option.{Option}
 use Prim.Native.Nat.{ℕ, zero, suc, _+_, _-_, _≤_, _<_}
 use native.Mathlib.Omega.{arith}
-use borrow.Author.Tests.{eq-eqb, ne-eqb}
-use lib.Dec.{T, eqb}
-use lib.ListN.{length, getD, replicate}
+use lib.Dec.{T}
+use lib.ListN.{length, replicate}
 use lib.Seq.{ext-getD}
 use Rattle.eit.specs.Sizes.{Sizes}
 use Rattle.eit.specs.Limits.{startLimit}
@@ -18,12 +16,12 @@ use Rattle.eit.specs.Pools.{Pools}
 use Rattle.eit.specs.Records.{EventList, lentList}
 use Rattle.eit.specs.Events.{Event, rising}
 use Rattle.eit.specs.Sound.{sound, eventsOf}
-use Rattle.eit.proofs.Test.{true-is, false-is, test-or, eq-or-not}
+use Rattle.eit.proofs.Test.{true-is, false-is, test-or}
 use Rattle.sections.specs.Every.{Every}
 use Rattle.sections.specs.Section.{sectionSizes}
 use Rattle.sections.proofs.Every.{every-map}
 use Rattle.schedule.specs.Each.{each, lowest}
-use Rattle.schedule.specs.SectionsOf.{isUnpackable, lowestUnpackable, sectionsOf}
+use Rattle.schedule.specs.SectionsOf.{isUnpackable, lowestUnpackable}
 use Rattle.schedule.specs.Plan.{sectionCount, plan}
 use Rattle.schedule.proofs.Each.{each-length, each-at}
 use Rattle.schedule.proofs.SoundEvents.{EventFacts, SoundEvents, sound-events}
@@ -35,15 +33,38 @@ use Rattle.section_counts.proofs.WalkLaws.{heldEvents, events-are}
 use Rattle.section_counts.proofs.CountLaws.{bytes-end}
 use Rattle.section_counts.proofs.CountPass.{CountedSoFar, lowest-end}
 
--- the counts are Plan's, of every list
-pub counted-counts : (sizes : Sizes) (pools : Pools) (list : EventList)
-    → countedOf sizes pools list .counts ≡ flatten (plan sizes pools list)
-unfolding countedOf
-counted-counts sizes pools list =
-    ⊎-elim
-    (λ is. rw (countedOf, true-is (sound sizes pools list) is))
-    (λ unsound. rw (countedOf, false-is (sound sizes pools list) unsound))
-    (test-or (sound sizes pools list))
+-- ---- what is counted, by whether the list is sound
+
+abbrev pub soundWith : List ℕ → ℕ → ℕ → Counted
+soundWith counts low need = record { «is_sound» = true; counts = counts; lowest = low; need = need }
+
+abbrev unsoundWith : List ℕ → Counted
+unsoundWith counts = record { «is_sound» = false; counts = counts; lowest = 512; need = 0 }
+
+module _ (sizes : Sizes) (pools : Pools) (list : EventList) where
+  pub sound-is : T (sound sizes pools list)
+      → countedOf sizes pools list
+      ≡ soundWith (flatten (plan sizes pools list)) (indexOr512 (lowestUnpackable sizes (eventsOf pools list)))
+      (needOf sizes (eventsOf pools list))
+  unfolding countedOf
+  sound-is is = rw (countedOf, true-is (sound sizes pools list) is)
+
+  unsound-is : T (not (sound sizes pools list)) → countedOf sizes pools list ≡ unsoundWith (flatten (plan sizes pools list))
+  unfolding countedOf
+  unsound-is fails = rw (countedOf, false-is (sound sizes pools list) fails)
+
+  -- whether it is, and Plan's counts, of every list
+  pub counted-sound : countedOf sizes pools list .«is_sound» ≡ sound sizes pools list
+  counted-sound =
+      ⊎-elim
+      (λ is. ap (λ (c : Counted). c .«is_sound») (sound-is is) ∙ sym (true-is (sound sizes pools list) is))
+      (λ fails. ap (λ (c : Counted). c .«is_sound») (unsound-is fails) ∙ sym (false-is (sound sizes pools list) fails))
+      (test-or (sound sizes pools list))
+
+  pub counted-counts : countedOf sizes pools list .counts ≡ flatten (plan sizes pools list)
+  counted-counts =
+      ⊎-elim (λ is. ap (λ (c : Counted). c .counts) (sound-is is)) (λ fails. ap (λ (c : Counted). c .counts) (unsound-is fails))
+      (test-or (sound sizes pools list))
 
 -- ---- an unsound list
 
@@ -52,22 +73,15 @@ unfolding each
 each-unsound least zero = refl
 each-unsound least (suc n) = ap (λ (ns : List ℕ). 254 ∷ ns) (each-unsound (suc least) n)
 
-module _ (sizes : Sizes) (pools : Pools) (list : EventList) where
-  abbrev unsoundWith : List ℕ → Counted
-  unsoundWith counts = record { «is_sound» = false; counts = counts; lowest = 512; need = 0 }
-
-  unsound-is : sound sizes pools list ≡ false → countedOf sizes pools list ≡ unsoundWith (flatten (plan sizes pools list))
-  unfolding countedOf
-  unsound-is fails = rw (countedOf, fails)
-
-  pub counted-unsound : sound sizes pools list ≡ false
-      → record { «is_sound» = false; counts = replicate 512 254; lowest = 512; need = 0 } ≡ countedOf sizes pools list
-  counted-unsound fails =
-      let same : flatten (plan sizes pools list) ≡ replicate {A = ℕ} 512 254 =
-      ap flatten (plan-unsound sizes pools list (subst (λ (b : Bool). T (not b)) (sym fails) tt))
-      ∙ flat-plan (λ (index : ℕ). 254)
-      ∙ sym (each-unsound 0 512) in
-      sym (unsound-is fails ∙ ap unsoundWith same)
+pub counted-unsound : (sizes : Sizes) (pools : Pools) (list : EventList) → sound sizes pools list ≡ false
+    → record { «is_sound» = false; counts = replicate 512 254; lowest = 512; need = 0 } ≡ countedOf sizes pools list
+counted-unsound sizes pools list is-false =
+    let fails : T (not (sound sizes pools list)) = subst (λ (b : Bool). T (not b)) (sym is-false) tt in
+    let same : flatten (plan sizes pools list) ≡ replicate {A = ℕ} 512 254 =
+    ap flatten (plan-unsound sizes pools list fails)
+    ∙ flat-plan (λ (index : ℕ). 254)
+    ∙ sym (each-unsound 0 512) in
+    sym (unsound-is sizes pools list fails ∙ ap unsoundWith same)
 
 -- ---- a sound list
 
@@ -81,15 +95,6 @@ module _ (sizes : Sizes) (pools : Pools) (numbers : List ℕ) (count : ℕ) (day
 
   pub sound-rises : T (rising (heldEvents pools numbers count))
   sound-rises = facts .rises
-
-  abbrev soundWith : List ℕ → ℕ → ℕ → Counted
-  soundWith counts low need = record { «is_sound» = true; counts = counts; lowest = low; need = need }
-
-  sound-is : countedOf sizes pools list
-      ≡ soundWith (flatten (plan sizes pools list)) (indexOr512 (lowestUnpackable sizes (eventsOf pools list)))
-      (needOf sizes (eventsOf pools list))
-  unfolding countedOf
-  sound-is = rw (countedOf, true-is (sound sizes pools list) is-sound)
 
   module _ {counts : List ℕ} {low need from index : ℕ} (end : CountedSoFar sizes pools numbers count counts low need from index)
       (behind : 512 ≤ index) where
@@ -134,6 +139,9 @@ module _ (sizes : Sizes) (pools : Pools) (numbers : List ℕ) (count : ℕ) (day
     pub count-end : record { «is_sound» = true; counts = counts; lowest = low; need = need } ≡ countedOf sizes pools list
     count-end =
         sym
-        (sound-is
-        ∙ ap (λ (cs : List ℕ). soundWith cs (indexOr512 (lowestUnpackable sizes (eventsOf pools list))) (needOf sizes (eventsOf pools list))) counts-are
+        (sound-is sizes pools list is-sound
+        ∙ ap
+        (λ (cs : List ℕ).
+        soundWith cs (indexOr512 (lowestUnpackable sizes (eventsOf pools list))) (needOf sizes (eventsOf pools list)))
+        counts-are
         ∙ ap₂ (soundWith counts) lowest-are need-are)

@@ -1,47 +1,36 @@
 -- What is counted of a segment is its entry in Plan, and the bytes of its sections in Build's file. Assumes nothing.
-use mathlib.Core.Path.{_≡_, refl, sym, ap, ap₂, _∙_}
+use mathlib.Core.Path.{_≡_, sym, ap, _∙_}
 use mathlib.Core.Bool.{Bool, true, false, not}
 use mathlib.Core.Logic.{⊎-elim}
-use mathlib.Core.List.{List, [], _∷_, _++_, flatten}
+use mathlib.Core.List.{List, [], _∷_, flatten}
 use Prim.Native.Nat.{ℕ, suc, _+_, _-_, _*_, _≤_, _<_}
 use native.Mathlib.Numerals.{add-one}
 use native.Mathlib.Omega.{arith}
 use borrow.Author.Tests.{eq-eqb, ne-eqb}
 use lib.Dec.{T, eqb}
-use lib.ListN.{length, getD, set, replicate, length-set, length-replicate}
-use lib.Seq.{getD-set-same, getD-set-other, ext-getD}
+use lib.ListN.{length}
 use Rattle.eit.specs.Sizes.{Sizes, sectionOverhead, room}
-use Rattle.eit.specs.Pools.{Pools}
-use Rattle.eit.specs.Records.{recordsIn}
-use Rattle.eit.specs.Events.{Event, eventsIn, rising}
-use Rattle.eit.proofs.Test.{true-is, false-is, test-or, le-or-lt}
+use Rattle.eit.specs.Events.{Event, rising}
+use Rattle.eit.proofs.Test.{true-is, false-is, test-or}
 use Rattle.packing.specs.Greedy.{AllFit, greedy, unpackable}
 use Rattle.packing.proofs.Greedy.{greedy-count, greedy-fits}
-use Rattle.sections.specs.Segment.{firstSection}
-use Rattle.sections.specs.Section.{Section, eventSize, eventSizes, sectionSizes}
+use Rattle.sections.specs.Section.{Section, eventSize, sectionSizes}
 use Rattle.sections.specs.Count.{segmentEvents}
-use Rattle.schedule.specs.Each.{each, lowest}
+use Rattle.sections.proofs.Lengths.{sizes-append}
+use Rattle.schedule.specs.Each.{each}
 use Rattle.schedule.specs.Extent.{isInside}
-use Rattle.schedule.specs.SectionsOf.{isUnpackable, packed, partsOf, numberedFrom, segmentPart}
+use Rattle.schedule.specs.SectionsOf.{isUnpackable, packed, segmentPart}
 use Rattle.schedule.specs.Plan.{sectionCount}
-use Rattle.schedule.proofs.Each.{each-length, each-at, joined-more}
+use Rattle.schedule.proofs.Each.{joined-more}
 use Rattle.schedule.proofs.Parts.{sizes-same, parts-few}
 use Rattle.schedule.proofs.Packable.{test-is}
+use Rattle.schedule.proofs.Best.{part-parts, parts-are}
 use Rattle.schedule.proofs.Plan.{count-outside, count-inside, count-unpackable}
 use Rattle.schedule.proofs.ByIndex.{insidePart, part-inside, part-outside}
-use Rattle.section_counts.specs.Between.{eventsBetween, leading, isNextInside}
-use Rattle.section_counts.specs.Counting.{partSizes, packedOf, noIdentity, indexOr512}
-use Rattle.section_counts.specs.declared.count.Packed.{Packed}
-use Rattle.section_counts.proofs.WalkLaws.{Walk, heldEvents, walk-start, walk-inside, walk-past, walk-events, walk-on}
+use Rattle.section_counts.specs.Counting.{partSizes, packedOf, noIdentity}
+use Rattle.section_counts.proofs.NeedLaws.{parts-sizes}
 
 -- ---- one segment
-
--- the bytes of sections numbered in a row are those of their parts, under every identity
-numbered-sizes : (sizes : Sizes) (es : List Event) (index S : ℕ) (ps : List (List Event))
-    → sectionSizes (numberedFrom sizes noIdentity es index S ps) ≡ partSizes ps
-numbered-sizes sizes es index S [] = refl
-numbered-sizes sizes es index S (p ∷ ps) =
-    ap (λ (n : ℕ). sectionOverhead + eventSizes p + n) (numbered-sizes sizes es index (suc S) ps)
 
 -- the bytes of a segment's sections
 abbrev pub segmentBytes : Sizes → List Event → ℕ → ℕ
@@ -50,10 +39,6 @@ segmentBytes sizes es index = sectionSizes (insidePart sizes noIdentity es index
 -- and of those of the segments from `index` on
 abbrev pub bytesFrom : Sizes → List Event → ℕ → ℕ
 bytesFrom sizes es index = sectionSizes (flatten (each (insidePart sizes noIdentity es) index (512 - index)))
-
-sizes-append : (ss ts : List Section) → sectionSizes (ss ++ ts) ≡ sectionSizes ss + sectionSizes ts
-sizes-append [] ts = omega arith
-sizes-append (s ∷ ss) ts = omega (arith, sizes-append ss ts)
 
 pub bytes-from : (sizes : Sizes) (es : List Event) (index : ℕ) → index < 512
     → bytesFrom sizes es index ≡ segmentBytes sizes es index + bytesFrom sizes es (index + 1)
@@ -83,23 +68,20 @@ packed-small bytes (e ∷ es) narrow =
     omega (arith, parts-small bytes parts narrow (greedy-fits eventSize bytes 8 (e ∷ es)), greedy-count eventSize bytes 8 (e ∷ es))
 
 module _ (sizes : Sizes) (es : List Event) (rises : T (rising es)) (index : ℕ) (inside : T (isInside es index)) where
-  parts-are : partsOf sizes es index ≡ packed (room sizes) (segmentEvents index es)
-  unfolding partsOf
-  parts-are = refl
-
   -- what is counted of a segment inside the range: its entry in Plan, 255 exactly if it is unpackable, and its bytes
   pub packed-count : packedOf (room sizes) (segmentEvents index es) .sections ≡ sectionCount sizes es index
   packed-count =
       let xs : List Event = segmentEvents index es in
       let test : Bool = unpackable eventSize (room sizes) 8 xs in
+      let counted : Bool → ℕ = λ b. elim b [ true ↦ 255 | false ↦ length (packed (room sizes) xs) ] in
       let same : isUnpackable sizes es index ≡ test = test-is sizes es index in
       ⊎-elim
       (λ fails.
-      ap (λ (b : Bool). elim b [ true ↦ 255 | false ↦ length (packed (room sizes) xs) ]) (sym same ∙ true-is (isUnpackable sizes es index) fails)
+      ap counted (sym same ∙ true-is (isUnpackable sizes es index) fails)
       ∙ sym (count-unpackable sizes es index rises fails))
       (λ fits.
-      ap (λ (b : Bool). elim b [ true ↦ 255 | false ↦ length (packed (room sizes) xs) ]) (sym same ∙ false-is (isUnpackable sizes es index) fits)
-      ∙ sym (count-inside sizes es index inside fits ∙ ap (λ (ps : List (List Event)). length ps) parts-are))
+      ap counted (sym same ∙ false-is (isUnpackable sizes es index) fits)
+      ∙ sym (count-inside sizes es index inside fits ∙ ap (λ (ps : List (List Event)). length ps) (parts-are sizes es index)))
       (test-or (isUnpackable sizes es index))
 
   pub unpackable-is : isUnpackable sizes es index ≡ eqb (sectionCount sizes es index) 255
@@ -113,12 +95,11 @@ module _ (sizes : Sizes) (es : List Event) (rises : T (rising es)) (index : ℕ)
       (test-or (isUnpackable sizes es index))
 
   pub packed-bytes : packedOf (room sizes) (segmentEvents index es) .bytes ≡ segmentBytes sizes es index
-  unfolding segmentPart
   packed-bytes =
       sym
       (ap sectionSizes (part-inside sizes noIdentity es index inside)
-      ∙ numbered-sizes sizes es index (firstSection index) (partsOf sizes es index)
-      ∙ ap partSizes parts-are)
+      ∙ parts-sizes (segmentPart sizes noIdentity es index)
+      ∙ ap partSizes (part-parts sizes noIdentity es index ∙ parts-are sizes es index))
 
 -- outside the range there is nothing to count
 module _ (sizes : Sizes) (es : List Event) (rises : T (rising es)) (index : ℕ) (outside : T (not (isInside es index))) where

@@ -2,7 +2,7 @@
 use mathlib.Core.Path.{_≡_, refl, sym, ap, ap₂, subst, _∙_}
 use mathlib.Core.Bool.{Bool, true, false, not}
 use mathlib.Core.Logic.{⊎-elim}
-use mathlib.Core.List.{List, flatten}
+use mathlib.Core.List.{List}
 use mathlib.Core.Option.{Option, some}
 use Prim.Native.Nat.{ℕ, suc, _+_, _-_, _*_, _≤_, _<_}
 use native.Mathlib.Numerals.{add-one}
@@ -10,12 +10,11 @@ use native.Mathlib.Omega.{arith}
 use borrow.Author.Tests.{eq-eqb, ne-eqb}
 use lib.Dec.{T, eqb}
 use lib.ListN.{length, getD, set, replicate, length-set, length-replicate, getD-replicate}
-use lib.Seq.{getD-set-same, getD-set-other, ext-getD}
+use lib.Seq.{getD-set-same, getD-set-other}
 use Rattle.eit.specs.Sizes.{Sizes, sectionOverhead, room}
 use Rattle.eit.specs.Pools.{Pools}
-use Rattle.eit.specs.Records.{recordsIn}
 use Rattle.eit.specs.Events.{Event, rising}
-use Rattle.eit.proofs.Test.{true-is, false-is, test-or, le-or-lt, eq-or-not}
+use Rattle.eit.proofs.Test.{true-is, false-is, le-or-lt, eq-or-not}
 use Rattle.sections.specs.Count.{segmentEvents}
 use Rattle.schedule.specs.Each.{lowest}
 use Rattle.schedule.specs.Extent.{isInside}
@@ -124,7 +123,8 @@ module _ (sizes : Sizes) (pools : Pools) (numbers : List ℕ) (count : ℕ) wher
     -- a segment inside the range
     module _ (passes : isNextInside index (eventsBetween pools numbers from count) ≡ true) (end : ℕ)
         (is-end : end ≡ from + leading index (eventsBetween pools numbers from count)) (space : ℕ) (is-space : space ≡ room sizes)
-        (narrow : room sizes < 0x1_0000) (packed : Packed) (is-packed : packed ≡ packedOf space (eventsBetween pools numbers from end)) where
+        (narrow : room sizes < 0x1_0000) (packed : Packed)
+        (is-packed : packed ≡ packedOf space (eventsBetween pools numbers from end)) where
       inside : T (isInside es index)
       inside = subst T (sym (walk-inside pools numbers count rises (so-far .walk) ∙ passes)) tt
 

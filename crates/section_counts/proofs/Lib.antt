@@ -11,11 +11,11 @@ pub mod PackLaws
 pub mod RunLaws
 -- a walk over the segments of a list
 pub mod WalkLaws
+-- the bytes that a file needs do not depend on its identity
+pub mod NeedLaws
 -- what is counted of a segment is what Plan and the file have there
 pub mod CountLaws
 -- the count of all segments, one after the other
 pub mod CountPass
 -- what that count has found at its end
 pub mod CountEnd
--- the bytes that a file needs do not depend on its identity
-pub mod NeedLaws

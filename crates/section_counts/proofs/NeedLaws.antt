@@ -1,6 +1,6 @@
 -- The bytes that Build's file needs are the same under every identity: they are those of the sections' events. Assumes nothing.
 use mathlib.Core.Path.{_≡_, refl, sym, ap, _∙_}
-use mathlib.Core.List.{List, [], _∷_, _++_, map, flatten}
+use mathlib.Core.List.{List, [], _∷_, _++_, flatten, map-append}
 use Prim.Native.Nat.{ℕ, suc, _+_, _-_, _*_}
 use Rattle.eit.specs.Sizes.{Sizes, sectionOverhead}
 use Rattle.eit.specs.Events.{Event}
@@ -14,13 +14,13 @@ use Rattle.schedule.proofs.Held.{table-is, file-is}
 use Rattle.schedule.proofs.Best.{part-parts}
 use Rattle.section_counts.specs.Counting.{partSizes, noIdentity, needOf}
 
-parts-sizes : (ss : List Section) → sectionSizes ss ≡ partSizes (partsIn ss)
+-- the bytes of sections are those of their parts
+pub parts-sizes : (ss : List Section) → sectionSizes ss ≡ partSizes (partsIn ss)
 parts-sizes [] = refl
 parts-sizes (s ∷ ss) = ap (λ (n : ℕ). sectionOverhead + eventSizes (s .events) + n) (parts-sizes ss)
 
 parts-append : (ss ts : List Section) → partsIn (ss ++ ts) ≡ partsIn ss ++ partsIn ts
-parts-append [] ts = refl
-parts-append (s ∷ ss) ts = ap (λ (ps : List (List Event)). s .events ∷ ps) (parts-append ss ts)
+parts-append ss ts = map-append (λ (s : Section). s .events) ss ts
 
 module _ (sizes : Sizes) (es : List Event) where
   -- the events of the sections of a table and of the file, without their headers

@@ -4,16 +4,16 @@ use mathlib.Core.Path.{_≡_, refl, sym, ap, ap₂, _∙_}
 use mathlib.Core.Bool.{true, false}
 use mathlib.Core.Logic.{⊎-elim}
 use mathlib.Core.List.{List, [], _∷_}
-use Prim.Native.Nat.{ℕ, zero, suc, _+_, _-_, _*_, _≤_, _<_}
+use Prim.Native.Nat.{ℕ, suc, _+_, _-_, _*_, _≤_, _<_}
 use native.Mathlib.Omega.{arith}
-use borrow.Author.Tests.{le-leb, lt-leb, le-ltb, lt-ltb}
+use borrow.Author.Tests.{le-ltb, lt-ltb}
 use lib.ListN.{length, take, drop}
 use Rattle.eit.specs.Sizes.{sectionOverhead}
 use Rattle.eit.specs.Pools.{Pools}
 use Rattle.eit.specs.Events.{Event}
 use Rattle.eit.proofs.Test.{le-or-lt}
 use Rattle.packing.specs.Greedy.{fit, reach, greedy, unpackable}
-use Rattle.packing.proofs.Greedy.{fit-fits, reach-length}
+use Rattle.packing.proofs.Greedy.{fit-fits, reach-none, reach-more, reach-length, greedy-none, greedy-end, greedy-more}
 use Rattle.sections.specs.Section.{eventSize, eventSizes}
 use Rattle.schedule.specs.SectionsOf.{packed}
 use Rattle.schedule.proofs.Parts.{sizes-same}
@@ -22,40 +22,12 @@ use Rattle.section_counts.specs.Cutting.{cutOf}
 use Rattle.section_counts.specs.Counting.{partSizes, packedOf}
 use Rattle.section_counts.specs.declared.cut.Cut.{Cut}
 use Rattle.section_counts.specs.declared.count.Packed.{Packed}
-use Rattle.section_counts.proofs.BetweenLaws.{between-more, between-end, between-drop, between-length}
+use Rattle.section_counts.proofs.BetweenLaws.{between-end, between-drop, between-length}
 
--- ---- greedy packing, one part after the other
-
-module _ (room k : ℕ) where
-  greedy-more : (es : List Event) → 0 < length es
-      → greedy eventSize room (suc k) es ≡ take (fit eventSize room es) es ∷ greedy eventSize room k (drop (fit eventSize room es) es)
-  unfolding greedy
-  greedy-more [] some = absurd (omega arith)
-  greedy-more (e ∷ es) some = refl
-
-  reach-more : (es : List Event)
-      → reach eventSize room (suc k) es ≡ fit eventSize room es + reach eventSize room k (drop (fit eventSize room es) es)
-  unfolding reach
-  reach-more es = refl
-
-greedy-end : (room k : ℕ) (es : List Event) → length es ≡ 0 → greedy eventSize room k es ≡ []
-unfolding greedy
-greedy-end room zero es none-left = refl
-greedy-end room (suc k) [] none-left = refl
-greedy-end room (suc k) (e ∷ es) none-left = absurd (omega arith)
-
-greedy-none : (room : ℕ) (es : List Event) → greedy eventSize room 0 es ≡ []
-unfolding greedy
-greedy-none room es = refl
-
-reach-none : (room : ℕ) (es : List Event) → reach eventSize room 0 es ≡ 0
-unfolding reach
-reach-none room es = refl
-
-packed-some : (room : ℕ) (es : List Event) → 0 < length es → packed room es ≡ greedy eventSize room 8 es
+packed-greedy : (room : ℕ) (es : List Event) → 0 < length es → packed room es ≡ greedy eventSize room 8 es
 unfolding packed
-packed-some room [] some = absurd (omega arith)
-packed-some room (e ∷ es) some = refl
+packed-greedy room [] some = absurd (omega arith)
+packed-greedy room (e ∷ es) some = refl
 
 -- ---- the pass over a segment's events
 
@@ -110,11 +82,11 @@ module _ {pools : Pools} {numbers : List ℕ} {from end room n bytes at : ℕ}
       between-drop pools numbers at end m ∙ ap (λ (i : ℕ). eventsBetween pools numbers i end) (sym to-is) in
       let parts : greedy eventSize room (8 - n) rest ≡ take m rest ∷ greedy eventSize room k behind =
       ap (λ (j : ℕ). greedy eventSize room j rest) left
-      ∙ greedy-more room k rest (omega (arith, between-length pools numbers at end))
+      ∙ greedy-more eventSize room k rest (omega (arith, between-length pools numbers at end))
       ∙ ap (λ (es : List Event). take m rest ∷ greedy eventSize room k es) dropped in
       let reaches : reach eventSize room (8 - n) rest ≡ m + reach eventSize room k behind =
       ap (λ (j : ℕ). reach eventSize room j rest) left
-      ∙ reach-more room k rest
+      ∙ reach-more eventSize room k rest
       ∙ ap (λ (es : List Event). m + reach eventSize room k es) dropped in
       record {
         some = so-far .some;
@@ -131,10 +103,10 @@ module _ {pools : Pools} {numbers : List ℕ} {from end room n bytes at : ℕ}
     none-more : greedy eventSize room (8 - n) rest ≡ []
     none-more =
         ⊎-elim
-        (λ behind. greedy-end room (8 - n) rest (omega (arith, between-length pools numbers at end)))
+        (λ behind. greedy-end eventSize room (8 - n) rest (omega (arith, between-length pools numbers at end)))
         (λ inside.
         let full : 8 - n ≡ 0 = ⊎-elim (λ eight. omega arith) (λ more. absurd (done inside more)) (le-or-lt 8 n) in
-        ap (λ (j : ℕ). greedy eventSize room j rest) full ∙ greedy-none room rest)
+        ap (λ (j : ℕ). greedy eventSize room j rest) full ∙ greedy-none eventSize room rest)
         (le-or-lt end at)
 
     all-reached : from + reach eventSize room 8 all ≡ at
@@ -145,19 +117,20 @@ module _ {pools : Pools} {numbers : List ℕ} {from end room n bytes at : ℕ}
         (λ inside.
         let full : 8 - n ≡ 0 = ⊎-elim (λ eight. omega arith) (λ more. absurd (done inside more)) (le-or-lt 8 n) in
         let none-left : reach eventSize room (8 - n) rest ≡ 0 =
-        ap (λ (j : ℕ). reach eventSize room j rest) full ∙ reach-none room rest in
+        ap (λ (j : ℕ). reach eventSize room j rest) full ∙ reach-none eventSize room rest in
         omega (arith, so-far .reached))
         (le-or-lt end at)
 
     count-is : length (packed room all) ≡ n
     count-is =
-        ap (λ (ps : List (List Event)). length ps) (packed-some room all (omega (arith, so-far .some, between-length pools numbers from end)))
+        ap (λ (ps : List (List Event)). length ps)
+        (packed-greedy room all (omega (arith, so-far .some, between-length pools numbers from end)))
         ∙ so-far .count
         ∙ omega (arith, ap (λ (ps : List (List Event)). length ps) none-more)
 
     sizes-are : partSizes (packed room all) ≡ bytes
     sizes-are =
-        ap partSizes (packed-some room all (omega (arith, so-far .some, between-length pools numbers from end)))
+        ap partSizes (packed-greedy room all (omega (arith, so-far .some, between-length pools numbers from end)))
         ∙ so-far .sizes
         ∙ omega (arith, ap partSizes none-more)
 

@@ -36,7 +36,8 @@ module _ {numbers : List ℕ} {from count index end : ℕ} (so-far : LeadSoFar n
     pub lead-stop : (here ≡ index → ⊥) → (pools : Pools) → end ≡ from + leading index (eventsBetween pools numbers from count)
     lead-stop elsewhere pools =
         let none-left : leading index (eventsBetween pools numbers end count) ≡ 0 =
-        ap (leading index) (between-more pools numbers end count inside) ∙ rw (leading, ne-eqb _ index (λ e. elsewhere (is-here ∙ e))) refl in
+        ap (leading index) (between-more pools numbers end count inside)
+        ∙ rw (leading, ne-eqb _ index (λ e. elsewhere (is-here ∙ e))) refl in
         omega (arith, so-far .same pools)
 
     pub lead-more : here ≡ index → LeadSoFar numbers from count index (end + 1)
@@ -61,7 +62,10 @@ module _ (numbers : List ℕ) (from count index : ℕ) where
     pub inside-first : index % tableSegments ≡ 0 → (pools : Pools)
         → eqb (index % tableSegments) 0 ≡ isNextInside index (eventsBetween pools numbers from count)
     inside-first first pools =
-        eq-eqb _ 0 first ∙ sym (ap (isNextInside index) (between-more pools numbers from count before) ∙ rw (isNextInside, eq-eqb _ 0 first) refl)
+        eq-eqb _ 0 first
+        ∙ sym
+        (ap (isNextInside index) (between-more pools numbers from count before)
+        ∙ rw (isNextInside, eq-eqb _ 0 first) refl)
 
     pub inside-table : (index % tableSegments ≡ 0 → ⊥) → (here : ℕ)
         → here ≡ segmentIndex (frontRecord (drop (from * recordSize) numbers) .start) → (pools : Pools)

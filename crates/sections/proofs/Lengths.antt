@@ -2,7 +2,7 @@
 use mathlib.Core.Path.{_≡_, refl, ap₂, _∙_}
 use Prim.Native.Nat.{ℕ, _+_}
 use native.Mathlib.Omega.{arith}
-use mathlib.Core.List.{List, [], _∷_}
+use mathlib.Core.List.{List, [], _∷_, _++_}
 use lib.ListN.{length, length-append}
 use Rattle.eit.specs.Crc.{crc32}
 use Rattle.eit.specs.Fields.{bigEndian}
@@ -42,3 +42,8 @@ file-length base [] = refl
 file-length base (s ∷ ss) =
     length-append (sectionBytes base s) (fileBytes base ss)
     ∙ ap₂ (λ (m n : ℕ). m + n) (section-length base s) (file-length base ss)
+
+-- and the sizes of sections behind sections
+pub sizes-append : (ss ts : List Section) → sectionSizes (ss ++ ts) ≡ sectionSizes ss + sectionSizes ts
+sizes-append [] ts = omega arith
+sizes-append (s ∷ ss) ts = omega (arith, sizes-append ss ts)

@@ -2,6 +2,8 @@
 pub mod Every
 -- how long the bytes of events, sections and files are
 pub mod Lengths
+-- the bytes of events and of sections in a row
+pub mod RowBytes
 -- bytes cut into pieces, and pieces joined
 pub mod Cut
 -- one event and its bytes

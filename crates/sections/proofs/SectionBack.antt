@@ -43,11 +43,11 @@ abbrev crcBytes : ℕ → Section → List ℕ
 crcBytes base s = bigEndian 4 (crc32 (coveredBytes base s))
 
 -- a section in its two and in its three parts
-section-is : (base : ℕ) (s : Section) → sectionBytes base s ≡ coveredBytes base s ++ crcBytes base s
+pub section-is : (base : ℕ) (s : Section) → sectionBytes base s ≡ coveredBytes base s ++ crcBytes base s
 unfolding sectionBytes
 section-is base s = refl
 
-covered-is : (base : ℕ) (s : Section)
+pub covered-is : (base : ℕ) (s : Section)
     → coveredBytes base s ≡ headerBytes (sectionSize s) (s .header) ++ eventLoopBytes base (s .events)
 unfolding coveredBytes
 covered-is base s = refl

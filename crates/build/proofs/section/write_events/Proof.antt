@@ -7,15 +7,19 @@ use borrow.Author.Needs.{needs}
 use lib.ListN.{length}
 use Rattle.eit.specs.Pools.{lentPools}
 use Rattle.sections.specs.Section.{eventOverhead}
+use Rattle.sections.specs.Encode.{eventLoopBytes}
+use Rattle.sections.proofs.Lengths.{loop-length}
+use Rattle.codec.proofs.LeftLaws.{Left, left-all}
 use Rattle.section_counts.specs.Between.{eventsBetween}
-use Rattle.build.proofs.SectionLaws.{Left, all-left, next-fits, next-written, events-written}
+use Rattle.build.proofs.SectionLaws.{next-fits, next-written, events-written}
 use Rattle.build.proofs.section.write_events.Statement.{statement}
 use Rattle.build.proofs.section.write_events.Tie as tie
 
 abbrev Inv-loop : tie.InvT-loop
 Inv-loop out₀ at base-day list from to day series place₀ i₀ out place i =
     let pools = lentPools day series in
-    Left base-day out₀ at (eventsBetween pools list from to) out place (eventsBetween pools list i to)
+    Left out₀ at (eventLoopBytes base-day (eventsBetween pools list from to)) out place
+    (eventLoopBytes base-day (eventsBetween pools list i to))
 
 abbrev μ-loop : tie.MeasureT-loop
 μ-loop out₀ at base-day list from to day series place₀ i₀ out place i = to - i
@@ -25,7 +29,8 @@ loop-holds c =
     let start = c .before .before .before .before in
     let a = start .args in
     let all = eventsBetween (lentPools (now (a .day)) (now (a .series))) (now (a .list)) (a .from) (a .to) in
-    all-left (a .base-day) (now (a .out)) (a .at) all (start .pre)
+    left-all (now (a .out)) (a .at) (eventLoopBytes (a .base-day) all)
+    (omega (arith, start .pre, loop-length (a .base-day) all))
 
 record-at-requires : tie.Need-record-at-requires Inv-loop μ-loop
 record-at-requires c κs = search needs
@@ -45,12 +50,9 @@ start c = c .before .before .before .before .before
 
 -- the turn's event has room
 room : (c : tie.After-choose Inv-loop μ-loop)
-    → turn c .loop .place + (eventOverhead + length (c .choose .result .now)) ≤ length (now (start (turn c) .args .out))
+    → turn c .loop .place + (eventOverhead + length (c .choose .result .now)) ≤ length (turn c .loop .out)
 room c =
-    let loop = turn c .loop in
-    let a = start (turn c) .args in
-    next-fits (lentPools (now (a .day)) (now (a .series))) (now (a .list)) (loop .i) (a .to)
-    (c .before .before .loop-test .taken) (c .before .record-at .ensures) (c .choose .ensures) (loop .inv)
+    next-fits _ _ _ _ _ (turn c .loop .inv) (c .before .before .loop-test .taken) (c .before .record-at .ensures) (c .choose .ensures)
 
 add-place : tie.Need-add-place Inv-loop μ-loop
 add-place c = omega (arith, room (c .before .before .before .before))
@@ -67,20 +69,18 @@ loop-less c = omega arith
 loop-again : tie.Need-loop-again Inv-loop μ-loop
 loop-again c =
     let chosen = c .before .before .before .before in
-    let loop = turn chosen .loop in
-    let a = start (turn chosen) .args in
-    next-written (lentPools (now (a .day)) (now (a .series))) (now (a .list)) (loop .i) (a .to)
-    (chosen .before .before .loop-test .taken) (chosen .before .record-at .ensures) (chosen .choose .ensures) (loop .inv)
-    (c .before .before .write-event .ensures)
+    next-written _ _ _ _ _ (turn chosen .loop .inv) (chosen .before .before .loop-test .taken) (chosen .before .record-at .ensures)
+    (chosen .choose .ensures) (c .before .before .write-event .ensures)
 
 same-length : tie.Need-same-length Inv-loop μ-loop
 same-length c = c .before .loop .inv .size
 
 returns : tie.Need-returns Inv-loop μ-loop
 returns c =
-    let loop = c .before .loop in
     let a = start (c .before) .args in
-    events-written (lentPools (now (a .day)) (now (a .series))) (now (a .list)) (loop .i) (a .to) (omega arith) (loop .inv)
+    let all = eventsBetween (lentPools (now (a .day)) (now (a .series))) (now (a .list)) (a .from) (a .to) in
+    let (written, ends) = events-written _ _ _ _ _ (c .before .loop .inv) (omega arith) in
+    (written, omega (arith, ends, loop-length (a .base-day) all))
 
 pub write-events-spec : {M : Type 1} → statement M
 write-events-spec =

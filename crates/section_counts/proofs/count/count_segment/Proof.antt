@@ -36,8 +36,8 @@ counted : (c : tie.After-struct-known Inv-loop μ-loop)
     (turn .bytes + (sectionOverhead + next .bytes)) (next .to)
 counted c =
     let test = c .before .before in
-    pack-more (test .before .before .loop .inv) (test .before .loop-test .taken) (ltb-true _ _ (test .if2 .taken)) (c .before .next-cut .result)
-    (c .before .next-cut .ensures)
+    pack-more (test .before .before .loop .inv) (test .before .loop-test .taken) (ltb-true _ _ (test .if2 .taken))
+    (c .before .next-cut .result) (c .before .next-cut .ensures)
 
 add-bytes : tie.Need-add-bytes Inv-loop μ-loop
 add-bytes c = omega (arith, counted c .small, counted c .few)
