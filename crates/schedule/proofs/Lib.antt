@@ -38,7 +38,3 @@ pub mod Demands
 pub mod BuiltFile
 -- under its identity it is the only best one
 pub mod Only
--- the samples marked P, computed
-pub mod Samples
--- the examples, computed
-pub mod Examples

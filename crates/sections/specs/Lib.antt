@@ -15,5 +15,3 @@ pub mod Read  -- Read and check
 pub mod Exact  -- what "Read is exact" speaks of
 pub mod Files  -- short files in raw bytes
 pub mod Examples  -- sections and files computed
-pub mod Refusals  -- Read's refusals 1 and 20 to 23 computed
-pub mod EventRefusals  -- and 24 to 27

@@ -8,8 +8,6 @@ use Rattle.time_codec.proofs.TimeReadLaws.{duration-no-time, duration-t
 use Rattle.time_codec.proofs.read_duration.Statement.{statement}
 use Rattle.time_codec.proofs.read_duration.Tie as tie
 
--- `read_duration` meets its contract: the time that was read decides, or leaves it to its range. Assumes nothing.
-
 read-time-requires : tie.Need-read-time-requires
 read-time-requires c κs = search needs
 

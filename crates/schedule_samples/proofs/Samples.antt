@@ -14,11 +14,11 @@ use Rattle.script.specs.Struck.{unstruckIn}
 use Rattle.script.specs.Edit.{edit}
 use Rattle.sections.specs.Section.{eventOverhead}
 use Rattle.sections.specs.Encode.{versionOf}
 use Rattle.schedule.specs.Plan.{plan}
 use Rattle.schedule.specs.Build.{build}
-use Rattle.schedule.specs.SampleLists.{chainOf, row, bare}
-use Rattle.schedule.specs.SampleCalls.{answer}
-use Rattle.schedule.specs.Samples.{Samples}
+use Rattle.schedule_samples.specs.SampleLists.{chainOf, row, bare}
+use Rattle.schedule_samples.specs.SampleCalls.{answer}
+use Rattle.schedule_samples.specs.Samples.{Samples}
 
 bare-339 : answer (bare 0 339) ≡ record { number = 11; value = sectionOverhead + 339 * eventOverhead; output = [] }
 unfolding build sound eventsOf recordsOf follows choose isChain row

@@ -1,11 +1,11 @@
 -- Read's refusals 1 and 20 to 23 computed, each rule broken on its own, and which comes first (01, "When a call says no"). The value
--- is in proofs/Examples.antt. Assumes nothing.
+-- is in proofs/Refused.antt. Assumes nothing.
 use mathlib.Core.Path.{_≡_}
 use mathlib.Core.List.{[], _∷_, _++_}
 use lib.ListN.{take}
 use Rattle.eit.specs.Sizes.{broadcast}
 use Rattle.sections.specs.Read.{checkFile, refusal}
 use Rattle.sections.specs.Files.{withCrc, section, withBits, withIdentity, event, withEvent, one, hour, bare, says}
 
 pub record Refusals : Type 0 where
   pub base : checkFile broadcast 65_473 [] ≡ refusal 1 0

@@ -1,10 +1,10 @@
 -- Read's refusals 24 to 27 computed, each rule broken on its own, and which comes first (01, "When a call says no"). The value is in
--- proofs/Examples.antt. Assumes nothing.
+-- proofs/Refused.antt. Assumes nothing.
 use mathlib.Core.Path.{_≡_}
 use mathlib.Core.List.{[], _∷_, _++_}
 use Rattle.eit.specs.Sizes.{broadcast}
 use Rattle.sections.specs.Read.{checkFile, refusal, read}
 use Rattle.sections.specs.Files.{section, event, withEvent, one, hour, bare, says}
 
 pub record EventRefusals : Type 0 where
   pub event-kept : says (withEvent one hour bare) .number ≡ 0

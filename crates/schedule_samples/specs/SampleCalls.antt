@@ -8,10 +8,10 @@ use Rattle.eit.specs.Sound.{eventsOf}
 use Rattle.eit.specs.declared.Identity.{Identity}
 use Rattle.script.specs.Edit.{Edited, edit}
 use Rattle.sections.specs.Section.{Section, headerSize, eventOverhead, eventIds}
 use Rattle.schedule.specs.SectionsOf.{sectionsOf}
 use Rattle.schedule.specs.Plan.{plan}
 use Rattle.schedule.specs.Build.{Built, build, fileOf}
-use Rattle.schedule.specs.SampleLists.{row, Case, zeros}
+use Rattle.schedule_samples.specs.SampleLists.{row, Case, zeros}
 
 -- Edit of twelve zeros, with empty pools
 abbrev pub editOf : List ℕ → Edited

@@ -7,8 +7,8 @@ use lib.ListN.{replicate}
 use Rattle.eit.specs.Sizes.{broadcast, sectionOverhead}
 use Rattle.eit.specs.Records.{recordSize}
 use Rattle.sections.specs.Section.{eventOverhead}
-use Rattle.schedule.specs.SampleLists.{bare, overlong, overlongLater, unsound, gap, emptyFile}
-use Rattle.schedule.specs.SampleCalls.{buildOf, answer, headerAfter, planOf, cuts, numbers, ids, filled}
+use Rattle.schedule_samples.specs.SampleLists.{bare, overlong, overlongLater, unsound, gap, emptyFile}
+use Rattle.schedule_samples.specs.SampleCalls.{buildOf, answer, headerAfter, planOf, cuts, numbers, ids, filled}
 
 pub record Examples : Type 0 where
   -- a gap: section numbers 0, 1, 8 after a short segment, an empty segment, an empty table; tables end with their last events

@@ -13,13 +13,13 @@ use Rattle.script.specs.Form.{formOf}
 use Rattle.script.specs.Struck.{unstruckIn}
 use Rattle.script.specs.Edit.{edit}
 use Rattle.sections.specs.Encode.{versionOf}
 use Rattle.schedule.specs.Plan.{plan}
 use Rattle.schedule.specs.Build.{build}
 use Rattle.schedule.specs.Given.{Given, Carries}
-use Rattle.schedule.specs.SampleLists.{chainOf, row, bare, emptyFile}
-use Rattle.schedule.specs.SampleCalls.{versioned}
-use Rattle.schedule.specs.Examples.{Examples}
+use Rattle.schedule_samples.specs.SampleLists.{chainOf, row, bare, emptyFile}
+use Rattle.schedule_samples.specs.SampleCalls.{versioned}
+use Rattle.schedule_samples.specs.Examples.{Examples}
 use Rattle.schedule.proofs.Demands.{demands}
 
 pub examples : Examples
 unfolding build plan edit formOf unstruckIn sound eventsOf recordsOf follows choose isChain crc32 versionOf chainOf row

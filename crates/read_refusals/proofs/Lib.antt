@@ -1,0 +1,2 @@
+-- The tables hold.
+pub mod Refused

@@ -1,0 +1,3 @@
+-- What is computed, as tables of equations.
+pub mod Refusals  -- Read's refusals 1 and 20 to 23
+pub mod EventRefusals  -- and 24 to 27
