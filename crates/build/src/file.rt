@@ -30,10 +30,10 @@ ghost use Rattle.build.specs.Writing.{Writable};
 // table_id of the first table, and the section numbers of a segment.
 const TABLE_LEAST: usize = 0x50;
 
-const SEGMENT_NUMBERS: usize = 8;
+const SEGMENT_SECTIONS: usize = 8;
 
-// So many sections of a segment with the events from `from` to `end`, numbered from the header's section_number on: each takes as
-// many of the next events as fit. Returns the place behind them.
+// The sections of a segment, as many as `sections` says, with the events from `from` to `end`: each takes as many of the next events
+// as fit, and is numbered from the first header's section_number on. Returns the place behind them.
 fn write_segment<'a>(
     out: &mut [u8],
     at: usize,
@@ -104,10 +104,10 @@ fn last_section(counts: &[u8], first: usize) -> u8
     while 0 < segment && counts[first + segment] == 0 {
         segment -= 1;
     }
-    (SEGMENT_NUMBERS * segment) as u8 + (counts[first + segment] - 1)
+    (SEGMENT_SECTIONS * segment) as u8 + (counts[first + segment] - 1)
 }
 
-// The header of the first section of a segment that has so many.
+// The header of the first of a segment's sections, as many as `sections` says.
 fn first_header(
     index: usize,
     sections: u8,
@@ -118,7 +118,7 @@ fn first_header(
     requires { ⌜ (index < 512) × (0 < sections) × (sections ≤ 8) ⌝ }
     ensures { λ r. ⌜ r ≡ firstHeader index sections last «last_table_id» identity ⌝ }
 {
-    let number = (SEGMENT_NUMBERS * (index % TABLE_SEGMENTS)) as u8;
+    let number = (SEGMENT_SECTIONS * (index % TABLE_SEGMENTS)) as u8;
     SectionHeader {
         table_id: (TABLE_LEAST + index / TABLE_SEGMENTS) as u8,
         section_number: number,

@@ -1,11 +1,13 @@
 // One section written: its header, its events, CRC_32 (01, "The file of sections"). Each chain goes straight from its pool to the
 // output.
 use codec::crc;
+use codec::crc::CRC_FIRST;
 use codec::fields;
 use codec::pools;
 use event_list::records;
 use section_codec::event;
 use section_codec::header;
+use section_codec::header::HEADER_SIZE;
 use section_codec::header::SectionHeader;
 use section_counts::cut::EVENT_OVERHEAD;
 ghost use mathlib.Core.Path.{_≡_};
@@ -19,9 +21,7 @@ ghost use Rattle.codec.specs.CrcTable.{crcTable};
 ghost use Rattle.section_counts.specs.Between.{eventsBetween};
 ghost use Rattle.build.specs.Sections.{sectionOf, sectionSizeOf};
 
-// Bytes of a section before its events, and of CRC_32.
-const HEADER_SIZE: usize = 14;
-
+// Bytes of CRC_32.
 const CRC_SIZE: usize = 4;
 
 // The events from `from` to `to`, written from `at` on. Returns the place behind them.
@@ -80,6 +80,6 @@ pub fn write_section<'a>(
 {
     header::write_header(out, at, size, header);
     let end = write_events(out, at + HEADER_SIZE, base_day, list, from, to, day, series);
-    let crc = crc::crc_by(table, 0xFFFF_FFFF, &out[at..end]);
+    let crc = crc::crc_by(table, CRC_FIRST, &out[at..end]);
     fields::write_field(out, end, CRC_SIZE, crc as usize);
 }

@@ -1,4 +1,4 @@
-// Plan and Build with other sizes than broadcast's.
+// Plan and Build with the sizes as numbers.
 use crate::answer::BuildAnswer;
 use crate::file;
 use crate::tables;
@@ -37,7 +37,7 @@ pub fn plan_within<'a>(
     tables::tables_of(&counts)
 }
 
-// Nothing is written before every refusal is excluded.
+// Build: each refusal is excluded before anything is written.
 pub fn build_within<'a>(
     list: &[u32],
     count: usize,

@@ -263,6 +263,9 @@ const TABLE: [u32; 256] = [
     0xb1f740b4,
 ];
 
+// What the register holds first.
+pub const CRC_FIRST: u32 = 0xFFFF_FFFF;
+
 // A copy of the table: one per call of the library, lent down from there.
 pub fn table() -> [u32; 256]
     ensures { λ r. ⌜ r ≡ crcTable ⌝ }
@@ -294,5 +297,5 @@ pub fn crc32(bytes: &[u8]) -> u32
     ensures { λ r. ⌜ r ≡ crc32 (now (bytes .entry)) ⌝ }
 {
     let lent = table();
-    crc_by(&lent, 0xFFFF_FFFF, bytes)
+    crc_by(&lent, CRC_FIRST, bytes)
 }

@@ -1,3 +1,4 @@
+-- Laws of this crate's definitions, and the proofs of its functions.
 -- how many UNDOs pass a part
 pub mod PendingLaws
 -- one edit of the plain machine in the code's terms

@@ -1,7 +1,7 @@
 -- One pass over the records, with the ids seen and the least start, asks what soundness asks of them: by induction over the records,
 -- with the facts of the records that are left. Assumes nothing.
-use mathlib.Core.Path.{_≡_, refl, sym}
-use mathlib.Core.Bool.{Bool, true, false, not, and-false}
+use mathlib.Core.Path.{_≡_, sym}
+use mathlib.Core.Bool.{false, not, and-false}
 use Prim.Native.Nat.{ℕ, suc, _*_, _/_, _≤_, _<_}
 use native.Mathlib.Omega.{arith}
 use mathlib.Core.List.{List, [], _∷_}

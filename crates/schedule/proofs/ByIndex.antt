@@ -12,21 +12,19 @@ use Rattle.eit.specs.Sizes.{Sizes}
 use Rattle.eit.specs.Limits.{startLimit}
 use Rattle.eit.specs.Events.{Event}
 use Rattle.eit.specs.declared.Identity.{Identity}
-use Rattle.eit.proofs.Test.{test-or, true-is, false-is}
+use Rattle.eit.proofs.Test.{true-is, false-is}
 use Rattle.sections.specs.Section.{Section}
 use Rattle.sections.specs.Every.{Every}
 use Rattle.schedule.specs.Each.{each, lowest}
 use Rattle.schedule.specs.Extent.{lastTable, lastSegment, isInside}
 use Rattle.schedule.specs.SectionsOf.{isUnpackable, lowestUnpackable, segmentPart, tablePart, sectionsOf}
-use Rattle.schedule.specs.Plan.{sectionCount, tabled}
+use Rattle.schedule.specs.Plan.{tabled}
 use Rattle.schedule.proofs.Each.{each-same, each-within, each-shift, each-rows}
 use Rattle.schedule.proofs.Each.{joined-none, joined-front, joined-rows, no-lowest, lowest-is}
 use Rattle.schedule.proofs.SoundEvents.{SoundEvents}
 use Rattle.schedule.proofs.Extent.{segment-in-table, tables-few, is-inside, inside-is}
 use Rattle.schedule.proofs.Held.{table-is, file-is}
-use Rattle.schedule.proofs.Parts.{parts-some}
 use Rattle.schedule.proofs.Packable.{packable-or}
-use Rattle.schedule.proofs.Plan.{count-inside}
 
 -- the sections of a segment inside the range; outside none
 abbrev pub insidePart : Sizes → Identity → List Event → ℕ → List Section
@@ -44,17 +42,6 @@ flat-plan count =
     let first : table * 32 + 0 ≡ table * 32 = omega arith in
     each-shift count (table * 32) 0 32 ∙ ap (λ (k : ℕ). each count k 32) first in
     ap flatten (each-same row (λ (table : ℕ). each count (table * 32) 32) 0 16 same) ∙ each-rows count 32 0 16
-
--- a count is 0 outside the range only (outside: `count-outside` of Plan)
-pub count-some : (sizes : Sizes) (es : List Event) (index : ℕ) → T (isInside es index) → 0 < sectionCount sizes es index
-unfolding sectionCount
-count-some sizes es index inside =
-    ⊎-elim
-    (λ fails.
-    let full : isUnpackable sizes es index ≡ true = true-is (isUnpackable sizes es index) fails in
-    rw (sectionCount, true-is (isInside es index) inside, full) (omega arith))
-    (λ fits. omega (arith, count-inside sizes es index inside fits, parts-some sizes es index))
-    (test-or (isUnpackable sizes es index))
 
 -- ---- Build's file
 

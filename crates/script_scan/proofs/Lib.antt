@@ -1,3 +1,4 @@
+-- Laws of this crate's definitions, and the proofs of its functions.
 -- the commands from an offset on, one by one
 pub mod CommandLaws
 -- a command's operands, as they are read

@@ -1,3 +1,4 @@
+-- Laws of this crate's definitions, and the proofs of its functions.
 -- an event's bytes, field by field
 pub mod EventWriteLaws
 -- the event that bytes show, as it is read

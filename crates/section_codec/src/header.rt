@@ -27,7 +27,7 @@ pub enum HeaderRead {
 }
 
 // Bytes of a section before its events.
-const SIZE: usize = 14;
+pub const HEADER_SIZE: usize = 14;
 
 // Bits 1111, then section_length: the bytes after this field. Of a size that is out of range, the low 16 bits.
 fn length_word(size: usize) -> usize
@@ -70,7 +70,7 @@ fn write_rest(out: &mut [u8], at: usize, header: SectionHeader)
 pub fn write_header(out: &mut [u8], at: usize, size: usize, header: SectionHeader)
     ensures { λ _. ⌜ now (out .exit) ≡ writeAt (now (out .entry)) at (headerBytes size (heldHeader header)) ⌝ }
 {
-    if !fields::is_within(out.len(), at, SIZE) {
+    if !fields::is_within(out.len(), at, HEADER_SIZE) {
         return;
     }
     write_front(out, at, size, header);
@@ -94,7 +94,7 @@ fn word_at(bytes: &[u8], at: usize) -> u16
 pub fn read_header(bytes: &[u8]) -> HeaderRead
     ensures { λ r. ⌜ headerTold r ≡ headerRead (now (bytes .entry)) ⌝ }
 {
-    if bytes.len() < SIZE {
+    if bytes.len() < HEADER_SIZE {
         return HeaderRead::Short;
     }
     let identity = Identity {

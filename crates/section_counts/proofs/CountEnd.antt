@@ -27,7 +27,7 @@ use Rattle.schedule.proofs.Each.{each-length, each-at}
 use Rattle.schedule.proofs.SoundEvents.{EventFacts, SoundEvents, sound-events}
 use Rattle.schedule.proofs.Plan.{plan-sound, plan-unsound}
 use Rattle.schedule.proofs.ByIndex.{flat-plan, file-by-index, lowest-by-index}
-use Rattle.section_counts.specs.Counting.{noIdentity, needOf, indexOr512, countedOf}
+use Rattle.section_counts.specs.Counting.{zeroIdentity, needOf, indexOr512, countedOf}
 use Rattle.section_counts.specs.declared.count.Counted.{Counted}
 use Rattle.section_counts.proofs.WalkLaws.{heldEvents, events-are}
 use Rattle.section_counts.proofs.CountLaws.{bytes-end}
@@ -132,7 +132,7 @@ module _ (sizes : Sizes) (pools : Pools) (numbers : List ℕ) (count : ℕ) (day
         let starts : Every (λ (e : Event). e .start < startLimit) es =
         every-map (λ (e : Event) (f : EventFacts e). f .start) es (facts .facts) in
         ap (needOf sizes) (events-are pools numbers count)
-        ∙ ap sectionSizes (file-by-index sizes noIdentity es starts)
+        ∙ ap sectionSizes (file-by-index sizes zeroIdentity es starts)
         ∙ end .bytes-are
         ∙ omega (arith, bytes-end sizes es index none-left)
 

@@ -12,7 +12,7 @@ use Rattle.schedule.specs.SectionsOf.{partsOf, segmentPart, tablePart, sections
 use Rattle.schedule.proofs.Each.{each-same, joined-map}
 use Rattle.schedule.proofs.Held.{table-is, file-is}
 use Rattle.schedule.proofs.Best.{part-parts}
-use Rattle.section_counts.specs.Counting.{partSizes, noIdentity, needOf}
+use Rattle.section_counts.specs.Counting.{partSizes, zeroIdentity, needOf}
 
 -- the bytes of sections are those of their parts
 pub parts-sizes : (ss : List Section) → sectionSizes ss ≡ partSizes (partsIn ss)
@@ -47,5 +47,5 @@ module _ (sizes : Sizes) (es : List Event) where
   unfolding needOf
   need-is identity =
       parts-sizes (sectionsOf sizes identity es)
-      ∙ ap partSizes (file-parts identity ∙ sym (file-parts noIdentity))
-      ∙ sym (parts-sizes (sectionsOf sizes noIdentity es))
+      ∙ ap partSizes (file-parts identity ∙ sym (file-parts zeroIdentity))
+      ∙ sym (parts-sizes (sectionsOf sizes zeroIdentity es))

@@ -32,13 +32,13 @@ packedOf room es =
     }
 
 -- an identity: a file's length is the same under every other (`need-is`)
-abbrev pub noIdentity : Identity
-noIdentity = record { «service_id» = 0; «transport_stream_id» = 0; «original_network_id» = 0; version = 0 }
+abbrev pub zeroIdentity : Identity
+zeroIdentity = record { «service_id» = 0; «transport_stream_id» = 0; «original_network_id» = 0; version = 0 }
 
 -- the bytes that Build's file needs
 unfoldable pub needOf : Sizes → List Event → ℕ
 unfolding sectionsOf
-needOf sizes es = sectionSizes (sectionsOf sizes noIdentity es)
+needOf sizes es = sectionSizes (sectionsOf sizes zeroIdentity es)
 
 -- a segment index, 512 for none
 abbrev pub indexOr512 : Option ℕ → ℕ

@@ -12,14 +12,14 @@ ghost use Rattle.eit.specs.Sound.{sound};
 ghost use Rattle.section_counts.specs.Between.{eventsBetween};
 ghost use Rattle.section_counts.specs.Counting.{countedOf, packedOf};
 
-// The sections of a segment, 255 if it is unpackable, and their bytes.
+// The sections of a segment, 255 if it is unpackable, and their bytes; of an unpackable one those of its first eight.
 pub struct Packed {
     pub sections: u8,
     pub bytes: usize,
 }
 
 // What Build asks of a list before it writes: whether it is sound; Plan's count of each segment; the lowest segment that is
-// unpackable, 512 if none is; and the bytes that the file needs.
+// unpackable, 512 if none is; and the bytes that the file needs, which mean nothing if one is.
 pub struct Counted {
     pub is_sound: bool,
     pub counts: [u8; 512],
@@ -49,7 +49,7 @@ pub fn room_of(section_size: u16) -> u16
 }
 
 // The sections of the events from `from` to `end`, which are those of a segment.
-pub fn count_segment<'a>(
+fn count_segment<'a>(
     list: &[u32],
     from: usize,
     end: usize,

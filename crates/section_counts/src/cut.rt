@@ -21,10 +21,11 @@ pub struct Cut {
 pub const EVENT_OVERHEAD: usize = 12;
 
 // The bytes of event i.
-pub fn event_size<'a>(list: &[u32], i: usize, day: &'a [u8], series: &'a [u8]) -> usize
+fn event_size<'a>(list: &[u32], i: usize, day: &'a [u8], series: &'a [u8]) -> usize
     ensures { λ r. ⌜
         r
-        ≡ eventSize (eventOf (lentPools (now (day .entry)) (now (series .entry))) (frontRecord (drop (i * recordSize) (now (list .entry))))) ⌝ }
+        ≡ eventSize
+        (eventOf (lentPools (now (day .entry)) (now (series .entry))) (frontRecord (drop (i * recordSize) (now (list .entry))))) ⌝ }
 {
     let r = records::record_at(list, i);
     EVENT_OVERHEAD + pools::choose(day, series, r.marks, r.offset, r.chain_length).len()

@@ -18,20 +18,20 @@ pub const TABLE_SEGMENTS: usize = 32;
 const SEGMENT_SECONDS: u32 = 10_800;
 
 // The segment index of record i.
-pub fn index_of(list: &[u32], i: usize) -> usize
+fn segment_index(list: &[u32], i: usize) -> usize
     ensures { λ r. ⌜ r ≡ segmentIndex (frontRecord (drop (i * recordSize) (now (list .entry))) .start) ⌝ }
 {
     let r = records::record_at(list, i);
     (r.start / SEGMENT_SECONDS) as usize
 }
 
-// The place behind the events from `from` on that start in the segment. Where the pools' bytes are does not matter.
+// The place behind the events from `from` on that start in the segment. The pools do not matter: only starts are looked at.
 pub fn end_of(list: &[u32], from: usize, count: usize, index: usize) -> usize
     ensures { λ r. ⌜ ((pools : Pools) → r ≡ from + leading index (eventsBetween pools (now (list .entry)) from count)) ⌝ }
 {
     let mut end = from;
     while end < count {
-        if index_of(list, end) != index {
+        if segment_index(list, end) != index {
             return end;
         }
         end += 1;
@@ -46,7 +46,8 @@ pub fn is_inside(list: &[u32], from: usize, count: usize, index: usize) -> bool
     if count <= from {
         return index == 0;
     }
-    index % TABLE_SEGMENTS == 0 || index_of(list, from) / TABLE_SEGMENTS == index / TABLE_SEGMENTS
+    index % TABLE_SEGMENTS == 0
+        || segment_index(list, from) / TABLE_SEGMENTS == index / TABLE_SEGMENTS
 }
 
 // The segment index of the last event; of none, 0.
@@ -56,5 +57,5 @@ pub fn last_index(list: &[u32], count: usize) -> usize
     if count == 0 {
         return 0;
     }
-    index_of(list, count - 1)
+    segment_index(list, count - 1)
 }

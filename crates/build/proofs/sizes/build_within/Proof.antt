@@ -32,21 +32,21 @@ count-sections-requires c κs = search needs
 
 returns-3 : tie.Need-returns-3
 returns-3 c =
-    let e = c .before .before in
-    answer-unsound _ _ _ _ _ (e .count-sections .result) (e .count-sections .ensures) _ _ _ (e .before .before .before .if1 .left)
-    (e .before .if2 .left) (not-true _ (c .if3 .taken))
+    let found = c .before .before in
+    answer-unsound _ _ _ _ _ (found .count-sections .result) (found .count-sections .ensures) _ _ _ (found .before .before .before .if1 .left)
+    (found .before .if2 .left) (not-true _ (c .if3 .taken))
 
 returns-4 : tie.Need-returns-4
 returns-4 c =
-    let e = c .before .before .before .before in
-    answer-unpackable _ _ _ _ _ (e .count-sections .result) (e .count-sections .ensures) _ _ _ (e .before .before .before .if1 .left)
-    (e .before .if2 .left) (not-false _ (c .before .before .if3 .left)) (c .if4 .taken)
+    let found = c .before .before .before .before in
+    answer-unpackable _ _ _ _ _ (found .count-sections .result) (found .count-sections .ensures) _ _ _ (found .before .before .before .if1 .left)
+    (found .before .if2 .left) (not-false _ (c .before .before .if3 .left)) (c .if4 .taken)
 
 returns-5 : tie.Need-returns-5
 returns-5 c =
-    let e = c .before .before .before .before .before in
-    answer-short _ _ _ _ _ (e .count-sections .result) (e .count-sections .ensures) _ _ _ (e .before .before .before .if1 .left)
-    (e .before .if2 .left) (not-false _ (c .before .before .before .if3 .left)) (dayBytes e) (seriesBytes e) (c .before .if4 .left)
+    let found = c .before .before .before .before .before in
+    answer-short _ _ _ _ _ (found .count-sections .result) (found .count-sections .ensures) _ _ _ (found .before .before .before .if1 .left)
+    (found .before .if2 .left) (not-false _ (c .before .before .before .if3 .left)) (dayBytes found) (seriesBytes found) (c .before .if4 .left)
     (c .if5 .taken)
 
 slice-aggregate-write-file : tie.Need-slice-aggregate-write-file
@@ -55,9 +55,9 @@ slice-aggregate-write-file c = search needs
 write-file-requires : tie.Need-write-file-requires
 write-file-requires c κs =
     let passed = c .before .before .before in
-    let e = passed .before .before .before .before .before in
-    answer-writable _ _ _ _ _ (e .count-sections .result) (e .count-sections .ensures) _ _ _ (e .before .before .before .if1 .left)
-    (e .before .if2 .left) (not-false _ (passed .before .before .before .if3 .left)) (dayBytes e) (seriesBytes e)
+    let found = passed .before .before .before .before .before in
+    answer-writable _ _ _ _ _ (found .count-sections .result) (found .count-sections .ensures) _ _ _ (found .before .before .before .if1 .left)
+    (found .before .if2 .left) (not-false _ (passed .before .before .before .if3 .left)) (dayBytes found) (seriesBytes found)
     (passed .before .if4 .left) (passed .if5 .left)
 
 same-length : tie.Need-same-length
@@ -67,9 +67,9 @@ returns-6 : tie.Need-returns-6
 returns-6 c =
     let written = c .before .before in
     let passed = written .before .before .before .before in
-    let e = passed .before .before .before .before .before in
-    answer-done _ _ _ _ _ (e .count-sections .result) (e .count-sections .ensures) _ _ _ (e .before .before .before .if1 .left)
-    (e .before .if2 .left) (not-false _ (passed .before .before .before .if3 .left)) (dayBytes e) (seriesBytes e)
+    let found = passed .before .before .before .before .before in
+    answer-done _ _ _ _ _ (found .count-sections .result) (found .count-sections .ensures) _ _ _ (found .before .before .before .if1 .left)
+    (found .before .if2 .left) (not-false _ (passed .before .before .before .if3 .left)) (dayBytes found) (seriesBytes found)
     (passed .before .if4 .left) (passed .if5 .left) (written .write-file .ensures)
 
 pub build-within-spec : {M : Type 1} → statement M

@@ -7,14 +7,14 @@ use Rattle.section_counts.proofs.segment.last_index.Tie as tie
 returns : tie.Need-returns
 returns c = last-none _ _ (c .if1 .taken)
 
-sub-index-of : tie.Need-sub-index-of
-sub-index-of c = search needs
+sub-segment-index : tie.Need-sub-segment-index
+sub-segment-index c = search needs
 
-index-of-requires : tie.Need-index-of-requires
-index-of-requires c κs = search needs
+segment-index-requires : tie.Need-segment-index-requires
+segment-index-requires c κs = search needs
 
 returns-2 : tie.Need-returns-2
-returns-2 c = last-some _ _ (c .before .if1 .left) (c .index-of .ensures)
+returns-2 c = last-some _ _ (c .before .if1 .left) (c .segment-index .ensures)
 
 pub last-index-spec : {M : Type 1} → statement M
-last-index-spec = tie.close (tie.spec returns sub-index-of index-of-requires returns-2)
+last-index-spec = tie.close (tie.spec returns sub-segment-index segment-index-requires returns-2)

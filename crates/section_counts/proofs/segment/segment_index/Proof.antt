@@ -1,10 +1,10 @@
--- `index_of` meets its contract: the record's start decides. Assumes nothing.
+-- `segment_index` meets its contract: the record's start decides. Assumes nothing.
 use mathlib.Core.Path.{ap}
 use borrow.Author.Needs.{needs}
 use Rattle.eit.specs.declared.Record.{Record}
 use Rattle.sections.specs.Segment.{segmentIndex}
-use Rattle.section_counts.proofs.segment.index_of.Statement.{statement}
-use Rattle.section_counts.proofs.segment.index_of.Tie as tie
+use Rattle.section_counts.proofs.segment.segment_index.Statement.{statement}
+use Rattle.section_counts.proofs.segment.segment_index.Tie as tie
 
 record-at-requires : tie.Need-record-at-requires
 record-at-requires c κs = search needs
@@ -15,5 +15,5 @@ cast-result c = search needs
 returns : tie.Need-returns
 returns c = ap (λ (r : Record). segmentIndex (r .start)) (c .before .record-at .ensures)
 
-pub index-of-spec : {M : Type 1} → statement M
-index-of-spec = tie.close (tie.spec record-at-requires cast-result returns)
+pub segment-index-spec : {M : Type 1} → statement M
+segment-index-spec = tie.close (tie.spec record-at-requires cast-result returns)
