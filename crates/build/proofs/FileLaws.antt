@@ -21,7 +21,7 @@ use Rattle.codec.proofs.LeftLaws.{Left, left-all, left-fits, left-more, left-en
 use Rattle.section_codec.specs.HeaderRead.{heldHeader}
 use Rattle.section_codec.specs.declared.header.SectionHeader.{SectionHeader}
 use Rattle.section_counts.specs.Between.{eventsBetween, leading}
-use Rattle.section_counts.proofs.WalkLaws.{Walk, heldEvents, walk-start, walk-past, walk-events, walk-on}
+use Rattle.section_counts.proofs.WalkLaws.{SegmentWalk, heldEvents, walk-start, walk-past, walk-events, walk-on}
 use Rattle.schedule.specs.Each.{each}
 use Rattle.schedule.specs.Extent.{lastTable, lastTableIdOf, lastSegment, isInside}
 use Rattle.schedule.specs.SectionsOf.{partsOf, tableLast, headerOf, sectionsOf}
@@ -44,7 +44,7 @@ pub record FileSoFar (pools : Pools) (numbers : List ℕ) (count : ℕ) (sizes :
   pub left :
       let es = heldEvents pools numbers count in
       Left d 0 (fileBytes base (sectionsOf sizes identity es)) out at (fileBytes base (sectionsAfter sizes identity es index))
-  pub walk : Walk pools numbers count from index
+  pub walk : SegmentWalk pools numbers count from index
   pub few : index ≤ 512
   -- behind the first segment of a table L is known
   pub known :

@@ -24,7 +24,7 @@ use Rattle.schedule.proofs.Plan.{count-outside}
 use Rattle.section_counts.specs.Between.{eventsBetween, leading, isNextInside}
 use Rattle.section_counts.specs.Counting.{packedOf, indexOr512}
 use Rattle.section_counts.specs.declared.count.Packed.{Packed}
-use Rattle.section_counts.proofs.WalkLaws.{Walk, heldEvents, walk-start, walk-inside, walk-past, walk-events, walk-on}
+use Rattle.section_counts.proofs.WalkLaws.{SegmentWalk, heldEvents, walk-start, walk-inside, walk-past, walk-events, walk-on}
 use Rattle.section_counts.proofs.CountLaws.{bytesFrom, segmentBytes, bytes-from, bytes-outside, packed-small}
 use Rattle.section_counts.proofs.CountLaws.{packed-count, packed-bytes, unpackable-is, outside-packable}
 
@@ -72,7 +72,7 @@ module _ (sizes : Sizes) (pools : Pools) (numbers : List ℕ) (count : ℕ) wher
 
   -- the segments before `index` are counted, the others are not; `low` is the lowest unpackable one so far, 512 for none
   pub record CountedSoFar (counts : List ℕ) (low need from index : ℕ) : Type 0 where
-    pub walk : Walk pools numbers count from index
+    pub walk : SegmentWalk pools numbers count from index
     pub within : index ≤ 512
     pub long : length counts ≡ 512
     pub counted : (k : ℕ) → k < index → getD counts k 0 ≡ sectionCount sizes es k

@@ -28,14 +28,14 @@ module _ (pools : Pools) (numbers : List ℕ) (count : ℕ) where
   events-are = refl
 
   -- the events before place `from` are those of the segments before `index`
-  pub record Walk (from index : ℕ) : Type 0 where
+  pub record SegmentWalk (from index : ℕ) : Type 0 where
     pub inside : from ≤ count
     pub next : eventsBetween pools numbers from count ≡ eventsFrom index heldEvents
 
-  pub walk-start : Walk 0 0
+  pub walk-start : SegmentWalk 0 0
   walk-start = record { inside = omega arith; next = between-all pools numbers count 0 ∙ sym (from-all heldEvents) }
 
-  module _ (rises : T (rising heldEvents)) {from index : ℕ} (walk : Walk from index) where
+  module _ (rises : T (rising heldEvents)) {from index : ℕ} (walk : SegmentWalk from index) where
     dropped : drop from heldEvents ≡ eventsFrom index heldEvents
     dropped = sym (between-all pools numbers count from) ∙ walk .next
 
@@ -43,7 +43,7 @@ module _ (pools : Pools) (numbers : List ℕ) (count : ℕ) where
     walk-inside = inside-next heldEvents rises index ∙ ap (isNextInside index) (sym (walk .next))
 
     -- a segment outside the range has no heldEvents
-    pub walk-past : T (not (isInside heldEvents index)) → Walk from (index + 1)
+    pub walk-past : T (not (isInside heldEvents index)) → SegmentWalk from (index + 1)
     walk-past outside =
         let same : eventsFrom (suc index) heldEvents ≡ eventsFrom index heldEvents =
         run-none heldEvents rises index (outside-none heldEvents rises index outside) in
@@ -71,7 +71,7 @@ module _ (pools : Pools) (numbers : List ℕ) (count : ℕ) where
           ∙ between-take pools numbers count from (length (segmentEvents index heldEvents)) within
           ∙ run-first heldEvents rises from index dropped
 
-      pub walk-on : Walk end (index + 1)
+      pub walk-on : SegmentWalk end (index + 1)
       walk-on =
           record {
             inside = omega (arith, end-is, within);
