@@ -1,0 +1,43 @@
+-- `is_same_file` meets its contract: with no section before it holds, else the identity decides or leaves it to last_table_id.
+-- Assumes nothing.
+use mathlib.Core.Path.{_≡_, sym, _∙_}
+use mathlib.Core.Bool.{true, false}
+use borrow.Author.Needs.{needs}
+use Rattle.sections.specs.JudgeHeader.{isIdentity}
+use Rattle.section_checks.proofs.header.is_same_file.Statement.{statement}
+use Rattle.section_checks.proofs.header.is_same_file.Tie as tie
+
+enum-told : tie.Need-enum-told
+enum-told c = search needs
+
+enum-known-before : tie.Need-enum-known-before
+enum-known-before c = search needs
+
+is-identity-requires : tie.Need-is-identity-requires
+is-identity-requires c κs = search needs
+
+returns : tie.Need-returns
+returns c = search needs
+
+returns-2 : tie.Need-returns-2
+returns-2 c =
+    let called = c .before .before .before in
+    let kept = called .before .before in
+    let header = kept .before .before .args .header in
+    let last = kept .before2 .given .0 .0 in
+    let same : isIdentity (header .«table_id») (last .identity) (header .identity) ≡ true =
+    sym (called .is-identity .ensures (header .«table_id»)) ∙ c .before .before .if1 .taken in
+    rw (kept .before2 .given .1, same)
+
+returns-3 : tie.Need-returns-3
+returns-3 c =
+    let kept = c .before .before .before in
+    let header = kept .before .before .args .header in
+    let last = kept .before2 .given .0 .0 in
+    let other : isIdentity (header .«table_id») (last .identity) (header .identity) ≡ false =
+    sym (c .before .is-identity .ensures (header .«table_id»)) ∙ c .if1 .left in
+    rw (kept .before2 .given .1, other) (c .if1 .left)
+
+pub is-same-file-spec : {M : Type 1} → statement M
+is-same-file-spec =
+    tie.close (tie.spec enum-told enum-known-before is-identity-requires returns returns-2 returns-3)
