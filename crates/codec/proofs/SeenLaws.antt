@@ -15,7 +15,7 @@ use lib.Pow.{pow-pos, pow-add, shl-exact, shr-shr}
 use lib.Seq.{getD-set-same, getD-set-other, set-out}
 use Rattle.eit.specs.Among.{isAmong}
 use Rattle.eit.proofs.Test.{le-or-lt, eq-or-not}
-use Rattle.codec.specs.Seen.{isSeen, withSeen}
+use Rattle.codec.specs.Seen.{SeenAre, isSeen, withSeen}
 
 -- ---- a bit of a word
 
@@ -127,10 +127,6 @@ module _ (words : List ℕ) (n : ℕ) where
           (λ e. rw (getD-set-other words (n / 64) (m / 64) (word + 2 ^ (n % 64)) 0 e)) (eq-or-not (m / 64) (n / 64))
 
 -- ---- a pass that adds number by number
-
--- the words hold just the numbers `ids`, as far as they reach
-abbrev pub SeenAre : List ℕ → List ℕ → Type 0
-SeenAre words ids = (m : ℕ) → m < 64 * length words → isSeen words m ≡ isAmong m ids
 
 pub seen-none : (k n : ℕ) → isSeen (replicate k 0) n ≡ false
 seen-none k n =

@@ -16,8 +16,8 @@ use Rattle.eit.specs.Sound.{inRange, hasChain, sound}
 use Rattle.eit.specs.declared.Record.{Record}
 use Rattle.eit.proofs.Test.{and-left, test-or, false-is}
 use Rattle.eit.proofs.Sound.{range-facts}
-use Rattle.codec.specs.Seen.{isSeen, withSeen}
-use Rattle.codec.proofs.SeenLaws.{SeenAre, seen-length, seen-empty, seen-more}
+use Rattle.codec.specs.Seen.{isSeen, withSeen, SeenAre}
+use Rattle.codec.proofs.SeenLaws.{seen-length, seen-empty, seen-more}
 use Rattle.event_list.specs.Forward.{mayFollow, soundFrom}
 use Rattle.event_list.proofs.ForwardLaws.{sound-held}
 use Rattle.event_list.proofs.RestLaws.{records-from, records-end}

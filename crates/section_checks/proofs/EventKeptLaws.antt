@@ -23,20 +23,10 @@ use Rattle.sections.specs.JudgeEvents.{isEvent, areEvents, isFilledOrAlone, isN
 use Rattle.sections.proofs.EventBytes.{event-forth}
 use Rattle.sections.proofs.Cut.{cut-joined}
 use Rattle.codec.specs.Seen.{isSeen, withSeen}
-use Rattle.codec.proofs.SeenLaws.{SeenAre, seen-empty, seen-more, seen-length}
+use Rattle.codec.proofs.SeenLaws.{seen-empty, seen-more, seen-length}
 use Rattle.section_checks.specs.EventPass.{EventPass, isTaken, takeEvents, checkedEvents}
+use Rattle.section_checks.specs.EventsKept.{leastAfter, KeptOf}
 use Rattle.section_checks.proofs.EventPassLaws.{take-none, take-more, take-stops}
-
--- the least start behind some events, of which the latest comes first
-abbrev pub leastAfter : List Event → ℕ
-leastAfter [] = 0
-leastAfter (d ∷ seen) = d .start + 1
-
--- a least start and a set are those of the events so far; the set has a bit for each id
-pub record KeptOf (least : ℕ) (words : List ℕ) (seen : List Event) : Type 0 where
-  pub least-is : least ≡ leastAfter seen
-  pub ids : SeenAre words (eventIds seen)
-  pub room : length words ≡ 1024
 
 pub kept-start : KeptOf 0 (replicate 1024 0) []
 kept-start = record { least-is = refl; ids = seen-empty 1024; room = length-replicate {A = ℕ} 1024 0 }

@@ -1,4 +1,4 @@
--- Each test of a section's header decides where it fails, and bytes that are too few for a header show last_table_id 0, which is no
+-- Each test of a section's header decides where it fails; bytes that are too few for a header show last_table_id 0, which is no
 -- table. Assumes nothing.
 use Prim.Native.Nat.{ℕ, _<_}
 use mathlib.Core.Bool.{true, false, _&&_, and-false}
@@ -40,7 +40,7 @@ module _ (before : Option Header) (bs : List ℕ) where
       pub header-other : isSameFile before h ≡ false → checkedHeader before bs ≡ none
       header-other fails = refused (header-tests ∙ rw (table, fails))
 
-      pub header-passes : isSameFile before h ≡ true → checkedHeader before bs ≡ some h
-      header-passes same =
+      pub header-kept : isSameFile before h ≡ true → checkedHeader before bs ≡ some h
+      header-kept same =
           let passes : isHeader before bs ≡ true = header-tests ∙ rw (table, same) in
           rw (checkedHeader, passes) (ap some (sym shows))

@@ -7,7 +7,7 @@ use borrow.Author.Needs.{needs}
 use borrow.Author.Tests.{ltb-true, ltb-false}
 use Rattle.eit.proofs.Fields.{bytes-all}
 use Rattle.sections.specs.JudgeHeader.{isTable}
-use Rattle.codec.proofs.FieldLaws.{field-read}
+use Rattle.codec.proofs.FieldLaws.{field-exact}
 use Rattle.section_checks.proofs.FrameLaws.{framed-cut, framed-short, framed-long, framed-table}
 use Rattle.section_checks.proofs.frame.is_framed.Statement.{statement}
 use Rattle.section_checks.proofs.frame.is_framed.Tie as tie
@@ -45,7 +45,7 @@ returns-3 c =
     let a = stated .before .before .args in
     let bs = now (a .section) in
     let bytes = bytes-all bs (λ k. stated .before .shared-slice-known .given k .fits) in
-    let (table, _) = field-read bs 0 1 bytes (omega arith) (c .before .read-field .ensures) in
+    let table = c .before .read-field .ensures ∙ field-exact bs 0 1 bytes (omega arith) in
     let whole = c .before .before .before .before .if1 .left in
     let enough = c .before .before .before .if2 .left in
     let fits = ltb-false _ _ (c .before .before .if3 .left) in

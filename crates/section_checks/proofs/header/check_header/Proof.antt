@@ -11,7 +11,7 @@ use Rattle.sections.specs.JudgeHeader.{isTable, hasFixedBits}
 use Rattle.section_codec.specs.HeaderRead.{heldHeader, headerTold}
 use Rattle.section_codec.proofs.HeaderLaws.{header-only, short-only}
 use Rattle.section_checks.specs.Kept.{keptHeader}
-use Rattle.section_checks.proofs.HeaderCheckLaws.{header-short, header-unfixed, header-no-table, header-other, header-passes}
+use Rattle.section_checks.proofs.HeaderCheckLaws.{header-short, header-unfixed, header-no-table, header-other, header-kept}
 use Rattle.section_checks.proofs.header.check_header.Statement.{statement}
 use Rattle.section_checks.proofs.header.check_header.Tie as tie
 
@@ -92,7 +92,7 @@ returns-4 c =
     let shown = fixed .before .before .before in
     let a = shown .before .before .before .before .args in
     let same = sym (c .before .is-same-file .ensures) ∙ not-false _ (c .if3 .left) in
-    sym (header-passes (keptHeader (a .before)) (now (a .section)) (fixed-is fixed) (shown-is shown) (table-is tabled) same)
+    sym (header-kept (keptHeader (a .before)) (now (a .section)) (fixed-is fixed) (shown-is shown) (table-is tabled) same)
 
 pub check-header-spec : {M : Type 1} → statement M
 check-header-spec =

@@ -1,4 +1,4 @@
--- `is_identity` meets its contract: where the ways of an `&&` meet, the flag is the conjunction of the tests so far; the sections of
+-- `is_identity` meets its contract: where the ways of an `&&` meet, the flag is the conjunction of the tests so far; sections of
 -- every table have the identity's version. Assumes nothing.
 use Prim.Native.Nat.{ℕ}
 use mathlib.Core.Bool.{_&&_, and-assoc}

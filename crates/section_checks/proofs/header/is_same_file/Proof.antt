@@ -1,9 +1,7 @@
 -- `is_same_file` meets its contract: with no section before it holds, else the identity decides or leaves it to last_table_id.
 -- Assumes nothing.
-use mathlib.Core.Path.{_≡_, sym, _∙_}
-use mathlib.Core.Bool.{true, false}
+use mathlib.Core.Path.{sym, _∙_}
 use borrow.Author.Needs.{needs}
-use Rattle.sections.specs.JudgeHeader.{isIdentity}
 use Rattle.section_checks.proofs.header.is_same_file.Statement.{statement}
 use Rattle.section_checks.proofs.header.is_same_file.Tie as tie
 
@@ -23,20 +21,15 @@ returns-2 : tie.Need-returns-2
 returns-2 c =
     let called = c .before .before .before in
     let kept = called .before .before in
-    let header = kept .before .before .args .header in
-    let last = kept .before2 .given .0 .0 in
-    let same : isIdentity (header .«table_id») (last .identity) (header .identity) ≡ true =
-    sym (called .is-identity .ensures (header .«table_id»)) ∙ c .before .before .if1 .taken in
-    rw (kept .before2 .given .1, same)
+    let table = kept .before .before .args .header .«table_id» in
+    rw (kept .before2 .given .1, sym (called .is-identity .ensures table) ∙ c .before .before .if1 .taken)
 
 returns-3 : tie.Need-returns-3
 returns-3 c =
-    let kept = c .before .before .before in
-    let header = kept .before .before .args .header in
-    let last = kept .before2 .given .0 .0 in
-    let other : isIdentity (header .«table_id») (last .identity) (header .identity) ≡ false =
-    sym (c .before .is-identity .ensures (header .«table_id»)) ∙ c .if1 .left in
-    rw (kept .before2 .given .1, other) (c .if1 .left)
+    let called = c .before in
+    let kept = called .before .before in
+    let table = kept .before .before .args .header .«table_id» in
+    rw (kept .before2 .given .1, sym (called .is-identity .ensures table) ∙ c .if1 .left) (c .if1 .left)
 
 pub is-same-file-spec : {M : Type 1} → statement M
 is-same-file-spec =

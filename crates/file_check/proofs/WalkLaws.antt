@@ -1,0 +1,115 @@
+-- The walk over the sections, one after the other: before each turn the walk over the whole file is the walk over the sections from
+-- the offset on (`WalkSoFar`), and what the code keeps is what the definition keeps. Assumes nothing.
+use mathlib.Core.Path.{_≡_, refl, sym, ap, ap₂, subst, _∙_}
+use mathlib.Core.Bool.{true, false}
+use mathlib.Core.List.{List, [], _∷_}
+use Prim.Native.Nat.{ℕ, _+_, _≤_, _<_}
+use borrow.Author.Tests.{le-leb}
+use native.Mathlib.Omega.{arith}
+use lib.ListN.{length, drop, replicate}
+use Rattle.eit.specs.Sizes.{Sizes}
+use Rattle.eit.specs.Limits.{baseMost}
+use Rattle.sections.specs.Decode.{cutFile}
+use Rattle.sections.specs.Walk.{Progress, atStart, Verdict, passed, refused, step, walk}
+use Rattle.sections.specs.Read.{Answer, noIdentity, refusal, atEnd, checkFile}
+use Rattle.section_walk.specs.SectionAt.{sectionAt}
+use Rattle.section_walk.proofs.SectionAtLaws.{walk-end, walk-next, section-inside, section-some}
+use Rattle.section_checks.specs.declared.header.Kept.the-variants.{Nothing}
+use Rattle.section_checks.proofs.EventKeptLaws.{kept-start}
+use Rattle.file_check.specs.Told.{answerNumber, answerValue, answerCount, told}
+use Rattle.file_check.specs.Tracks.{Tracks, Said}
+use Rattle.file_check.specs.declared.answer.ReadAnswer.{ReadAnswer}
+use Rattle.file_check.specs.declared.answer.CheckedFile.{CheckedFile}
+use Rattle.file_check.specs.declared.section.WalkState.{WalkState}
+use Rattle.file_check.specs.declared.section.SectionVerdict.{SectionVerdict}
+use Rattle.file_check.specs.declared.section.SectionVerdict.the-variants.{Passed, Refused}
+
+-- ---- the equations that a reader expects
+
+module _ (sizes : Sizes) (base : ℕ) (p : Progress) where
+  walk-none : walk sizes base p [] ≡ passed p
+  unfolding walk
+  walk-none = refl
+
+  module _ (bs : List ℕ) (rest : List (List ℕ)) where
+    walk-passed : {q : Progress} → step sizes base p bs ≡ passed q → walk sizes base p (bs ∷ rest) ≡ walk sizes base q rest
+    unfolding walk
+    walk-passed is = rw (walk, is)
+
+    walk-refused : {number offset : ℕ} → step sizes base p bs ≡ refused number offset
+        → walk sizes base p (bs ∷ rest) ≡ refused number offset
+    unfolding walk
+    walk-refused is = rw (walk, is)
+
+check-legal : (sizes : Sizes) (base : ℕ) (file : List ℕ) → base ≤ baseMost
+    → checkFile sizes base file ≡ atEnd (length file) (walk sizes base atStart (cutFile file))
+unfolding checkFile
+check-legal sizes base file legal = rw (checkFile, le-leb base baseMost legal)
+
+-- ---- before a turn
+
+pub record WalkSoFar (sizes : Sizes) (base : ℕ) (file words : List ℕ) (state : WalkState) (offset : ℕ) : Type 0 where
+  pub progress : Progress
+  pub tracks : Tracks offset state words progress
+  pub walked : walk sizes base atStart (cutFile file) ≡ walk sizes base progress (cutFile (drop offset file))
+  pub inside : offset ≤ length file
+
+pub walk-start : (sizes : Sizes) (base : ℕ) (file : List ℕ)
+    → WalkSoFar sizes base file (replicate 1024 0) (record { before = Nothing; least = 0; count = 0 }) 0
+walk-start sizes base file = record {
+  progress = atStart;
+  tracks = record { offset-is = refl; before-is = refl; kept = kept-start; count-is = refl };
+  walked = refl;
+  inside = omega arith;
+}
+
+module _ {sizes : Sizes} {base : ℕ} {file words : List ℕ} {state : WalkState} {offset : ℕ}
+    (so-far : WalkSoFar sizes base file words state offset) where
+  module _ (here : offset < length file) {section : List ℕ} (is : section ≡ sectionAt file offset) where
+    -- the section is the next piece
+    next-piece : cutFile (drop offset file) ≡ section ∷ cutFile (drop (offset + length section) file)
+    next-piece =
+        walk-next file offset here
+        ∙ ap (λ (bs : List ℕ). bs ∷ cutFile (drop (offset + length bs) file)) (sym is)
+
+    pub walk-inside : offset + length section ≤ length file
+    walk-inside = omega (arith, section-inside file offset here, ap length is)
+
+    pub walk-some : 0 < length section
+    walk-some = omega (arith, section-some file offset here, ap length is)
+
+    module _ (verdict : SectionVerdict) (words′ : List ℕ)
+        (said : Said (offset + length section) verdict words′ (step sizes base (so-far .progress) section)) where
+      pub walk-stops : {answer : ReadAnswer} → verdict ≡ Refused answer → base ≤ baseMost
+          → checkFile sizes base file ≡ told (record { answer = answer; identity = noIdentity })
+      walk-stops {answer} refuses legal =
+          let (stepped, none) =
+          subst (λ (v : SectionVerdict). Said (offset + length section) v words′ (step sizes base (so-far .progress) section)) refuses said in
+          check-legal sizes base file legal
+          ∙ ap (atEnd (length file))
+          (so-far .walked ∙ ap (walk sizes base (so-far .progress)) next-piece ∙ walk-refused sizes base (so-far .progress) section _ stepped)
+          ∙ ap
+          (λ (n : ℕ). record { number = answerNumber answer; value = answerValue answer; identity = noIdentity; count = n })
+          (sym none)
+
+      pub walk-more : {next : WalkState} → verdict ≡ Passed next → WalkSoFar sizes base file words′ next (offset + length section)
+      walk-more {next} passes =
+          let (q, stepped, tracks) =
+          subst (λ (v : SectionVerdict). Said (offset + length section) v words′ (step sizes base (so-far .progress) section)) passes said in
+          record {
+            progress = q;
+            tracks = tracks;
+            walked =
+                so-far .walked
+                ∙ ap (walk sizes base (so-far .progress)) next-piece
+                ∙ walk-passed sizes base (so-far .progress) section _ stepped;
+            inside = walk-inside;
+          }
+
+  pub walk-done : length file ≤ offset → base ≤ baseMost → (r : CheckedFile)
+      → atEnd (length file) (passed (so-far .progress)) ≡ told r → checkFile sizes base file ≡ told r
+  walk-done end legal r ended =
+      check-legal sizes base file legal
+      ∙ ap (atEnd (length file))
+      (so-far .walked ∙ ap (walk sizes base (so-far .progress)) (walk-end file offset end) ∙ walk-none sizes base (so-far .progress))
+      ∙ ended

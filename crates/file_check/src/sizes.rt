@@ -1,0 +1,82 @@
+// Check with the sizes as numbers.
+use crate::answer;
+use crate::answer::CheckedFile;
+use crate::answer::ReadAnswer;
+use crate::section;
+use crate::section::SectionVerdict;
+use crate::section::WalkState;
+use codec::crc;
+use section_checks::header::Kept;
+ghost use mathlib.Core.Path.{_≡_};
+ghost use mathlib.Core.List.{List};
+ghost use Prim.Native.Nat.{ℕ};
+ghost use Rattle.eit.specs.Sizes.{sized};
+ghost use Rattle.sections.specs.Read.{atEnd, checkFile};
+ghost use Rattle.sections.specs.Walk.{Progress, passed};
+ghost use Rattle.file_check.specs.Told.{told};
+ghost use Rattle.file_check.specs.Tracks.{Tracks};
+
+// The most that a base day may be.
+const BASE_DAY_MOST: u32 = 65_472;
+
+// A bit for each id.
+const SEEN_WORDS: usize = 1024;
+
+// At the end of a file of `size` bytes: it ends after last_table_id, or early.
+fn at_end(state: WalkState, size: usize) -> CheckedFile
+    ensures { λ r. ⌜
+        ((p : Progress) (offset : ℕ) (words : List ℕ) → Tracks offset state words p → atEnd size (passed p) ≡ told r) ⌝ }
+{
+    let before = state.before;
+    let Kept::Header(last) = before else {
+        return answer::refused(ReadAnswer::EarlyEnd(size));
+    };
+    if last.section_number != last.last_section_number || last.table_id != last.last_table_id {
+        return answer::refused(ReadAnswer::EarlyEnd(size));
+    }
+    let identity = last.identity;
+    CheckedFile {
+        answer: ReadAnswer::Done(state.count),
+        identity,
+    }
+}
+
+// Section after section, until one is refused or the file ends.
+pub fn check_within(
+    file: &[u8],
+    base_day: u32,
+    section_size: usize,
+    event_limit: usize,
+) -> CheckedFile
+    ensures { λ r. ⌜ checkFile (sized «section_size» «event_limit») «base_day» (now (file .entry)) ≡ told r ⌝ }
+{
+    if BASE_DAY_MOST < base_day {
+        return answer::refused(ReadAnswer::BaseDay);
+    }
+    let table = crc::table();
+    let mut seen = [0u64; SEEN_WORDS];
+    let mut state = WalkState {
+        before: Kept::Nothing,
+        least: 0,
+        count: 0,
+    };
+    let mut offset = 0;
+    while offset < file.len() {
+        let section = section_walk::next_section(file, offset);
+        match section::check_section(
+            section,
+            offset,
+            state,
+            base_day,
+            section_size,
+            event_limit,
+            &table,
+            &mut seen,
+        ) {
+            SectionVerdict::Refused(said) => return answer::refused(said),
+            SectionVerdict::Passed(next) => state = next,
+        }
+        offset += section.len();
+    }
+    at_end(state, file.len())
+}
