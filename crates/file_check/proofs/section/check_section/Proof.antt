@@ -67,9 +67,11 @@ is-closed-requires c κs = search needs
 
 returns-2 : tie.Need-returns-2
 returns-2 c p tracks =
-    let framed = c .before .before .before in
-    (says-21 tracks _ _ _ _ (section-bytes framed) (framed .is-framed .ensures) (not-false _ (c .before .before .if1 .left))
-    (lent-table framed) (c .before .is-closed .ensures) (not-true _ (c .if2 .taken)), refl)
+    let framed = c .before .before .before in (
+      says-21 tracks _ _ _ _ (section-bytes framed) (framed .is-framed .ensures) (not-false _ (c .before .before .if1 .left))
+          (lent-table framed) (c .before .is-closed .ensures) (not-true _ (c .if2 .taken)),
+      refl,
+    )
 
 check-header-requires : tie.Need-check-header-requires
 check-header-requires c κs = search needs
@@ -84,10 +86,12 @@ returns-3 : tie.Need-returns-3
 returns-3 c p tracks =
     let kept = c .before .before in
     let closed = kept .before .before in
-    let framed = closed .before .before in
-    (says-22 tracks _ _ _ _ (section-bytes framed) (framed .is-framed .ensures) (not-false _ (closed .before .if1 .left)) (lent-table framed)
-    (closed .is-closed .ensures) (not-false _ (kept .before .if2 .left))
-    (sym (ap keptHeader (c .enum-told .given .1)) ∙ kept .check-header .ensures), refl)
+    let framed = closed .before .before in (
+      says-22 tracks _ _ _ _ (section-bytes framed) (framed .is-framed .ensures) (not-false _ (closed .before .if1 .left)) (lent-table framed)
+          (closed .is-closed .ensures) (not-false _ (kept .before .if2 .left))
+          (sym (ap keptHeader (c .enum-told .given .1)) ∙ kept .check-header .ensures),
+      refl,
+    )
 
 is-in-place-requires : tie.Need-is-in-place-requires
 is-in-place-requires c κs = search needs
@@ -97,10 +101,12 @@ returns-4 c p tracks =
     let placed = c .before in
     let kept = placed .before .before .before .before in
     let closed = kept .before .before in
-    let framed = closed .before .before in
-    (says-23 tracks _ _ _ _ (section-bytes framed) (framed .is-framed .ensures) (not-false _ (closed .before .if1 .left)) (lent-table framed)
-    (closed .is-closed .ensures) (not-false _ (kept .before .if2 .left)) (header-kept placed)
-    (placed .is-in-place .ensures) (not-true _ (c .if3 .taken)), refl)
+    let framed = closed .before .before in (
+      says-23 tracks _ _ _ _ (section-bytes framed) (framed .is-framed .ensures) (not-false _ (closed .before .if1 .left)) (lent-table framed)
+          (closed .is-closed .ensures) (not-false _ (kept .before .if2 .left)) (header-kept placed)
+          (placed .is-in-place .ensures) (not-true _ (c .if3 .taken)),
+      refl,
+    )
 
 event-loop-requires : tie.Need-event-loop-requires
 event-loop-requires c κs = search needs
@@ -118,11 +124,13 @@ returns-5 c p tracks =
     let placed = looped .before .before in
     let kept = placed .before .before .before .before in
     let closed = kept .before .before in
-    let framed = closed .before .before in
-    (says-24 tracks _ _ _ _ (section-bytes framed) (framed .is-framed .ensures) (not-false _ (closed .before .if1 .left)) (lent-table framed)
-    (closed .is-closed .ensures) (not-false _ (kept .before .if2 .left)) (header-kept placed)
-    (placed .is-in-place .ensures) (not-false _ (looped .before .if3 .left)) (events-checked checked)
-    (not-true _ (c .if4 .taken)), refl)
+    let framed = closed .before .before in (
+      says-24 tracks _ _ _ _ (section-bytes framed) (framed .is-framed .ensures) (not-false _ (closed .before .if1 .left)) (lent-table framed)
+          (closed .is-closed .ensures) (not-false _ (kept .before .if2 .left)) (header-kept placed)
+          (placed .is-in-place .ensures) (not-false _ (looped .before .if3 .left)) (events-checked checked)
+          (not-true _ (c .if4 .taken)),
+      refl,
+    )
 
 same-length-2 : tie.Need-same-length-2
 same-length-2 c = search needs
@@ -138,11 +146,13 @@ returns-6 c p tracks =
     let framed = closed .before .before in
     let a = entry placed .args in
     let many : a .event-limit < checked .check-events .result .events + a .state .count =
-    ⊎-elim (λ w. omega (arith, w .taken)) (λ w. omega (arith, w .0 .left, ltb-true (a .event-limit - checked .check-events .result .events) (a .state .count) (w .2 .taken))) (c .if5 .came) in
-    (says-26 tracks _ _ _ _ (section-bytes framed) (framed .is-framed .ensures) (not-false _ (closed .before .if1 .left)) (lent-table framed)
-    (closed .is-closed .ensures) (not-false _ (kept .before .if2 .left)) (header-kept placed)
-    (placed .is-in-place .ensures) (not-false _ (looped .before .if3 .left)) (events-checked checked)
-    (not-false _ (whole .if4 .left)) many, refl)
+    ⊎-elim (λ w. omega (arith, w .taken)) (λ w. omega (arith, w .0 .left, ltb-true (a .event-limit - checked .check-events .result .events) (a .state .count) (w .2 .taken))) (c .if5 .came) in (
+      says-26 tracks _ _ _ _ (section-bytes framed) (framed .is-framed .ensures) (not-false _ (closed .before .if1 .left)) (lent-table framed)
+          (closed .is-closed .ensures) (not-false _ (kept .before .if2 .left)) (header-kept placed)
+          (placed .is-in-place .ensures) (not-false _ (looped .before .if3 .left)) (events-checked checked)
+          (not-false _ (whole .if4 .left)) many,
+      refl,
+    )
 
 add-t29 : tie.Need-add-t29
 add-t29 c =

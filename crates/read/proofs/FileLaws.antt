@@ -1,0 +1,136 @@
+-- The records of a file, section after section: what is left to write shrinks with each section. Assumes nothing.
+use mathlib.Core.Path.{_≡_, refl, sym, ap, ap₂, subst, _∙_}
+use mathlib.Core.List.{List, [], _∷_, _++_, map}
+use Prim.Native.Nat.{ℕ, _+_, _-_, _*_, _≤_, _<_}
+use native.Mathlib.Omega.{arith}
+use lib.ListN.{length, take, drop, length-take, length-drop}
+use Rattle.eit.specs.Sizes.{sectionOverhead}
+use Rattle.eit.specs.Overwrite.{overwrite}
+use Rattle.eit.specs.Records.{recordSize, numbersOfAll}
+use Rattle.eit.specs.declared.Record.{Record}
+use Rattle.eit.proofs.Records.{numbers-length, numbers-append}
+use Rattle.sections.specs.Section.{Section, headerSize, sectionSize}
+use Rattle.sections.specs.Decode.{statedEventSize, eventIn, eventLoop, cutEvents, sectionIn, cutFile}
+use Rattle.sections.specs.Cut.{cut}
+use Rattle.sections.specs.Every.{Every}
+use Rattle.sections.specs.Places.{recordsAt, recordsFrom}
+use Rattle.sections.specs.Read.{fileRecords}
+use Rattle.sections.proofs.Exact.{sections-are, records-are}
+use Rattle.codec.proofs.LeftLaws.{Left, left-all, left-fits, left-more, left-end}
+use Rattle.section_walk.specs.SectionAt.{sectionAt}
+use Rattle.section_walk.proofs.SectionAtLaws.{walk-end, walk-next, section-inside, section-some}
+use Rattle.read.specs.Fillable.{AreEvents, Fillable}
+use Rattle.read.proofs.FillLaws.{pieceRecords, piece-count}
+
+-- the records of the sections that some pieces show
+abbrev shownRecords : ℕ → ℕ → List (List ℕ) → List Record
+shownRecords base offset pieces = recordsFrom offset (map (sectionIn base) pieces)
+
+records-shown : (base : ℕ) (file : List ℕ) → fileRecords base file ≡ shownRecords base 0 (cutFile file)
+records-shown base file = records-are base file ∙ ap (recordsFrom 0) (sections-are base file)
+
+-- a section's records, then those behind it
+shown-next : (base offset : ℕ) (bs : List ℕ) (rest : List (List ℕ)) → Fillable base bs
+    → shownRecords base offset (bs ∷ rest)
+    ≡ pieceRecords base (offset + headerSize) (cut statedEventSize (eventLoop bs)) ++ shownRecords base (offset + length bs) rest
+unfolding sectionIn cutEvents
+shown-next base offset bs rest fillable =
+    ap
+    (λ (size : ℕ).
+    pieceRecords base (offset + headerSize) (cut statedEventSize (eventLoop bs)) ++ shownRecords base (offset + size) rest)
+    (fillable .size)
+
+-- a section has room for its header and CRC_32
+section-size : (base : ℕ) (bs : List ℕ) → Fillable base bs → sectionOverhead ≤ length bs
+section-size base bs fillable = omega (arith, fillable .size)
+
+-- before a turn: the section at the offset is the next one, and its first record the record n
+pub record FileSoFar (base : ℕ) (file d out : List ℕ) (n offset : ℕ) : Type 0 where
+  pub left : Left d 0 (numbersOfAll (fileRecords base file)) out (n * recordSize)
+      (numbersOfAll (recordsFrom offset (map (sectionIn base) (cutFile (drop offset file)))))
+  pub all : Every (Fillable base) (cutFile (drop offset file))
+  pub inside : offset ≤ length file
+
+pub file-start : (base : ℕ) (file d : List ℕ) → Every (Fillable base) (cutFile file)
+    → length (fileRecords base file) * recordSize ≤ length d → FileSoFar base file d d 0 0
+file-start base file d all room =
+    record {
+      left =
+          subst (λ (rs : List Record). Left d 0 (numbersOfAll (fileRecords base file)) d 0 (numbersOfAll rs)) (records-shown base file)
+          (left-all d 0 (numbersOfAll (fileRecords base file)) (omega (arith, numbers-length (fileRecords base file))));
+      all = all;
+      inside = omega arith;
+    }
+
+module _ {base : ℕ} {file d out : List ℕ} {n offset : ℕ} (so-far : FileSoFar base file d out n offset) where
+  module _ (here : offset < length file) {section : List ℕ} (is : section ≡ sectionAt file offset) where
+    abbrev behind : List (List ℕ)
+    behind = cutFile (drop (offset + length section) file)
+
+    next-piece : cutFile (drop offset file) ≡ section ∷ behind
+    next-piece = walk-next file offset here ∙ ap (λ (bs : List ℕ). bs ∷ cutFile (drop (offset + length bs) file)) (sym is)
+
+    each : Every (Fillable base) (section ∷ behind)
+    each = subst (Every (Fillable base)) next-piece (so-far .all)
+
+    pub file-inside : offset + length section ≤ length file
+    file-inside = omega (arith, section-inside file offset here, ap length is)
+
+    pub file-some : 0 < length section
+    file-some = omega (arith, section-some file offset here, ap length is)
+
+    module _ {events : List ℕ} (loop : events ≡ eventLoop section) where
+      abbrev pieces : List (List ℕ)
+      pieces = cut statedEventSize events
+
+      abbrev records : List Record
+      records = pieceRecords base (offset + headerSize) pieces
+
+      pub events-are : AreEvents base pieces
+      unfolding cutEvents
+      events-are = subst (λ (bs : List ℕ). AreEvents base (cut statedEventSize bs)) (sym loop) (each .0 .events)
+
+      pub events-inside : offset + headerSize + length events ≤ length file
+      events-inside =
+          omega (
+            arith,
+            ap length loop,
+            length-take (length section - sectionOverhead) (drop headerSize section),
+            section-size base section (each .0),
+            file-inside,
+          )
+
+      parts : numbersOfAll (recordsFrom offset (map (sectionIn base) (cutFile (drop offset file))))
+          ≡ numbersOfAll records ++ numbersOfAll (shownRecords base (offset + length section) behind)
+      parts =
+          ap (λ (xs : List (List ℕ)). numbersOfAll (shownRecords base offset xs)) next-piece
+          ∙ ap numbersOfAll (shown-next base offset section behind (each .0))
+          ∙ numbers-append (pieceRecords base (offset + headerSize) (cut statedEventSize (eventLoop section)))
+          (shownRecords base (offset + length section) behind)
+          ∙ ap
+          (λ (bs : List ℕ).
+          numbersOfAll (pieceRecords base (offset + headerSize) (cut statedEventSize bs))
+          ++ numbersOfAll (shownRecords base (offset + length section) behind))
+          (sym loop)
+
+      width : length (numbersOfAll records) ≡ length pieces * recordSize
+      width = numbers-length records ∙ ap (λ (k : ℕ). k * recordSize) (piece-count base (offset + headerSize) pieces)
+
+      pub file-room : (n + length pieces) * recordSize ≤ length out
+      file-room =
+          omega (arith, left-fits (so-far .left) (numbersOfAll records) (numbersOfAll (shownRecords base (offset + length section) behind)) parts, width)
+
+      pub file-more : {out′ : List ℕ} {n′ : ℕ} → out′ ≡ overwrite out (n * recordSize) (numbersOfAll records)
+          → n′ ≡ n + length pieces → FileSoFar base file d out′ n′ (offset + length section)
+      file-more {n′ = n′} written counted =
+          record {
+            left =
+                left-more (so-far .left) (numbersOfAll records) (numbersOfAll (shownRecords base (offset + length section) behind)) parts
+                written (omega (arith, counted, width));
+            all = each .1;
+            inside = file-inside;
+          }
+
+  pub file-end : length file ≤ offset → out ≡ overwrite d 0 (numbersOfAll (fileRecords base file))
+  file-end end =
+      left-end (so-far .left) (ap (λ (xs : List (List ℕ)). numbersOfAll (shownRecords base offset xs)) (walk-end file offset end)) .0

@@ -1,0 +1,96 @@
+-- `fill::fill_file` meets its contract: before each turn the records are filled in as `FileSoFar` says. The measure is what is left of the
+-- file. Assumes nothing.
+use Prim.Native.Nat.{_-_}
+use lib.ListN.{length}
+use Rattle.read.proofs.FileLaws.{
+  FileSoFar,
+  file-start,
+  file-inside,
+  file-some,
+  file-room,
+  events-are,
+  events-inside,
+  file-more,
+  file-end,
+}
+use native.Mathlib.Omega.{arith}
+use borrow.Author.Needs.{needs}
+use Rattle.read.proofs.fill.fill_file.Statement.{statement}
+use Rattle.read.proofs.fill.fill_file.Tie as tie
+
+abbrev Inv-loop : tie.InvT-loop
+Inv-loop records₀ file base-day n₀ offset₀ records n offset = FileSoFar base-day file records₀ records n offset
+
+abbrev μ-loop : tie.MeasureT-loop
+μ-loop records₀ file base-day n₀ offset₀ records n offset = length file - offset
+
+loop-holds : tie.Need-loop-holds Inv-loop μ-loop
+loop-holds c = let start = c .before .before in file-start _ _ _ (start .pre .0) (start .pre .1)
+
+next-section-requires : tie.Need-next-section-requires Inv-loop μ-loop
+next-section-requires c κs = search needs
+
+event-loop-requires : tie.Need-event-loop-requires Inv-loop μ-loop
+event-loop-requires c κs = search needs
+
+add-fill-events : tie.Need-add-fill-events Inv-loop μ-loop
+add-fill-events c =
+    let turn = c .before .before .before .before in
+    omega (arith, turn .loop .inv .inside, turn .before .before .before .pre .2)
+
+fill-events-requires : tie.Need-fill-events-requires Inv-loop μ-loop
+fill-events-requires c κs =
+    let walked = c .before .before in
+    let turn = walked .before .before in
+    let here = walked .before .loop-test .taken in
+    let is = walked .next-section .ensures in
+    let loop = c .event-loop .ensures in (
+      events-are (turn .loop .inv) here is loop,
+      file-room (turn .loop .inv) here is loop,
+      omega (arith, events-inside (turn .loop .inv) here is loop, turn .before .before .before .pre .2),
+    )
+
+add-offset : tie.Need-add-offset Inv-loop μ-loop
+add-offset c =
+    let walked = c .before .before .before .before .before in
+    omega (arith, file-inside (walked .before .before .loop .inv) (walked .before .loop-test .taken) (walked .next-section .ensures))
+
+loop-less : tie.Need-loop-less Inv-loop μ-loop
+loop-less c =
+    let walked = c .before .before .before .before .before in
+    omega (
+      arith,
+      walked .before .loop-test .taken,
+      file-some (walked .before .before .loop .inv) (walked .before .loop-test .taken) (walked .next-section .ensures),
+    )
+
+loop-again : tie.Need-loop-again Inv-loop μ-loop
+loop-again c =
+    let filled = c .before .before in
+    let looped = filled .before in
+    let walked = looped .before .before in
+    file-more (walked .before .before .loop .inv) (walked .before .loop-test .taken) (walked .next-section .ensures) (looped .event-loop .ensures)
+    (filled .fill-events .ensures .0) (filled .fill-events .ensures .1)
+
+same-length : tie.Need-same-length Inv-loop μ-loop
+same-length c = c .before .loop .inv .left .size
+
+returns : tie.Need-returns Inv-loop μ-loop
+returns c = file-end (c .before .loop .inv) (c .loop-test .left)
+
+pub fill-file-spec : {M : Type 1} → statement M
+fill-file-spec =
+    tie.close
+    (tie.spec
+    Inv-loop
+    μ-loop
+    loop-holds
+    next-section-requires
+    event-loop-requires
+    add-fill-events
+    fill-events-requires
+    add-offset
+    loop-less
+    loop-again
+    same-length
+    returns)

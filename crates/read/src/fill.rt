@@ -1,0 +1,85 @@
+// The records of a file that was accepted (01, "Build, Read": marks never have 2, offsets are into the file).
+use eit::Record;
+use event_list::place;
+use section_codec::event;
+use section_codec::event::EventRead;
+ghost use mathlib.Core.Path.{_≡_};
+ghost use mathlib.Core.List.{map};
+ghost use Prim.Native.Nat.{_+_, _*_, _^_, _≤_, _<_};
+ghost use lib.ListN.{length};
+ghost use Rattle.eit.specs.Overwrite.{overwrite};
+ghost use Rattle.eit.specs.Records.{recordSize, numbersOfAll};
+ghost use Rattle.sections.specs.Decode.{statedEventSize, eventIn, cutFile};
+ghost use Rattle.sections.specs.Cut.{cut};
+ghost use Rattle.sections.specs.Every.{Every};
+ghost use Rattle.sections.specs.Places.{recordsAt};
+ghost use Rattle.sections.specs.Read.{fileRecords};
+ghost use Rattle.read.specs.Fillable.{AreEvents, Fillable};
+
+// Bytes of a section before its events, and of an event before its chain.
+const HEADER_SIZE: usize = 14;
+
+const EVENT_OVERHEAD: usize = 12;
+
+// The records of an event loop that begins at `from` in the file, written from record `place` on. Returns the place behind them.
+fn fill_events(
+    records: &mut [u32],
+    place: usize,
+    events: &[u8],
+    from: usize,
+    base_day: u32,
+) -> usize
+    requires { ⌜
+        AreEvents «base_day» (cut statedEventSize (now events))
+        × ((place + length (cut statedEventSize (now events))) * recordSize ≤ length (now records))
+        × (from + length (now events) < 2 ^ 32) ⌝ }
+    ensures { λ r. ⌜
+        now (records .exit)
+        ≡ overwrite (now (records .entry)) (place * recordSize)
+        (numbersOfAll (recordsAt from (map (eventIn «base_day») (cut statedEventSize (now (events .entry))))))
+        × (r ≡ place + length (cut statedEventSize (now (events .entry)))) ⌝ }
+{
+    let mut n = place;
+    let mut at = 0;
+    while at < events.len() {
+        let EventRead::Whole(shown) = event::read_event(&events[at..], base_day) else {
+            return n;
+        };
+        let event = Record {
+            id: shown.id,
+            start: shown.start,
+            duration: shown.duration,
+            marks: shown.marks,
+            offset: (from + at + EVENT_OVERHEAD) as u32,
+            chain_length: shown.chain_length,
+        };
+        place::insert_record(records, n, n, event);
+        n += 1;
+        at += EVENT_OVERHEAD + shown.chain_length as usize;
+    }
+    n
+}
+
+// All records of the file, section after section.
+pub fn fill_file(records: &mut [u32], file: &[u8], base_day: u32)
+    requires { ⌜
+        Every (Fillable «base_day») (cutFile (now file))
+        × (length (fileRecords «base_day» (now file)) * recordSize ≤ length (now records))
+        × (length (now file) < 2 ^ 32) ⌝ }
+    ensures { λ _. ⌜
+        now (records .exit) ≡ overwrite (now (records .entry)) 0 (numbersOfAll (fileRecords «base_day» (now (file .entry)))) ⌝ }
+{
+    let mut n = 0;
+    let mut offset = 0;
+    while offset < file.len() {
+        let section = section_walk::next_section(file, offset);
+        n = fill_events(
+            records,
+            n,
+            section_walk::event_loop(section),
+            offset + HEADER_SIZE,
+            base_day,
+        );
+        offset += section.len();
+    }
+}

@@ -1,0 +1,29 @@
+// Read (01, "Build, Read"): check looks at the whole file and writes nothing; then the records are filled in, which cannot fail.
+use event_list::records::RECORD_SIZE;
+use file_check::answer;
+use file_check::answer::CheckedFile;
+use file_check::answer::ReadAnswer;
+ghost use mathlib.Core.Path.{_≡_};
+ghost use Rattle.eit.specs.Sizes.{broadcast};
+ghost use Rattle.sections.specs.Read.{read};
+ghost use Rattle.read.specs.ReadTold.{readTold};
+
+mod fill;
+
+// 01's Read: answer, identity, count and every number of the record buffer are those of the definition.
+pub fn read(file: &[u8], base_day: u32, records: &mut [u32]) -> CheckedFile
+    ensures { λ r. ⌜
+        read broadcast «base_day» (now (file .entry)) (now (records .entry)) ≡ readTold r (now (records .exit)) ⌝ }
+{
+    let checked = file_check::check(file, base_day);
+    let said = checked.answer;
+    if answer::number_of(said) != 0 {
+        return checked;
+    }
+    let count = answer::count_of(said);
+    if records.len() / RECORD_SIZE < count {
+        return answer::refused(ReadAnswer::RecordsShort(count));
+    }
+    fill::fill_file(records, file, base_day);
+    checked
+}
