@@ -5,9 +5,11 @@ use Prim.Native.Nat.{ℕ}
 use Rattle.eit.specs.Records.{lentList}
 use Rattle.eit.specs.declared.Identity.{Identity}
 use Rattle.script.specs.Edit.{Edited}
+use Rattle.sections.specs.Read.{Answer, Reading}
 use Rattle.schedule.specs.Build.{Built}
 use Rattle.chirdaluko.specs.declared.EitEdited.{EitEdited}
 use Rattle.chirdaluko.specs.declared.EitBuilt.{EitBuilt}
+use Rattle.chirdaluko.specs.declared.EitReading.{EitReading}
 
 abbrev pub identityOf : ℕ → ℕ → ℕ → ℕ → Identity
 identityOf service stream network version =
@@ -18,3 +20,15 @@ editedOf r buffer = record { number = r .number; value = r .value; list = lentLi
 
 abbrev pub builtOf : EitBuilt → List ℕ → Built
 builtOf r output = record { number = r .number; value = r .value; output = output }
+
+abbrev pub answerOf : EitReading → Answer
+answerOf r =
+    record {
+      number = r .number;
+      value = r .value;
+      identity = identityOf (r .«service_id») (r .«transport_stream_id») (r .«original_network_id») (r .version);
+      count = r .count;
+    }
+
+abbrev pub readingOf : EitReading → List ℕ → Reading
+readingOf r buffer = record { answer = answerOf r; buffer = buffer }

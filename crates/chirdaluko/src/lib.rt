@@ -3,6 +3,8 @@
 use build::tables;
 use codec::crc;
 use eit::Identity;
+use file_check::answer;
+use file_check::answer::CheckedFile;
 ghost use mathlib.Core.Path.{_≡_};
 ghost use mathlib.Core.List.{flatten};
 ghost use Rattle.eit.specs.Crc.{crc32};
@@ -10,9 +12,11 @@ ghost use Rattle.eit.specs.Sizes.{broadcast};
 ghost use Rattle.eit.specs.Pools.{lentPools};
 ghost use Rattle.eit.specs.Records.{lentList};
 ghost use Rattle.script.specs.Edit.{edit};
+ghost use Rattle.sections.specs.Read.{checkFile, read};
 ghost use Rattle.schedule.specs.Plan.{plan};
 ghost use Rattle.schedule.specs.Build.{build};
-ghost use Rattle.chirdaluko.specs.Face.{editedOf, builtOf, identityOf};
+ghost use Rattle.file_check.specs.Told.{told};
+ghost use Rattle.chirdaluko.specs.Face.{editedOf, builtOf, identityOf, answerOf, readingOf};
 
 // What Edit returns: document 01's number and value, and the count then held.
 #[repr(C)]
@@ -27,6 +31,19 @@ pub struct EitEdited {
 pub struct EitBuilt {
     pub number: u32,
     pub value: usize,
+}
+
+// What Read returns: document 01's number and value, the number of events, and the identity of the file; with a refusal, count and
+// identity are 0.
+#[repr(C)]
+pub struct EitReading {
+    pub number: u32,
+    pub value: usize,
+    pub count: usize,
+    pub service_id: u16,
+    pub transport_stream_id: u16,
+    pub original_network_id: u16,
+    pub version: u8,
 }
 
 // Edit: number, value, count and every number of the list are those of the definition.
@@ -101,6 +118,41 @@ pub extern "C" fn eit_plan<'a>(
     *counts = tables::flat_of(build::plan(list, count, day, series));
 }
 
+// An answer of Read as numbers.
+fn reading_of(checked: CheckedFile) -> EitReading
+    ensures { λ r. ⌜ answerOf r ≡ told checked ⌝ }
+{
+    let said = checked.answer;
+    let identity = checked.identity;
+    EitReading {
+        number: answer::number_of(said),
+        value: answer::value_of(said),
+        count: answer::count_of(said),
+        service_id: identity.service_id,
+        transport_stream_id: identity.transport_stream_id,
+        original_network_id: identity.original_network_id,
+        version: identity.version,
+    }
+}
+
+// Read: number, value, count, identity and every number of the record buffer are those of the definition.
+#[no_mangle]
+pub extern "C" fn eit_read(file: &[u8], base_day: u32, records: &mut [u32]) -> EitReading
+    ensures { λ r. ⌜
+        read broadcast «base_day» (now (file .entry)) (now (records .entry)) ≡ readingOf r (now (records .exit)) ⌝ }
+{
+    reading_of(read::read(file, base_day, records))
+}
+
+// Read without a record buffer.
+#[no_mangle]
+pub extern "C" fn eit_check(file: &[u8], base_day: u32) -> EitReading
+    ensures { λ r. ⌜ checkFile broadcast «base_day» (now (file .entry)) ≡ answerOf r ⌝ }
+{
+    reading_of(file_check::check(file, base_day))
+}
+
+// CRC_32.
 #[no_mangle]
 pub extern "C" fn eit_crc32(bytes: &[u8]) -> u32
     ensures { λ r. ⌜ r ≡ crc32 (now (bytes .entry)) ⌝ }
