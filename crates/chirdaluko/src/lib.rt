@@ -3,8 +3,7 @@
 use build::tables;
 use codec::crc;
 use eit::Identity;
-use file_check::answer;
-use file_check::answer::CheckedFile;
+use read_answer::CheckedFile;
 ghost use mathlib.Core.Path.{_≡_};
 ghost use mathlib.Core.List.{flatten};
 ghost use Rattle.eit.specs.Crc.{crc32};
@@ -15,7 +14,7 @@ ghost use Rattle.script.specs.Edit.{edit};
 ghost use Rattle.sections.specs.Read.{checkFile, read};
 ghost use Rattle.schedule.specs.Plan.{plan};
 ghost use Rattle.schedule.specs.Build.{build};
-ghost use Rattle.file_check.specs.Told.{told};
+ghost use Rattle.read_answer.specs.Told.{told};
 ghost use Rattle.chirdaluko.specs.Face.{editedOf, builtOf, identityOf, answerOf, readingOf};
 
 // What Edit returns: document 01's number and value, and the count then held.
@@ -125,9 +124,9 @@ fn reading_of(checked: CheckedFile) -> EitReading
     let said = checked.answer;
     let identity = checked.identity;
     EitReading {
-        number: answer::number_of(said),
-        value: answer::value_of(said),
-        count: answer::count_of(said),
+        number: read_answer::number_of(said),
+        value: read_answer::value_of(said),
+        count: read_answer::count_of(said),
         service_id: identity.service_id,
         transport_stream_id: identity.transport_stream_id,
         original_network_id: identity.original_network_id,

@@ -28,12 +28,12 @@ use Rattle.section_codec.specs.HeaderRead.{heldHeader}
 use Rattle.section_codec.specs.declared.header.SectionHeader.{SectionHeader}
 use Rattle.section_checks.specs.Closed.{isClosedBy}
 use Rattle.section_checks.specs.Kept.{keptHeader, checkedHeader}
-use Rattle.section_checks.specs.EventPass.{EventPass, checkedEvents, passOf}
-use Rattle.section_checks.specs.EventsKept.{KeptOf}
+use Rattle.event_checks.specs.EventPass.{EventPass, checkedEvents, passOf}
+use Rattle.event_checks.specs.EventsKept.{KeptOf}
 use Rattle.section_checks.specs.declared.header.Kept.the-variants.{Header as Behind, Nothing}
-use Rattle.section_checks.specs.declared.events.EventCheck.{EventCheck}
+use Rattle.event_checks.specs.declared.EventCheck.{EventCheck}
 use Rattle.section_checks.proofs.ClosedLaws.{closed-by-table}
-use Rattle.section_checks.proofs.EventKeptLaws.{loop-checked, loop-kept}
+use Rattle.event_checks.proofs.EventKeptLaws.{loop-checked, loop-kept}
 use Rattle.file_check.specs.Tracks.{Tracks, Said}
 use Rattle.file_check.specs.declared.section.WalkState.{WalkState}
 use Rattle.file_check.specs.declared.section.SectionVerdict.the-variants.{Passed, Refused}

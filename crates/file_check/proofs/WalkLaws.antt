@@ -15,11 +15,11 @@ use Rattle.sections.specs.Read.{Answer, noIdentity, refusal, atEnd, checkFile}
 use Rattle.section_walk.specs.SectionAt.{sectionAt}
 use Rattle.section_walk.proofs.SectionAtLaws.{walk-end, walk-next, section-inside, section-some}
 use Rattle.section_checks.specs.declared.header.Kept.the-variants.{Nothing}
-use Rattle.section_checks.proofs.EventKeptLaws.{kept-start}
-use Rattle.file_check.specs.Told.{answerNumber, answerValue, answerCount, told}
+use Rattle.event_checks.proofs.EventKeptLaws.{kept-start}
+use Rattle.read_answer.specs.Told.{answerNumber, answerValue, answerCount, told}
 use Rattle.file_check.specs.Tracks.{Tracks, Said}
-use Rattle.file_check.specs.declared.answer.ReadAnswer.{ReadAnswer}
-use Rattle.file_check.specs.declared.answer.CheckedFile.{CheckedFile}
+use Rattle.read_answer.specs.declared.ReadAnswer.{ReadAnswer}
+use Rattle.read_answer.specs.declared.CheckedFile.{CheckedFile}
 use Rattle.file_check.specs.declared.section.WalkState.{WalkState}
 use Rattle.file_check.specs.declared.section.SectionVerdict.{SectionVerdict}
 use Rattle.file_check.specs.declared.section.SectionVerdict.the-variants.{Passed, Refused}

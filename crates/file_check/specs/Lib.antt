@@ -1,3 +1,2 @@
 -- What the contracts of this crate say beyond the model's definitions.
-pub mod Told  -- the paper's number and values for each case of Read's answer
 pub mod Tracks  -- what the code keeps on its walk, beside what the definition keeps

@@ -6,8 +6,8 @@ use Prim.Native.Nat.{ℕ}
 use lib.ListN.{length}
 use Rattle.sections.specs.Walk.{Progress, Verdict, passed, refused}
 use Rattle.section_checks.specs.Kept.{keptHeader}
-use Rattle.section_checks.specs.EventsKept.{KeptOf}
-use Rattle.file_check.specs.Told.{answerNumber, answerValue, answerCount}
+use Rattle.event_checks.specs.EventsKept.{KeptOf}
+use Rattle.read_answer.specs.Told.{answerNumber, answerValue, answerCount}
 use Rattle.file_check.specs.declared.section.WalkState.{WalkState}
 use Rattle.file_check.specs.declared.section.SectionVerdict.{SectionVerdict}
 use Rattle.file_check.specs.declared.section.SectionVerdict.the-variants.{Passed, Refused}

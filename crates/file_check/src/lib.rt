@@ -1,11 +1,10 @@
 // Read without a record buffer (01, "Build, Read", "When a call says no"): check. It looks at every section once, and writes nothing.
-use answer::CheckedFile;
+use read_answer::CheckedFile;
 ghost use mathlib.Core.Path.{_≡_};
 ghost use Rattle.eit.specs.Sizes.{broadcast};
 ghost use Rattle.sections.specs.Read.{checkFile};
-ghost use Rattle.file_check.specs.Told.{told};
+ghost use Rattle.read_answer.specs.Told.{told};
 
-pub mod answer;
 mod section;
 mod sizes;
 

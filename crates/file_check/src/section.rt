@@ -1,6 +1,5 @@
 // One section behind those before it: 20, 21, 22, 23, 24, 26 (01, "When a call says no").
-use crate::answer::ReadAnswer;
-use section_checks::events;
+use read_answer::ReadAnswer;
 use section_checks::frame;
 use section_checks::header;
 use section_checks::header::Kept;
@@ -56,7 +55,7 @@ pub fn check_section(
     if !place::is_in_place(before, shown) {
         return SectionVerdict::Refused(ReadAnswer::Numbering(offset));
     }
-    let checked = events::check_events(
+    let checked = event_checks::check_events(
         section_walk::event_loop(section),
         shown,
         base_day,

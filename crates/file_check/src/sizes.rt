@@ -1,11 +1,10 @@
 // Check with the sizes as numbers.
-use crate::answer;
-use crate::answer::CheckedFile;
-use crate::answer::ReadAnswer;
 use crate::section;
 use crate::section::SectionVerdict;
 use crate::section::WalkState;
 use codec::crc;
+use read_answer::CheckedFile;
+use read_answer::ReadAnswer;
 use section_checks::header::Kept;
 ghost use mathlib.Core.Path.{_≡_};
 ghost use mathlib.Core.List.{List};
@@ -13,7 +12,7 @@ ghost use Prim.Native.Nat.{ℕ};
 ghost use Rattle.eit.specs.Sizes.{sized};
 ghost use Rattle.sections.specs.Read.{atEnd, checkFile};
 ghost use Rattle.sections.specs.Walk.{Progress, passed};
-ghost use Rattle.file_check.specs.Told.{told};
+ghost use Rattle.read_answer.specs.Told.{told};
 ghost use Rattle.file_check.specs.Tracks.{Tracks};
 
 // The most that a base day may be.
@@ -29,10 +28,10 @@ fn at_end(state: WalkState, size: usize) -> CheckedFile
 {
     let before = state.before;
     let Kept::Header(last) = before else {
-        return answer::refused(ReadAnswer::EarlyEnd(size));
+        return read_answer::refused(ReadAnswer::EarlyEnd(size));
     };
     if last.section_number != last.last_section_number || last.table_id != last.last_table_id {
-        return answer::refused(ReadAnswer::EarlyEnd(size));
+        return read_answer::refused(ReadAnswer::EarlyEnd(size));
     }
     let identity = last.identity;
     CheckedFile {
@@ -51,7 +50,7 @@ pub fn check_within(
     ensures { λ r. ⌜ checkFile (sized «section_size» «event_limit») «base_day» (now (file .entry)) ≡ told r ⌝ }
 {
     if BASE_DAY_MOST < base_day {
-        return answer::refused(ReadAnswer::BaseDay);
+        return read_answer::refused(ReadAnswer::BaseDay);
     }
     let table = crc::table();
     let mut seen = [0u64; SEEN_WORDS];
@@ -73,7 +72,7 @@ pub fn check_within(
             &table,
             &mut seen,
         ) {
-            SectionVerdict::Refused(said) => return answer::refused(said),
+            SectionVerdict::Refused(said) => return read_answer::refused(said),
             SectionVerdict::Passed(next) => state = next,
         }
         offset += section.len();

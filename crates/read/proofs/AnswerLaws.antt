@@ -11,9 +11,9 @@ use Rattle.eit.specs.Records.{recordSize, numbersOfAll}
 use Rattle.sections.specs.Read.{Answer, Reading, noIdentity, refusal, checkFile, fileRecords, read}
 use Rattle.sections.proofs.Read.{read-refused, read-short, read-succeeds}
 use Rattle.sections.proofs.Exact.{accepted-answer}
-use Rattle.file_check.specs.Told.{answerNumber, answerCount, told}
-use Rattle.file_check.specs.declared.answer.CheckedFile.{CheckedFile}
-use Rattle.file_check.specs.declared.answer.ReadAnswer.the-variants.{RecordsShort}
+use Rattle.read_answer.specs.Told.{answerNumber, answerCount, told}
+use Rattle.read_answer.specs.declared.CheckedFile.{CheckedFile}
+use Rattle.read_answer.specs.declared.ReadAnswer.the-variants.{RecordsShort}
 use Rattle.read.specs.ReadTold.{readTold}
 
 module _ (base : ℕ) (file buffer : List ℕ) (checked : CheckedFile) (is : checkFile broadcast base file ≡ told checked) where

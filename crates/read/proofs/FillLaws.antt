@@ -24,7 +24,7 @@ use Rattle.codec.proofs.LeftLaws.{Left, left-all, left-fits, left-more, left-en
 use Rattle.section_codec.specs.EventRead.{isWholeEvent, frontEvent, eventRead}
 use Rattle.section_codec.specs.declared.event.EventRead.the-variants.{Whole, Broken}
 use Rattle.section_codec.proofs.EventReadLaws.{event-whole, broken-only}
-use Rattle.section_checks.proofs.EventWalkLaws.{whole-record, whole-inside, whole-next}
+use Rattle.event_checks.proofs.EventWalkLaws.{whole-record, whole-inside, whole-next}
 use Rattle.event_list.specs.Held.{inserted}
 use Rattle.event_list.proofs.HeldLaws.{insert-is}
 use Rattle.read.specs.Fillable.{AreEvents}

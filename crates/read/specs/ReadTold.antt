@@ -2,8 +2,8 @@
 use mathlib.Core.List.{List}
 use Prim.Native.Nat.{ℕ}
 use Rattle.sections.specs.Read.{Reading}
-use Rattle.file_check.specs.Told.{told}
-use Rattle.file_check.specs.declared.answer.CheckedFile.{CheckedFile}
+use Rattle.read_answer.specs.Told.{told}
+use Rattle.read_answer.specs.declared.CheckedFile.{CheckedFile}
 
 abbrev pub readTold : CheckedFile → List ℕ → Reading
 readTold r buffer = record { answer = told r; buffer = buffer }

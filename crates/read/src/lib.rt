@@ -1,8 +1,7 @@
 // Read (01, "Build, Read"): check looks at the whole file and writes nothing; then the records are filled in, which cannot fail.
 use event_list::records::RECORD_SIZE;
-use file_check::answer;
-use file_check::answer::CheckedFile;
-use file_check::answer::ReadAnswer;
+use read_answer::CheckedFile;
+use read_answer::ReadAnswer;
 ghost use mathlib.Core.Path.{_≡_};
 ghost use Rattle.eit.specs.Sizes.{broadcast};
 ghost use Rattle.sections.specs.Read.{read};
@@ -17,12 +16,12 @@ pub fn read(file: &[u8], base_day: u32, records: &mut [u32]) -> CheckedFile
 {
     let checked = file_check::check(file, base_day);
     let said = checked.answer;
-    if answer::number_of(said) != 0 {
+    if read_answer::number_of(said) != 0 {
         return checked;
     }
-    let count = answer::count_of(said);
+    let count = read_answer::count_of(said);
     if records.len() / RECORD_SIZE < count {
-        return answer::refused(ReadAnswer::RecordsShort(count));
+        return read_answer::refused(ReadAnswer::RecordsShort(count));
     }
     fill::fill_file(records, file, base_day);
     checked

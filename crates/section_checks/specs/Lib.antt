@@ -1,5 +1,3 @@
 -- What the contracts of this crate say beyond the model's definitions.
 pub mod Closed  -- CRC_32 over a section by a lent table
 pub mod Kept  -- the header that is kept from one section to the next
-pub mod EventPass  -- a pass over a section's events that keeps the ids so far as a set
-pub mod EventsKept  -- what is kept of the events so far

@@ -2,7 +2,7 @@
 use mathlib.Core.Path.{sym, ap, _∙_}
 use denote.Ref.{now}
 use Rattle.eit.proofs.Fields.{bytes-all}
-use Rattle.file_check.specs.declared.answer.CheckedFile.{CheckedFile}
+use Rattle.read_answer.specs.declared.CheckedFile.{CheckedFile}
 use Rattle.read.specs.ReadTold.{readTold}
 use Rattle.read.proofs.FillableLaws.{accepted-fills, accepted-below}
 use Rattle.read.proofs.AnswerLaws.{read-stops, accepted, read-27, records-fit, read-fills}

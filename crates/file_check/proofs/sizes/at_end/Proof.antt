@@ -2,7 +2,7 @@
 use mathlib.Core.Path.{sym, ap, _∙_}
 use mathlib.Core.Logic.{⊎-elim}
 use borrow.Author.Tests.{eq-eqb, ne-eqb, not-true, not-false}
-use Rattle.file_check.specs.Told.{told}
+use Rattle.read_answer.specs.Told.{told}
 use Rattle.file_check.proofs.EndLaws.{ends-empty, ends-early, ends-whole}
 use native.Mathlib.Omega.{arith}
 use borrow.Author.Needs.{needs}

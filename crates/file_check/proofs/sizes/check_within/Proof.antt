@@ -5,7 +5,7 @@ use Prim.Native.Nat.{_-_}
 use lib.ListN.{length}
 use Rattle.eit.specs.Sizes.{sized}
 use Rattle.sections.proofs.Read.{check-base}
-use Rattle.file_check.specs.Told.{told}
+use Rattle.read_answer.specs.Told.{told}
 use Rattle.file_check.proofs.WalkLaws.{WalkSoFar, walk-start, walk-inside, walk-some, walk-stops, walk-more, walk-done}
 use native.Mathlib.Omega.{arith}
 use borrow.Author.Needs.{needs}

@@ -20,8 +20,8 @@ use Rattle.codec.proofs.SeenLaws.{seen-length}
 use Rattle.section_codec.specs.EventRead.{isWholeEvent, frontEvent, eventRead}
 use Rattle.section_codec.specs.declared.event.EventRead.the-variants.{Whole, Broken}
 use Rattle.section_codec.proofs.EventReadLaws.{event-whole, whole-only, broken-only}
-use Rattle.section_checks.specs.EventPass.{EventPass, isTaken, takeEvents, checkedEvents}
-use Rattle.section_checks.proofs.EventWalkLaws.{whole-record, whole-inside, whole-next}
+use Rattle.event_checks.specs.EventPass.{EventPass, isTaken, takeEvents, checkedEvents}
+use Rattle.event_checks.proofs.EventWalkLaws.{whole-record, whole-inside, whole-next}
 
 -- ---- the equations that a reader expects
 

@@ -1,8 +1,8 @@
--- `events::is_alone` meets its contract: S decides, or leaves it to G. Assumes nothing.
+-- `is_alone` meets its contract: S decides, or leaves it to G. Assumes nothing.
 use borrow.Author.Needs.{needs}
 use borrow.Author.Tests.{eq-eqb, ne-eqb}
-use Rattle.section_checks.proofs.events.is_alone.Statement.{statement}
-use Rattle.section_checks.proofs.events.is_alone.Tie as tie
+use Rattle.event_checks.proofs.is_alone.Statement.{statement}
+use Rattle.event_checks.proofs.is_alone.Tie as tie
 
 first-of-requires : tie.Need-first-of-requires
 first-of-requires c κs = search needs

@@ -24,9 +24,9 @@ use Rattle.sections.proofs.EventBytes.{event-forth}
 use Rattle.sections.proofs.Cut.{cut-joined}
 use Rattle.codec.specs.Seen.{isSeen, withSeen}
 use Rattle.codec.proofs.SeenLaws.{seen-empty, seen-more, seen-length}
-use Rattle.section_checks.specs.EventPass.{EventPass, isTaken, takeEvents, checkedEvents}
-use Rattle.section_checks.specs.EventsKept.{leastAfter, KeptOf}
-use Rattle.section_checks.proofs.EventPassLaws.{take-none, take-more, take-stops}
+use Rattle.event_checks.specs.EventPass.{EventPass, isTaken, takeEvents, checkedEvents}
+use Rattle.event_checks.specs.EventsKept.{leastAfter, KeptOf}
+use Rattle.event_checks.proofs.EventPassLaws.{take-none, take-more, take-stops}
 
 pub kept-start : KeptOf 0 (replicate 1024 0) []
 kept-start = record { least-is = refl; ids = seen-empty 1024; room = length-replicate {A = ℕ} 1024 0 }

@@ -1,7 +1,7 @@
 // A section's event loop: each event, and each beside all that came before (01, "The file of sections").
-use crate::place;
 use codec::seen;
 use eit::Record;
+use section_checks::place;
 use section_codec::event;
 use section_codec::event::EventRead;
 use section_codec::header::SectionHeader;
@@ -14,7 +14,7 @@ ghost use Rattle.sections.specs.Cut.{cut};
 ghost use Rattle.sections.specs.JudgeEvents.{isInSegment, isFilledOrAlone};
 ghost use Rattle.codec.specs.Seen.{isSeen};
 ghost use Rattle.section_codec.specs.HeaderRead.{heldHeader};
-ghost use Rattle.section_checks.specs.EventPass.{checkedEvents, passOf};
+ghost use Rattle.event_checks.specs.EventPass.{checkedEvents, passOf};
 
 // What the check of an event loop has found.
 pub struct EventCheck {

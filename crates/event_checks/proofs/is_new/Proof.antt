@@ -1,10 +1,10 @@
--- `events::is_new` meets its contract: the start decides, or leaves it to the id. Assumes nothing.
+-- `is_new` meets its contract: the start decides, or leaves it to the id. Assumes nothing.
 use mathlib.Core.Bool.{not}
 use mathlib.Core.Path.{ap}
 use borrow.Author.Needs.{needs}
 use borrow.Author.Tests.{le-leb, lt-leb}
-use Rattle.section_checks.proofs.events.is_new.Statement.{statement}
-use Rattle.section_checks.proofs.events.is_new.Tie as tie
+use Rattle.event_checks.proofs.is_new.Statement.{statement}
+use Rattle.event_checks.proofs.is_new.Tie as tie
 
 is-seen-requires : tie.Need-is-seen-requires
 is-seen-requires c κs = search needs

@@ -8,7 +8,7 @@ use Rattle.sections.specs.Section.{Header}
 use Rattle.sections.specs.Decode.{eventIn}
 use Rattle.sections.specs.JudgeEvents.{isEvent, isFilledOrAlone}
 use Rattle.codec.specs.Seen.{isSeen, withSeen}
-use Rattle.section_checks.specs.declared.events.EventCheck.{EventCheck}
+use Rattle.event_checks.specs.declared.EventCheck.{EventCheck}
 
 -- what a pass returns, and the set of ids after it
 pub record EventPass : Type 0 where

@@ -1,4 +1,4 @@
--- `events::check_events` meets its contract: before each turn the pass stands as `PassSoFar` says, and each way on or out is decided by
+-- `check_events` meets its contract: before each turn the pass stands as `PassSoFar` says, and each way on or out is decided by
 -- the tests of the event there. The measure is what is left of the loop. Assumes nothing.
 use mathlib.Core.Path.{_≡_, sym, ap, _∙_}
 use mathlib.Core.Logic.{⊎-elim}
@@ -12,13 +12,13 @@ use Rattle.sections.specs.Section.{eventOverhead}
 use Rattle.codec.proofs.FieldLaws.{rest-whole}
 use Rattle.section_codec.specs.EventRead.{eventRead}
 use Rattle.section_codec.specs.declared.event.EventRead.the-variants.{Whole}
-use Rattle.section_checks.proofs.EventWalkLaws.{whole-start, whole-inside}
+use Rattle.event_checks.proofs.EventWalkLaws.{whole-start, whole-inside}
 use Rattle.section_codec.specs.HeaderRead.{heldHeader}
-use Rattle.section_checks.proofs.EventPassLaws.{PassSoFar, pass-start, pass-broken, pass-stop, pass-more, pass-end, filled-some, filled-none}
+use Rattle.event_checks.proofs.EventPassLaws.{PassSoFar, pass-start, pass-broken, pass-stop, pass-more, pass-end, filled-some, filled-none}
 use native.Mathlib.Omega.{arith}
 use borrow.Author.Needs.{needs}
-use Rattle.section_checks.proofs.events.check_events.Statement.{statement}
-use Rattle.section_checks.proofs.events.check_events.Tie as tie
+use Rattle.event_checks.proofs.check_events.Statement.{statement}
+use Rattle.event_checks.proofs.check_events.Tie as tie
 
 abbrev Inv-loop : tie.InvT-loop
 Inv-loop events header base-day least seen₀ n₀ next₀ at₀ seen n next at =

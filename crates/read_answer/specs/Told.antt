@@ -1,9 +1,9 @@
 -- The paper's number and values for each case of Read's answer (01, "When a call says no"). Assumes nothing.
 use Prim.Native.Nat.{ℕ}
 use Rattle.sections.specs.Read.{Answer}
-use Rattle.file_check.specs.declared.answer.CheckedFile.{CheckedFile}
-use Rattle.file_check.specs.declared.answer.ReadAnswer.{ReadAnswer}
-use Rattle.file_check.specs.declared.answer.ReadAnswer.the-variants.{
+use Rattle.read_answer.specs.declared.CheckedFile.{CheckedFile}
+use Rattle.read_answer.specs.declared.ReadAnswer.{ReadAnswer}
+use Rattle.read_answer.specs.declared.ReadAnswer.the-variants.{
   Done,
   BaseDay,
   Frame,

@@ -1,11 +1,11 @@
--- `events::is_in_segment` meets its contract: the table decides, or leaves it to the segment. Assumes nothing.
+-- `is_in_segment` meets its contract: the table decides, or leaves it to the segment. Assumes nothing.
 use mathlib.Core.Path.{ap}
 use Prim.Native.Nat.{_*_, _/_, _%_}
 use borrow.Author.Needs.{needs}
 use borrow.Author.Tests.{eq-eqb, ne-eqb}
 use lib.Dec.{eqb}
-use Rattle.section_checks.proofs.events.is_in_segment.Statement.{statement}
-use Rattle.section_checks.proofs.events.is_in_segment.Tie as tie
+use Rattle.event_checks.proofs.is_in_segment.Statement.{statement}
+use Rattle.event_checks.proofs.is_in_segment.Tie as tie
 
 add-if1 : tie.Need-add-if1
 add-if1 c = search needs

@@ -2,7 +2,7 @@
 use eit::Identity;
 ghost use mathlib.Core.Path.{_≡_};
 ghost use Rattle.sections.specs.Read.{noIdentity};
-ghost use Rattle.file_check.specs.Told.{answerNumber, answerValue, answerCount};
+ghost use Rattle.read_answer.specs.Told.{answerNumber, answerValue, answerCount};
 
 pub enum ReadAnswer {
     // The file is accepted; the number of its events.
