@@ -1,0 +1,106 @@
+-- The text for a script, case by case, by the tests of its definition; and that every text has room. Assumes nothing.
+use Prim.Native.Nat.{ℕ, _+_, _*_, _≤_, _<_}
+use mathlib.Core.List.{List}
+use mathlib.Core.Path.{_≡_, refl, sym, ap, subst, _∙_}
+use native.Mathlib.Omega.{arith}
+use borrow.Author.Tests.{le-leb, lt-leb, eq-eqb, ne-eqb}
+use lib.ListN.{length, take, replicate, length-replicate}
+use Rattle.eit.specs.Sizes.{broadcast}
+use Rattle.eit.specs.Overwrite.{overwrite}
+use Rattle.eit.specs.Records.{EventList, lentList}
+use Rattle.script.specs.Edit.{Edited, edit}
+use Rattle.sections.specs.Section.{Section, sectionSizes}
+use Rattle.schedule.specs.Build.{Built, build, written}
+use Rattle.schedule.proofs.Build.{build-is, written-fits}
+use Rattle.listing.specs.Fill.{Fills}
+use Rattle.listing.specs.Listing.{listing, refusedText, tooLong}
+use Rattle.listing.proofs.FillLaws.{filled-whole, filled-same}
+use Rattle.plan.specs.PlanText.{scriptMost, outputSize, bufferSize, noPools, baseDay, noIdentity}
+use Rattle.plan.specs.PlanText.{builtText, listText, editedText, textWithin, planText, textMost, Written}
+
+-- ---- a list
+
+-- a built file lies in the output
+abbrev Inside : List ℕ → Built → Type 0
+Inside output built = built .number ≡ 0 → built .value ≤ length output
+
+build-inside : (output : List ℕ) (list : EventList) → Inside output (build broadcast noPools list baseDay noIdentity output)
+build-inside output list =
+    build-is (Inside output) broadcast baseDay noIdentity output
+    (λ (number value : ℕ) (refused : number ≡ 0 → ⊥) (success : number ≡ 0). absurd (refused success))
+    (λ (ss : List Section) (fits : sectionSizes ss ≤ length output) (success : written baseDay ss output .number ≡ 0).
+    omega (arith, ap (λ (b : Built). b .value) (written-fits baseDay ss output fits)))
+    noPools
+    list
+
+module _ (output : List ℕ) (list : EventList) (built : Built)
+    (is : build broadcast noPools list baseDay noIdentity output ≡ built) where
+  pub list-refused : {number : ℕ} → number ≡ built .number → (number ≡ 0 → ⊥) → listText output list ≡ refusedText number
+  unfolding listText builtText
+  list-refused {number} says refused =
+      let not-0 : built .number ≡ 0 → ⊥ = λ e. refused (says ∙ e) in
+      ap builtText is ∙ rw (builtText, ne-eqb (built .number) 0 not-0) (ap refusedText (sym says))
+
+  pub list-built : {number size : ℕ} → number ≡ built .number → size ≡ built .value → number ≡ 0
+      → listText output list ≡ listing (take size (built .output))
+  unfolding listText builtText
+  list-built {number} {size} says value success =
+      ap builtText is
+      ∙ rw (builtText, eq-eqb (built .number) 0 (sym says ∙ success))
+      (ap (λ (n : ℕ). listing (take n (built .output))) (sym value))
+
+  pub list-inside : {number size : ℕ} → number ≡ built .number → size ≡ built .value → number ≡ 0 → size ≤ length output
+  list-inside {number} {size} says value success =
+      let inside : Inside output built = subst (Inside output) is (build-inside output list) in
+      omega (arith, inside (sym says ∙ success))
+
+-- ---- a script
+
+module _ (buffer output script : List ℕ) where
+  pub script-long : scriptMost < length script → textWithin buffer output script ≡ tooLong
+  unfolding textWithin
+  script-long long = rw (textWithin, lt-leb (length script) scriptMost long)
+
+  module _ (short : length script ≤ scriptMost) (edited : Edited)
+      (is : edit broadcast noPools (lentList buffer 0) script ≡ edited) where
+    script-edited : textWithin buffer output script ≡ editedText output edited
+    unfolding textWithin
+    script-edited = rw (textWithin, le-leb (length script) scriptMost short) (ap (editedText output) is)
+
+    pub script-refused : {number : ℕ} → number ≡ edited .number → (number ≡ 0 → ⊥)
+        → textWithin buffer output script ≡ refusedText number
+    unfolding editedText
+    script-refused {number} says refused =
+        let not-0 : edited .number ≡ 0 → ⊥ = λ e. refused (says ∙ e) in
+        script-edited ∙ rw (editedText, ne-eqb (edited .number) 0 not-0) (ap refusedText (sym says))
+
+    pub script-list : {number : ℕ} → number ≡ edited .number → number ≡ 0
+        → textWithin buffer output script ≡ listText output (edited .list)
+    unfolding editedText
+    script-list {number} says success = script-edited ∙ rw (editedText, eq-eqb (edited .number) 0 (sym says ∙ success))
+
+-- ---- what is written
+
+-- the same text in other words
+module _ (d : List ℕ) (most : ℕ) {text said e : List ℕ} {p : ℕ} (same : text ≡ said) where
+  pub written-as : Fills d 0 said e p → length said ≤ most → Written d text e p most
+  written-as fills short = record { fills = filled-same d 0 (sym same) fills; short = omega (arith, ap length same) }
+
+  pub written-also : Written d said e p most → Written d text e p most
+  written-also w = written-as (w .fills) (w .short)
+
+plan-is : (script : List ℕ) → planText script ≡ textWithin (replicate bufferSize 0) (replicate outputSize 0) script
+unfolding planText
+plan-is script = refl
+
+-- where every text has room, it is written whole
+pub plan-whole : (d script : List ℕ) {e : List ℕ} {p : ℕ} → textMost ≤ length d
+    → Written d (textWithin (replicate bufferSize 0) (replicate outputSize 0) script) e p
+    (4 * length (replicate {A = ℕ} outputSize 0) + 64)
+    → (e ≡ overwrite d 0 (planText script)) × (p ≡ length (planText script)) × (p ≤ textMost)
+plan-whole d script room w =
+    let w′ = written-also d (4 * length (replicate {A = ℕ} outputSize 0) + 64) (plan-is script) w in
+    let size : length (replicate {A = ℕ} outputSize 0) ≡ outputSize = length-replicate {A = ℕ} outputSize 0 in
+    let short : length (planText script) ≤ textMost = omega (arith, w′ .short) in
+    let (whole, ends) = filled-whole d 0 (planText script) (omega arith) in
+    (w′ .fills .0 ∙ sym whole, omega (arith, w′ .fills .1, ends), omega (arith, w′ .fills .1, ends))

@@ -1,0 +1,11 @@
+-- What reading standard input returns. Assumes nothing.
+use mathlib.Core.List.{List}
+use Prim.Native.Nat.{ℕ}
+use Rattle.io.specs.Counts.{Counts}
+use Rattle.plan.specs.declared.Input.{Input}
+use Rattle.plan.specs.declared.Input.the-variants.{Bytes, Failed}
+
+-- bytes that were read stand in the buffer
+abbrev pub isInside : Input → List ℕ → Type 0
+isInside (Bytes n) buffer = Counts n buffer
+isInside Failed buffer = Unit {0}
