@@ -42,6 +42,26 @@ EitBuilt eit_build(const uint32_t *list, size_t list_length, size_t count, const
 void eit_plan(const uint32_t *list, size_t list_length, size_t count, const uint8_t *day, size_t day_length,
               const uint8_t *series, size_t series_length, uint8_t plan[512]);
 
+/* What Read returns. A refused reading has count 0 and zeros for the identity. */
+typedef struct EitReading {
+    uint32_t number; /* 0, or the refusal's: 1, 20 to 27 */
+    size_t value;    /* success, 27: the number of events; 20 to 24, 26: the section's offset; 25: the file's length; 1: 0 */
+    size_t count;    /* the number of events */
+    uint16_t service_id;
+    uint16_t transport_stream_id;
+    uint16_t original_network_id;
+    uint8_t version;
+} EitReading;
+
+/* Reads a file of sections into records of six numbers each: id, start, duration, marks, offset, length. Starts count from
+ * midnight UTC of the base day; marks have no 2; an offset is into the file, so that the file is the records' day pool. The
+ * numbers behind the 6 * count that are written stay, and a refusal leaves all of `records` as it was. 12,288 numbers are
+ * enough for every file. */
+EitReading eit_read(const uint8_t *file, size_t file_length, uint32_t base_day, uint32_t *records, size_t records_length);
+
+/* The same without a record buffer, and so without refusal 27. */
+EitReading eit_check(const uint8_t *file, size_t file_length, uint32_t base_day);
+
 /* CRC_32 of the bytes: over a whole section it is 0. */
 uint32_t eit_crc32(const uint8_t *bytes, size_t bytes_length);
 

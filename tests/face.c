@@ -62,6 +62,40 @@ static void plan(const char *what, size_t count, uint8_t first, uint8_t others) 
     expect("the byte behind the plan", got[513], 0xA5);
 }
 
+static void expect_reading(const char *what, EitReading got, EitReading wanted) {
+    expect(what, got.number, wanted.number);
+    expect("its value", got.value, wanted.value);
+    expect("its count", got.count, wanted.count);
+    expect("its service_id", got.service_id, wanted.service_id);
+    expect("its transport_stream_id", got.transport_stream_id, wanted.transport_stream_id);
+    expect("its original_network_id", got.original_network_id, wanted.original_network_id);
+    expect("its version", got.version, wanted.version);
+}
+
+/* Builds one event of four chain bytes, and reads the file of so many bytes back into so many numbers, behind which one stays. */
+static void read_built(const char *what, uint32_t base_day, size_t file_length, size_t records_length, EitReading wanted) {
+    static const uint32_t list[6] = {258, 9000, 3600, 5, 1, 4};
+    static const uint8_t day[6] = {0xFF, 0x4D, 0x00, 0x54, 0x00, 0xFF};
+    /* The chain stands behind the section's 14 bytes and the event's 12. */
+    static const uint32_t read_back[6] = {258, 9000, 3600, 5, 26, 4};
+    uint8_t file[35] = {0};
+    EitBuilt built = eit_build(list, 6, 1, day, sizeof day, day, 0, 49273, 1, 0x203, 0xFFFE, 31, file, sizeof file);
+    expect("the answer to one event", built.number, 0);
+    expect("its file's length", built.value, 34);
+
+    uint32_t records[8];
+    memset(records, 0xA5, sizeof records);
+    EitReading got = eit_read(file, file_length, base_day, records, records_length);
+    expect_reading(what, got, wanted);
+    for (size_t place = 0; place < 8; place++) {
+        int is_read = wanted.number == 0 && place < 6;
+        expect("a number of the records", records[place], is_read ? read_back[place] : 0xA5A5A5A5);
+    }
+    /* Without a record buffer there is no 27. */
+    EitReading checked = eit_check(file, file_length, base_day);
+    expect_reading("what check answers", checked, wanted.number == 27 ? (EitReading){0, 1, 1, 1, 0x203, 0xFFFE, 31} : wanted);
+}
+
 int main(void) {
     static const uint8_t check[] = "123456789";
     expect("CRC_32", eit_crc32(check, 9), 0x0376E6E7);
@@ -82,5 +116,15 @@ int main(void) {
     build("the answer to a version above the most", 65472, 32, 17, (EitBuilt){2, 0});
     plan("a count of no events", 0, 1, 0);
     plan("a count of an unsound list", 1, 254, 254);
+
+    EitReading accepted = {0, 1, 1, 1, 0x203, 0xFFFE, 31};
+    read_built("the answer to a built file", 49273, 34, 7, accepted);
+    read_built("the answer to just enough records", 49273, 34, 6, accepted);
+    read_built("the answer to a short record buffer", 49273, 34, 5, (EitReading){.number = 27, .value = 1});
+    read_built("the answer to a file that is cut", 49273, 33, 7, (EitReading){.number = 20, .value = 0});
+    read_built("the answer to a byte behind the file", 49273, 35, 7, (EitReading){.number = 20, .value = 34});
+    read_built("the answer to another base day", 49274, 34, 7, (EitReading){.number = 24, .value = 0});
+    read_built("the answer to no file", 49273, 0, 7, (EitReading){.number = 25, .value = 0});
+    read_built("the answer to a base day to be read above the most", 65473, 0, 0, (EitReading){.number = 1, .value = 0});
     return wrong;
 }

@@ -15,6 +15,18 @@ pub struct EitBuilt {
     pub value: usize,
 }
 
+/// 01's number and value; of an accepted file the count of its events and its identity, and zeros of one that is refused.
+#[repr(C)]
+pub struct EitReading {
+    pub number: u32,
+    pub value: usize,
+    pub count: usize,
+    pub service_id: u16,
+    pub transport_stream_id: u16,
+    pub original_network_id: u16,
+    pub version: u8,
+}
+
 extern "C" {
     fn eit_edit(
         list: *mut u32,
@@ -55,6 +67,16 @@ extern "C" {
         series_length: usize,
         plan: *mut [u8; 512],
     );
+
+    fn eit_read(
+        file: *const u8,
+        file_length: usize,
+        base_day: u32,
+        records: *mut u32,
+        records_length: usize,
+    ) -> EitReading;
+
+    fn eit_check(file: *const u8, file_length: usize, base_day: u32) -> EitReading;
 
     fn eit_crc32(bytes: *const u8, length: usize) -> u32;
 }
@@ -112,6 +134,16 @@ pub fn build(
 pub fn plan(list: &[u32], count: usize, day: &[u8], series: &[u8], plan: &mut [u8; 512]) {
     // As above; the plan's length is in its type.
     unsafe { eit_plan(list.as_ptr(), list.len(), count, day.as_ptr(), day.len(), series.as_ptr(), series.len(), plan) }
+}
+
+pub fn read(file: &[u8], base_day: u32, records: &mut [u32]) -> EitReading {
+    // As above.
+    unsafe { eit_read(file.as_ptr(), file.len(), base_day, records.as_mut_ptr(), records.len()) }
+}
+
+pub fn check(file: &[u8], base_day: u32) -> EitReading {
+    // As above.
+    unsafe { eit_check(file.as_ptr(), file.len(), base_day) }
 }
 
 pub fn crc32(bytes: &[u8]) -> u32 {

@@ -25,6 +25,7 @@ mod other;
 mod pools;
 mod precedence;
 mod random;
+mod read;
 mod scripts;
 mod soundness;
 mod stock;
@@ -50,7 +51,7 @@ fn main() -> ExitCode {
 }
 
 fn self_check() -> Result<Vec<String>, String> {
-    let faults = [faults::run(all_groups)?, build::self_check()?].concat();
+    let faults = [faults::run(all_groups)?, build::self_check()?, read::self_check()?].concat();
     println!("self-check  {} faults, each shown", faults.len());
     Ok(faults)
 }
@@ -62,7 +63,11 @@ fn compare() -> Result<(), String> {
     let mut builds = build::Comparison::new(build::Subject { build: library::build, plan: library::plan });
     build::all_groups(&mut builds)?;
 
-    let tallies = [("Edit", &edits.tally), ("Build", &builds.tally), ("Plan", &builds.entries)];
+    let subject = read::Subject { build: library::build, read: &library::read, check: &library::check };
+    let mut reads = read::Comparison::new(subject);
+    read::all_groups(&mut reads)?;
+
+    let tallies = [("Edit", &edits.tally), ("Build", &builds.tally), ("Plan", &builds.entries), ("Read", &reads.tally)];
     for (call, tally) in tallies {
         println!("{call:<12}{} cases agree\nanswers     {}", tally.cases, tally.answers());
         if let Some(precedences) = tally.precedences() {
@@ -70,7 +75,8 @@ fn compare() -> Result<(), String> {
         }
     }
     println!("CRC_32      {crcs} inputs agree");
-    println!("seeds       {}, CRC_32 {}, {}", edits.groups.seeds(), crcs::SEED, builds.groups.seeds());
+    let seeds = [edits.groups.seeds(), builds.groups.seeds(), reads.groups.seeds()];
+    println!("seeds       CRC_32 {}, {}", crcs::SEED, seeds.join(", "));
     let missing: Vec<_> = tallies
         .iter()
         .flat_map(|(call, tally)| tally.missing().into_iter().map(move |what| format!("{call}'s {what}")))

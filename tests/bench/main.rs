@@ -3,8 +3,10 @@
 mod builds;
 #[path = "../face.rs"]
 mod face;
+mod inputs;
 #[path = "../library.rs"]
 mod library;
+mod reads;
 mod table;
 
 // The other implementation and the comparison's makers of inputs, of which a part is needed here.
@@ -65,7 +67,9 @@ fn main() {
         script(random, &pools, &list, size, Some(usize::MAX))
     });
 
-    builds::run(random);
+    let inputs = inputs::inputs(random);
+    builds::run(&inputs);
+    reads::run(&inputs);
 
     head("CRC_32, beside one table");
     for (size, calls) in [(64, 1_000), (4 * KB, 50), (1_024 * KB, 1)] {

@@ -22,7 +22,7 @@ pub struct Built {
 }
 
 /// The events of each of a segment's sections.
-type Segment<'a> = Vec<&'a [Event]>;
+pub type Segment<'a> = Vec<&'a [Event]>;
 
 /// How a segment's events are cut into sections; nothing if they cannot be.
 type Packing = fn(&[Event]) -> Option<Segment<'_>>;
@@ -62,7 +62,7 @@ fn packed(packing: Packing, schedule: &Schedule) -> Result<Vec<Vec<Segment<'_>>>
 }
 
 /// The sections of every table, joined.
-fn file(tables: &[Vec<Segment>], pools: Pools, base_day: u32, identity: Identity) -> Vec<u8> {
+pub fn file(tables: &[Vec<Segment>], pools: Pools, base_day: u32, identity: Identity) -> Vec<u8> {
     let mut file = Vec::new();
     for (table, segments) in tables.iter().enumerate() {
         let last_section = |segment: usize| (SECTIONS_MAX * segment + segments[segment].len() - 1) as u8;

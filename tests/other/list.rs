@@ -72,7 +72,7 @@ impl<'a> Pools<'a> {
 }
 
 /// Whether the bytes are descriptors (tag, length, that many bytes) up to their very end.
-fn is_chain(mut bytes: &[u8]) -> bool {
+pub fn is_chain(mut bytes: &[u8]) -> bool {
     while let [_tag, length, rest @ ..] = bytes {
         let Some(next) = rest.get(usize::from(*length)..) else {
             return false;

@@ -14,7 +14,7 @@ const COUNTED_FROM: usize = 3;
 const CRC_BYTES: usize = 4;
 
 /// What a file's sections have in common.
-#[derive(Clone, Copy, Debug)]
+#[derive(Clone, Copy, Debug, Default, PartialEq)]
 pub struct Identity {
     pub service_id: u16,
     pub transport_stream_id: u16,
@@ -23,6 +23,7 @@ pub struct Identity {
 }
 
 /// A section's own numbers.
+#[derive(Clone, Copy)]
 pub struct Header {
     pub table_id: u8,
     pub section_number: u8,

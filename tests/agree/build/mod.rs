@@ -17,7 +17,11 @@ mod samples;
 mod sections;
 mod segments;
 
-pub use comparison::{Comparison, Subject};
+pub use comparison::{BuildCall, Comparison, Subject};
+pub use request::{Request, BASE_DAY_MAX};
+pub use rewritten::seal;
+pub use sections::{section_length, sections, Section};
+pub use segments::{nearby, with_neighbours};
 
 use crate::faults::shows;
 use crate::other;

@@ -1,0 +1,75 @@
+//! Files that Build makes, of lists of all kinds: Read gives the events back, and Build of them gives the file again.
+
+use super::comparison::{Comparison, RECORDS_MAX};
+use super::given::Given;
+use crate::build::{with_neighbours, BASE_DAY_MAX};
+use crate::lineup::Lineup;
+use crate::lists::{at_limits, List, EVENTS_MAX};
+use crate::other::{Built, Lent};
+use crate::pools::Pools;
+use crate::random::Random;
+
+const SIZES: [usize; 12] = [0, 1, 2, 3, 5, 12, 31, 100, 339, 700, 2_047, EVENTS_MAX];
+
+pub fn run(comparison: &mut Comparison) -> Result<(), String> {
+    let random = &mut comparison.groups.begin("built");
+    let nothing = Given::new(random, Lineup::new());
+    round_trip(comparison, random, nothing)?;
+    for _ in 0..40 {
+        let given = Given::some(random);
+        round_trip(comparison, random, given)?;
+    }
+    for (day, series) in [(0, 0), (300, 200), (9_000, 4_000)] {
+        let pools = || Pools::of_lengths(&mut Random::new(day as u64), day, series);
+        for count in SIZES {
+            let list = List::sound(random, &pools(), count, 6 * count);
+            let limits = if count == 0 { Vec::new() } else { at_limits(random, &pools(), &list) };
+            for list in limits.into_iter().take(if count > 100 { 1 } else { 10 }).chain([list]) {
+                let given = Given::of(random, pools(), list);
+                round_trip(comparison, random, given)?;
+            }
+        }
+    }
+    for index in [0, 31, 32, 511] {
+        for lengths in [vec![4_066; 8], vec![2_027; 2], vec![0; 340], vec![0]] {
+            let (pools, list) = with_neighbours(random, index, &lengths);
+            let given = Given::of(random, pools, list);
+            round_trip(comparison, random, given)?;
+        }
+    }
+    Ok(())
+}
+
+/// Build, Read and Build again, unless the list is unpackable.
+fn round_trip(comparison: &mut Comparison, random: &mut Random, mut given: Given) -> Result<(), String> {
+    given.base_day = random.pick(&[given.base_day, given.base_day, 0, BASE_DAY_MAX]);
+    let Some(file) = given.built() else {
+        return Ok(());
+    };
+    let bytes = file.bytes();
+    comparison.accepted(&file)?;
+    comparison.answers((1, 0), &bytes, BASE_DAY_MAX + 1)?;
+    let (reading, records) = comparison.read(&bytes, given.base_day, RECORDS_MAX)?;
+    let records = &records[..6 * reading.count];
+    let fault = if built(comparison, &given.lent(), &given, bytes.len()).as_ref() != Some(&bytes) {
+        "Build made another file"
+    } else if reading.identity != given.identity {
+        "Read returned another identity than Build was given"
+    } else if !given.is_carried(records, &bytes) {
+        "Read returned other events than Build was given"
+    } else {
+        let again = Lent { list: records, count: reading.count, day: &bytes, series: &[] };
+        if built(comparison, &again, &given, bytes.len()).as_ref() == Some(&bytes) {
+            return Ok(());
+        }
+        "Build of what Read returned made another file"
+    };
+    Err(comparison.describe(fault, &bytes, given.base_day, None))
+}
+
+/// What Build makes of these events in an output of this length, if it fills it.
+fn built(comparison: &Comparison, lent: &Lent, given: &Given, length: usize) -> Option<Vec<u8>> {
+    let mut output = vec![0; length];
+    let built = (comparison.subject.build)(lent, given.base_day, given.identity, &mut output);
+    (built == Built { number: 0, value: length }).then_some(output)
+}

@@ -1,0 +1,87 @@
+//! Lists to be built, planned, and read back: the empty one, a typical week, and some that grow to the largest.
+
+use crate::lineup::{Lineup, SEGMENT_SECONDS};
+use crate::lists::{rising, List, EVENTS_MAX};
+use crate::other::{self, Identity, Lent};
+use crate::pools::Pools;
+use crate::random::Random;
+use crate::table::{head, row, size_name};
+
+pub const BASE_DAY: u32 = 49_273;
+pub const IDENTITY: Identity = Identity { service_id: 1, transport_stream_id: 2, original_network_id: 3, version: 4 };
+const SEGMENTS_A_DAY: usize = 8;
+const WEEK_DAYS: usize = 8;
+const WEEK_EVENTS: usize = 400;
+
+/// The growing lists, and how many of their events stand in each segment, from the first on.
+const GROWING: [(&str, usize); 5] =
+    [("8 events", 8), ("32 events", 32), ("128 events", 128), ("512 events", 512), ("2,048 events", EVENTS_MAX)];
+const EVENTS_EACH: usize = 4;
+
+pub struct Input {
+    name: &'static str,
+    pools: Pools,
+    list: List,
+    /// The file's length.
+    pub size: usize,
+    /// Whether the input before it has a quarter of its events.
+    grows: bool,
+}
+
+pub fn inputs(random: &mut Random) -> Vec<Input> {
+    let mut inputs = vec![Input::new(random, "no events", Lineup::new(), false)];
+    let week = week(random);
+    inputs.push(Input::new(random, "a week, 400 events", week, false));
+    for (place, (name, count)) in GROWING.into_iter().enumerate() {
+        let lineup = growing(random, count);
+        inputs.push(Input::new(random, name, lineup, place > 0));
+    }
+    inputs
+}
+
+impl Input {
+    fn new(random: &mut Random, name: &'static str, lineup: Lineup, grows: bool) -> Input {
+        let (pools, list) = lineup.lend(random);
+        let mut input = Input { name, pools, list, size: 0, grows };
+        // What an empty output lacks.
+        input.size = other::build(&input.lent(), BASE_DAY, IDENTITY, &mut []).value;
+        input
+    }
+
+    pub fn lent(&self) -> Lent<'_> {
+        let (day, series) = (self.pools.day.bytes(), self.pools.series.bytes());
+        Lent { list: &self.list.numbers, count: self.list.count, day, series }
+    }
+}
+
+/// Eight days of programmes, with 200 to 1,000 bytes of descriptors each.
+fn week(random: &mut Random) -> Lineup {
+    let mut lineup = Lineup::new();
+    for start in rising(random, WEEK_EVENTS, WEEK_DAYS * SEGMENTS_A_DAY * SEGMENT_SECONDS as usize) {
+        let chain_length = 200 + random.below(801);
+        lineup.event(random, start, chain_length);
+    }
+    lineup
+}
+
+/// So many events, with 1,000 to 3,000 bytes of descriptors each.
+fn growing(random: &mut Random, count: usize) -> Lineup {
+    let mut lineup = Lineup::new();
+    for index in 0..count / EVENTS_EACH {
+        let chain_lengths = [(); EVENTS_EACH].map(|_| 1_000 + random.below(2_001));
+        lineup.segment(random, index, &chain_lengths);
+    }
+    lineup
+}
+
+/// A table with the times of library and other implementation for each input.
+pub fn rows(title: &str, inputs: &[Input], times: fn(&Input) -> [f64; 2]) {
+    head(title);
+    let mut before = None;
+    for input in inputs {
+        let times = times(input);
+        let name = format!("{}, {}", input.name, size_name(input.size));
+        row(&name, input.size, times, before.filter(|_| input.grows));
+        before = Some(times);
+    }
+}

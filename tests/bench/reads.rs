@@ -1,0 +1,56 @@
+//! Read of the files that Build makes, with a record buffer and without.
+
+use crate::inputs::{rows, Input, BASE_DAY, IDENTITY};
+use crate::library;
+use crate::lists::{EVENTS_MAX, NUMBERS};
+use crate::other::{self, Reading};
+use crate::table::shortest;
+use std::hint::black_box;
+use std::time::Instant;
+
+const RECORDS: usize = NUMBERS * EVENTS_MAX;
+
+pub fn run(inputs: &[Input]) {
+    rows("check, MB of the file", inputs, check_times);
+    rows("Read, MB of the file", inputs, read_times);
+}
+
+fn file(input: &Input) -> Vec<u8> {
+    let mut file = vec![0; input.size];
+    other::build(&input.lent(), BASE_DAY, IDENTITY, &mut file);
+    file
+}
+
+/// What an accepted file of these events is answered.
+fn accepted(input: &Input) -> Reading {
+    let count = input.lent().count;
+    Reading { number: 0, value: count, count, identity: IDENTITY }
+}
+
+fn check_times(input: &Input) -> [f64; 2] {
+    let file = file(input);
+    [library::check, other::check].map(|check| {
+        assert_eq!(check(&file, BASE_DAY), accepted(input), "a refusal");
+        shortest(|| {
+            let begun = Instant::now();
+            black_box(check(black_box(&file), BASE_DAY));
+            begun.elapsed()
+        })
+    })
+}
+
+fn read_times(input: &Input) -> [f64; 2] {
+    let file = file(input);
+    let mut records = [vec![0; RECORDS], vec![0; RECORDS]];
+    assert_eq!(library::read(&file, BASE_DAY, &mut records[0]), accepted(input), "a refusal");
+    assert_eq!(other::read(&file, BASE_DAY, &mut records[1]), accepted(input), "a refusal");
+    assert!(records[0] == records[1], "the two disagree");
+    let records = &mut records[0];
+    [library::read, other::read].map(|read| {
+        shortest(|| {
+            let begun = Instant::now();
+            black_box(read(black_box(&file), BASE_DAY, records));
+            begun.elapsed()
+        })
+    })
+}
