@@ -11,7 +11,7 @@ pub mod PartLaws
 pub mod CountsLaws
 -- the file written segment by segment
 pub mod FileLaws
--- sixteen tables of thirty-two counts, cell by cell
-pub mod TableLaws
+-- Plan's tables, of their counts joined
+pub mod PlanLaws
 -- what Build answers, by what it has found out of the list
 pub mod AnswerLaws

@@ -20,10 +20,10 @@ use Rattle.sections.proofs.RowBytes.{loop-none, loop-more}
 use Rattle.sections.proofs.SectionBack.{section-is, covered-is}
 use Rattle.sections.proofs.Lengths.{event-length, header-length, covered-length}
 use Rattle.codec.specs.Write.{writeAt}
-use Rattle.codec.specs.CrcTable.{crcTable, crcBy}
+use Rattle.crc_codec.specs.CrcTable.{crcTable, crcBy}
 use Rattle.codec.proofs.WriteLaws.{write-fits}
 use Rattle.codec.proofs.LeftLaws.{Left, left-fits, left-more, left-end}
-use Rattle.codec.proofs.CrcLaws.{crc32-by-table}
+use Rattle.crc_codec.proofs.CrcLaws.{crc32-by-table}
 use Rattle.section_counts.specs.Between.{eventsBetween}
 use Rattle.section_counts.proofs.BetweenLaws.{between-more, between-end}
 

@@ -1,6 +1,5 @@
 // The file written: its segments one behind the other (01, "The file of sections", "Build, Read").
 use crate::section;
-use codec::crc;
 use eit::Identity;
 use section_codec::header::SectionHeader;
 use section_counts::count;
@@ -19,7 +18,7 @@ ghost use Rattle.eit.specs.Records.{recordsIn};
 ghost use Rattle.eit.specs.Events.{eventsIn};
 ghost use Rattle.sections.specs.Section.{sectionSizes};
 ghost use Rattle.sections.specs.Encode.{fileBytes};
-ghost use Rattle.codec.specs.CrcTable.{crcTable};
+ghost use Rattle.crc_codec.specs.CrcTable.{crcTable};
 ghost use Rattle.section_codec.specs.HeaderRead.{heldHeader};
 ghost use Rattle.section_counts.specs.Between.{eventsBetween};
 ghost use Rattle.schedule.specs.SectionsOf.{sectionsOf};
@@ -152,7 +151,7 @@ pub fn write_file<'a>(
         (eventsIn (lentPools (now (day .entry)) (now (series .entry))) (recordsIn count (now (list .entry)))))) ⌝ }
 {
     let room = count::room_of(section_size);
-    let table = crc::table();
+    let table = crc_codec::table();
     let last_table_id = (TABLE_LEAST + segment::last_index(list, count) / TABLE_SEGMENTS) as u8;
     let mut last: u8 = 0;
     let mut at = 0;

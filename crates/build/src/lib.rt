@@ -13,7 +13,6 @@ pub mod answer;
 mod file;
 mod section;
 mod sizes;
-pub mod tables;
 
 // Bytes of a section at most (01, "The file of sections"), and events in a list at most ("Event record and sound list").
 const SECTION_SIZE: u16 = 4_096;

@@ -1,9 +1,8 @@
 // One section written: its header, its events, CRC_32 (01, "The file of sections"). Each chain goes straight from its pool to the
 // output.
-use codec::crc;
-use codec::crc::CRC_FIRST;
 use codec::fields;
 use codec::pools;
+use crc_codec::CRC_FIRST;
 use event_list::records;
 use section_codec::event;
 use section_codec::header;
@@ -17,7 +16,7 @@ ghost use Rattle.eit.specs.Overwrite.{overwrite};
 ghost use Rattle.eit.specs.Pools.{lentPools};
 ghost use Rattle.sections.specs.Section.{eventSizes};
 ghost use Rattle.sections.specs.Encode.{eventLoopBytes, sectionBytes};
-ghost use Rattle.codec.specs.CrcTable.{crcTable};
+ghost use Rattle.crc_codec.specs.CrcTable.{crcTable};
 ghost use Rattle.section_counts.specs.Between.{eventsBetween};
 ghost use Rattle.build.specs.Sections.{sectionOf, sectionSizeOf};
 
@@ -80,6 +79,6 @@ pub fn write_section<'a>(
 {
     header::write_header(out, at, size, header);
     let end = write_events(out, at + HEADER_SIZE, base_day, list, from, to, day, series);
-    let crc = crc::crc_by(table, CRC_FIRST, &out[at..end]);
+    let crc = crc_codec::crc_by(table, CRC_FIRST, &out[at..end]);
     fields::write_field(out, end, CRC_SIZE, crc as usize);
 }

@@ -1,7 +1,6 @@
 // Plan and Build with the sizes as numbers.
 use crate::answer::BuildAnswer;
 use crate::file;
-use crate::tables;
 use eit::Identity;
 use section_counts::count;
 use section_counts::segment::SEGMENTS;
@@ -34,7 +33,7 @@ pub fn plan_within<'a>(
 {
     let counted = count::count_sections(list, count, day, series, section_size, event_limit);
     let counts = counted.counts;
-    tables::tables_of(&counts)
+    plan_tables::tables_of(&counts)
 }
 
 // Build: each refusal is excluded before anything is written.

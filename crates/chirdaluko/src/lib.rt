@@ -1,7 +1,5 @@
 // The face for C and Rust: numbers and slices only (include/chirdaluko.h). Each call turns an answer into document 01's numbers,
 // and has the same equation as the call behind it.
-use build::tables;
-use codec::crc;
 use eit::Identity;
 use read_answer::CheckedFile;
 ghost use mathlib.Core.Path.{_≡_};
@@ -114,7 +112,7 @@ pub extern "C" fn eit_plan<'a>(
         now (counts .exit)
         ≡ flatten (plan broadcast (lentPools (now (day .entry)) (now (series .entry))) (lentList (now (list .entry)) count)) ⌝ }
 {
-    *counts = tables::flat_of(build::plan(list, count, day, series));
+    *counts = plan_tables::flat_of(build::plan(list, count, day, series));
 }
 
 // An answer of Read as numbers.
@@ -156,5 +154,5 @@ pub extern "C" fn eit_check(file: &[u8], base_day: u32) -> EitReading
 pub extern "C" fn eit_crc32(bytes: &[u8]) -> u32
     ensures { λ r. ⌜ r ≡ crc32 (now (bytes .entry)) ⌝ }
 {
-    crc::crc32(bytes)
+    crc_codec::crc32(bytes)
 }

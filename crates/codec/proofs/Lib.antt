@@ -8,5 +8,3 @@ pub mod FieldLaws
 pub mod ChainSteps
 -- a set of numbers holds what was added to it
 pub mod SeenLaws
--- CRC_32 by the table
-pub mod CrcLaws

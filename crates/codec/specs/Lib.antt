@@ -1,4 +1,3 @@
 -- What the leaves' contracts say beyond the model's definitions.
 pub mod Write  -- a write that leaves all where it does not fit
 pub mod Seen  -- a set of numbers in words of 64 bits
-pub mod CrcTable  -- CRC_32 by a table of 256 entries

@@ -10,7 +10,6 @@ use event_list::find;
 use event_list::place;
 use event_list::records;
 use event_list::records::RECORD_SIZE;
-use event_list::sound;
 use script_scan::command;
 use script_scan::command::Command;
 use script_scan::scan;
@@ -47,7 +46,7 @@ fn put_event<'a>(
         (commandTold at (Command.Put event))
         ≡ told r (now (list .exit)) ⌝ }
 {
-    if !sound::is_in_range(event) {
+    if !sound_list::is_in_range(event) {
         return Edited {
             answer: EditAnswer::OutOfRange(at),
             count,
@@ -278,7 +277,7 @@ pub fn edit_within<'a>(
         (now (script .entry))
         ≡ told r (now (list .exit)) ⌝ }
 {
-    if !sound::is_sound(list, count, day, series, event_limit) {
+    if !sound_list::is_sound(list, count, day, series, event_limit) {
         return Edited {
             answer: EditAnswer::Unsound,
             count,

@@ -6,7 +6,3 @@ pub mod FindLaws
 pub mod ShiftLaws
 -- the records from a place on
 pub mod RestLaws
--- what one pass over the records asks is what soundness asks of them
-pub mod ForwardLaws
--- that pass, with the ids in a set of bits, record by record
-pub mod PassLaws

@@ -1,5 +1,4 @@
-// The event list in a lent buffer: its records, soundness, and records put in and taken out in place.
+// The event list in a lent buffer: its records, found, put in and taken out in place.
 pub mod find;
 pub mod place;
 pub mod records;
-pub mod sound;

@@ -19,11 +19,11 @@ use Rattle.sections.specs.Decode.{statedEventSize, eventIn, headerIn, eventLoop
 use Rattle.sections.specs.Cut.{cut}
 use Rattle.sections.specs.JudgeHeader.{isFramed, isClosed, isHeader, isInPlace}
 use Rattle.sections.specs.JudgeEvents.{isEventLoop, isWithinLimit}
-use Rattle.sections.specs.Walk.{Progress, behind, passed, refused, step}
-use Rattle.sections.proofs.Walk.{Passes, step-passes}
+use Rattle.sections.specs.Walk.{Progress, behind, refused, step}
+use Rattle.sections.proofs.Walk.{step-passes}
 use Rattle.sections.proofs.Answers.{step-20, step-21, step-22, step-23, step-24, step-26}
 use Rattle.sections.proofs.Order.{seen-length}
-use Rattle.codec.specs.CrcTable.{crcTable}
+use Rattle.crc_codec.specs.CrcTable.{crcTable}
 use Rattle.section_codec.specs.HeaderRead.{heldHeader}
 use Rattle.section_codec.specs.declared.header.SectionHeader.{SectionHeader}
 use Rattle.section_checks.specs.Closed.{isClosedBy}
@@ -36,7 +36,7 @@ use Rattle.section_checks.proofs.ClosedLaws.{closed-by-table}
 use Rattle.event_checks.proofs.EventKeptLaws.{loop-checked, loop-kept}
 use Rattle.file_check.specs.Tracks.{Tracks, Said}
 use Rattle.file_check.specs.declared.section.WalkState.{WalkState}
-use Rattle.file_check.specs.declared.section.SectionVerdict.the-variants.{Passed, Refused}
+use Rattle.file_check.specs.declared.section.SectionVerdict.the-variants.{Passed}
 
 -- a test that was made, and its outcome
 holds : {a b : Bool} → a ≡ b → a ≡ true → T b

@@ -8,7 +8,7 @@ ghost use mathlib.Core.Path.{_≡_};
 ghost use Prim.Native.Nat.{_+_};
 ghost use lib.ListN.{length};
 ghost use Rattle.eit.specs.Sizes.{sized};
-ghost use Rattle.codec.specs.CrcTable.{crcTable};
+ghost use Rattle.crc_codec.specs.CrcTable.{crcTable};
 ghost use Rattle.sections.specs.Walk.{Progress, step};
 ghost use Rattle.file_check.specs.Tracks.{Tracks, Said};
 

@@ -2,7 +2,6 @@
 use crate::section;
 use crate::section::SectionVerdict;
 use crate::section::WalkState;
-use codec::crc;
 use read_answer::CheckedFile;
 use read_answer::ReadAnswer;
 use section_checks::header::Kept;
@@ -52,7 +51,7 @@ pub fn check_within(
     if BASE_DAY_MOST < base_day {
         return read_answer::refused(ReadAnswer::BaseDay);
     }
-    let table = crc::table();
+    let table = crc_codec::table();
     let mut seen = [0u64; SEEN_WORDS];
     let mut state = WalkState {
         before: Kept::Nothing,

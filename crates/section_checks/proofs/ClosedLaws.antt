@@ -5,8 +5,8 @@ use mathlib.Core.Path.{_≡_, ap}
 use lib.Dec.{eqb}
 use Rattle.eit.specs.Fields.{Bytes}
 use Rattle.sections.specs.JudgeHeader.{isClosed}
-use Rattle.codec.specs.CrcTable.{crcTable}
-use Rattle.codec.proofs.CrcLaws.{crc32-by-table}
+use Rattle.crc_codec.specs.CrcTable.{crcTable}
+use Rattle.crc_codec.proofs.CrcLaws.{crc32-by-table}
 use Rattle.section_checks.specs.Closed.{isClosedBy}
 
 pub closed-by-table : (bs : List ℕ) → Bytes bs → isClosedBy crcTable bs ≡ isClosed bs

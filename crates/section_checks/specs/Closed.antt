@@ -5,7 +5,7 @@ use mathlib.Core.Bool.{Bool}
 use mathlib.Core.List.{List}
 use lib.Dec.{eqb}
 use Rattle.eit.specs.Crc.{crcFirst}
-use Rattle.codec.specs.CrcTable.{crcBy}
+use Rattle.crc_codec.specs.CrcTable.{crcBy}
 
 -- by the table of CRC_32 it is `isClosed` (`closed-by-table`)
 abbrev pub isClosedBy : List ℕ → List ℕ → Bool

@@ -1,7 +1,6 @@
 // A section's frame and its CRC_32 (01, "The file of sections").
-use codec::crc;
-use codec::crc::CRC_FIRST;
 use codec::fields;
+use crc_codec::CRC_FIRST;
 ghost use mathlib.Core.Path.{_≡_};
 ghost use Rattle.eit.specs.Sizes.{sectionsUpTo};
 ghost use Rattle.sections.specs.JudgeHeader.{isTable, isFramed};
@@ -40,5 +39,5 @@ pub fn is_framed(section: &[u8], section_size: usize) -> bool
 pub fn is_closed(table: &[u32; 256], section: &[u8]) -> bool
     ensures { λ r. ⌜ r ≡ isClosedBy (now (table .entry)) (now (section .entry)) ⌝ }
 {
-    crc::crc_by(table, CRC_FIRST, section) == 0
+    crc_codec::crc_by(table, CRC_FIRST, section) == 0
 }

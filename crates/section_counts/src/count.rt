@@ -2,7 +2,6 @@
 use crate::cut;
 use crate::segment;
 use crate::segment::SEGMENTS;
-use event_list::sound;
 ghost use mathlib.Core.Path.{_≡_};
 ghost use lib.Dec.{T};
 ghost use Rattle.eit.specs.Sizes.{room, sized, sectionsUpTo};
@@ -137,7 +136,7 @@ pub fn count_sections<'a>(
         ≡ countedOf (sized «section_size» «event_limit») (lentPools (now (day .entry)) (now (series .entry)))
         (lentList (now (list .entry)) count) ⌝ }
 {
-    if !sound::is_sound(list, count, day, series, event_limit) {
+    if !sound_list::is_sound(list, count, day, series, event_limit) {
         return Counted {
             is_sound: false,
             counts: [UNSOUND; 512],

@@ -10,11 +10,11 @@ use Rattle.eit.specs.Fields.{Bytes}
 use Rattle.eit.proofs.Fields.{bytes-all}
 use Rattle.sections.specs.Decode.{statedEventSize, eventLoop}
 use Rattle.sections.specs.Cut.{cut}
-use Rattle.codec.specs.CrcTable.{crcTable}
+use Rattle.crc_codec.specs.CrcTable.{crcTable}
 use Rattle.section_codec.specs.HeaderRead.{heldHeader}
 use Rattle.section_checks.specs.Kept.{keptHeader, checkedHeader}
 use Rattle.event_checks.specs.EventPass.{checkedEvents, passOf}
-use Rattle.section_checks.specs.declared.header.Kept.the-variants.{Header as Behind, Nothing}
+use Rattle.section_checks.specs.declared.header.Kept.the-variants.{Header as Behind}
 use Rattle.file_check.proofs.StepLaws.{says-20, says-21, says-22, says-23, says-24, says-26, goes-on}
 use native.Mathlib.Omega.{arith}
 use borrow.Author.Needs.{needs}
