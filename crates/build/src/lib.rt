@@ -1,5 +1,5 @@
 // Plan and Build (01, "Build, Read").
-use answer::BuildAnswer;
+use build_answer::BuildAnswer;
 use eit::Identity;
 ghost use mathlib.Core.Path.{_≡_};
 ghost use Rattle.eit.specs.Sizes.{broadcast};
@@ -7,9 +7,8 @@ ghost use Rattle.eit.specs.Pools.{lentPools};
 ghost use Rattle.eit.specs.Records.{lentList};
 ghost use Rattle.schedule.specs.Plan.{plan};
 ghost use Rattle.schedule.specs.Build.{build};
-ghost use Rattle.build.specs.Told.{told};
+ghost use Rattle.build_answer.specs.Told.{told};
 
-pub mod answer;
 mod file;
 mod section;
 mod sizes;

@@ -1,6 +1,6 @@
 // Plan and Build with the sizes as numbers.
-use crate::answer::BuildAnswer;
 use crate::file;
+use build_answer::BuildAnswer;
 use eit::Identity;
 use section_counts::count;
 use section_counts::segment::SEGMENTS;
@@ -10,7 +10,7 @@ ghost use Rattle.eit.specs.Pools.{lentPools};
 ghost use Rattle.eit.specs.Records.{lentList};
 ghost use Rattle.schedule.specs.Plan.{plan};
 ghost use Rattle.schedule.specs.Build.{build};
-ghost use Rattle.build.specs.Told.{told};
+ghost use Rattle.build_answer.specs.Told.{told};
 
 // The most that a base day and a version may be.
 const BASE_DAY_MOST: u32 = 65_472;

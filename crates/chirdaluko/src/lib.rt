@@ -61,8 +61,8 @@ pub extern "C" fn eit_edit<'a>(
     let said = r.answer;
     let held = r.count;
     EitEdited {
-        number: edit::answer::number_of(said),
-        value: edit::answer::value_of(said, held),
+        number: edit_answer::number_of(said),
+        value: edit_answer::value_of(said, held),
         count: held,
     }
 }
@@ -94,8 +94,8 @@ pub extern "C" fn eit_build<'a>(
     };
     let said = build::build(list, count, day, series, base_day, identity, out);
     EitBuilt {
-        number: build::answer::number_of(said),
-        value: build::answer::value_of(said),
+        number: build_answer::number_of(said),
+        value: build_answer::value_of(said),
     }
 }
 

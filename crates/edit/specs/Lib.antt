@@ -1,3 +1,2 @@
 -- What the contracts of this crate say beyond the model's definitions.
-pub mod Told  -- the paper's number and values for each case of an answer
 pub mod Run  -- what the machine carries out

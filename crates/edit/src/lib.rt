@@ -1,13 +1,12 @@
 // Edit (01, "Edit"): the script's form, UNDO, and the plain machine on the lent list.
-use answer::Edited;
+use edit_answer::Edited;
 ghost use mathlib.Core.Path.{_≡_};
 ghost use Rattle.eit.specs.Sizes.{broadcast};
 ghost use Rattle.eit.specs.Pools.{lentPools};
 ghost use Rattle.eit.specs.Records.{lentList};
 ghost use Rattle.script.specs.Edit.{edit};
-ghost use Rattle.edit.specs.Told.{told};
+ghost use Rattle.edit_answer.specs.Told.{told};
 
-pub mod answer;
 mod machine;
 
 // Events in a list at most (01, "Event record and sound list").

@@ -1,9 +1,8 @@
 // 01's term: plain machine ("Edit"). The unstruck edits are carried out in order on the lent list; a refusal leaves it as the
 // earlier edits made it.
-use crate::answer;
-use crate::answer::EditAnswer;
-use crate::answer::Edited;
 use codec::pools;
+use edit_answer::EditAnswer;
+use edit_answer::Edited;
 use eit::Record;
 use eit::Time;
 use event_list::find;
@@ -28,7 +27,7 @@ ghost use Rattle.script.specs.Struck.{passed};
 ghost use Rattle.script.specs.Edit.{edit};
 ghost use Rattle.script_scan.specs.Commands.{commandTold, commandsAt};
 ghost use Rattle.edit.specs.Run.{runOne, runFrom, runPart};
-ghost use Rattle.edit.specs.Told.{told};
+ghost use Rattle.edit_answer.specs.Told.{told};
 
 // PUT: 5, 9, 6, 7, 8; then the record is inserted by its start.
 fn put_event<'a>(
@@ -238,7 +237,7 @@ fn run_part<'a>(
     let before = pending_before(script, mid, rest, undos);
     let r = run_part(list, count, day, series, event_limit, script, at, h, before);
     let said = r.answer;
-    if answer::number_of(said) != 0 {
+    if edit_answer::number_of(said) != 0 {
         return r;
     }
     let n = r.count;

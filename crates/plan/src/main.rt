@@ -36,11 +36,11 @@ fn write_built(list: &[u32], count: usize, output: &mut [u8], text: &mut [u8]) -
         version: 0,
     };
     let built = build::build(list, count, b"", b"", BASE_DAY, identity, output);
-    let number = build::answer::number_of(built);
+    let number = build_answer::number_of(built);
     if number != 0 {
         return listing::write_refused(text, number);
     }
-    let size = build::answer::value_of(built);
+    let size = build_answer::value_of(built);
     listing::write_listing(text, &output[..size])
 }
 
@@ -56,7 +56,7 @@ fn write_within(script: &[u8], list: &mut [u32], output: &mut [u8], text: &mut [
     let edited = edit::edit(list, 0, b"", b"", script);
     let said = edited.answer;
     let count = edited.count;
-    let number = edit::answer::number_of(said);
+    let number = edit_answer::number_of(said);
     if number != 0 {
         return listing::write_refused(text, number);
     }

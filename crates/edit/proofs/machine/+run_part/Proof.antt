@@ -15,7 +15,7 @@ use Rattle.edit.proofs.HalfLaws.{sound-held, part-struck, part-one, par
 use Rattle.edit.proofs.machine.run_part.Reads as run-part
 use Rattle.edit.proofs.machine.run_part.Kinds as run-part-kinds
 use Rattle.edit.proofs.machine.+run_part.Lts-run_part as run-part-lts
-use Rattle.edit.proofs.answer.number_of.Reads as number-of-reads
+use Rattle.edit_answer.proofs.number_of.Reads as number-of-reads
 use Rattle.edit.proofs.machine.carry_out.Reads as carry-out-reads
 use Rattle.edit.proofs.machine.pending_before.Reads as pending-before-reads
 use Rattle.script_scan.proofs.command.command_at.Reads as command-at-reads

@@ -3,10 +3,10 @@ use Prim.Native.Nat.{ℕ}
 use mathlib.Core.List.{List}
 use Rattle.eit.specs.Records.{lentList}
 use Rattle.script.specs.Edit as model
-use Rattle.edit.specs.declared.answer.EditAnswer.{EditAnswer}
-use Rattle.edit.specs.declared.answer.EditAnswer.the-variants.{Done, Unsound, Broken, NothingToStrike, OutOfRange}
-use Rattle.edit.specs.declared.answer.EditAnswer.the-variants.{WrongId, StartTaken, ListFull, NoChain}
-use Rattle.edit.specs.declared.answer.Edited.{Edited}
+use Rattle.edit_answer.specs.declared.EditAnswer.{EditAnswer}
+use Rattle.edit_answer.specs.declared.EditAnswer.the-variants.{Done, Unsound, Broken, NothingToStrike, OutOfRange}
+use Rattle.edit_answer.specs.declared.EditAnswer.the-variants.{WrongId, StartTaken, ListFull, NoChain}
+use Rattle.edit_answer.specs.declared.Edited.{Edited}
 
 -- Edit's refusals and their numbers
 abbrev pub answerNumber : EditAnswer → ℕ
