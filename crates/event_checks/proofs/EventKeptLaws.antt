@@ -1,17 +1,16 @@
 -- The pass that keeps a least start and a set of ids judges as 24 does, which looks back at the events themselves: the least start is
 -- that behind the latest event, and the set holds the ids of all (`KeptOf`). Assumes nothing.
-use mathlib.Core.Path.{_≡_, refl, sym, ap, ap₂, subst, _∙_}
+use mathlib.Core.Path.{_≡_, refl, sym, ap, subst, _∙_}
 use mathlib.Core.Logic.{⊎-elim}
-use mathlib.Core.Bool.{Bool, true, false, not, _&&_}
+use mathlib.Core.Bool.{not, _&&_}
 use mathlib.Core.List.{List, [], _∷_, _++_, map, flatten, reverse, reverse-cons, append-assoc}
-use Prim.Native.Nat.{ℕ, _+_, _-_, _*_, _≤_, _<_}
+use Prim.Native.Nat.{ℕ, _+_, _-_, _<_}
 use native.Mathlib.Omega.{arith}
 use borrow.Author.Tests.{le-leb}
 use lib.Dec.{T, leb, le→leb, leb→le}
 use lib.ListN.{length, drop, replicate, length-replicate}
 use Rattle.eit.specs.Sizes.{sectionOverhead}
 use Rattle.eit.specs.Fields.{Bytes}
-use Rattle.eit.specs.Among.{isAmong}
 use Rattle.eit.specs.Events.{Event, follows}
 use Rattle.eit.proofs.Fields.{bytes-parts, bytes-take, bytes-drop}
 use Rattle.eit.proofs.Test.{and-left, and-right, and-both, true-is, false-is, test-or, both-ways}
@@ -25,7 +24,7 @@ use Rattle.sections.proofs.Cut.{cut-joined}
 use Rattle.codec.specs.Seen.{isSeen, withSeen}
 use Rattle.codec.proofs.SeenLaws.{seen-empty, seen-more, seen-length}
 use Rattle.event_checks.specs.EventPass.{EventPass, isTaken, takeEvents, checkedEvents}
-use Rattle.event_checks.specs.EventsKept.{leastAfter, KeptOf}
+use Rattle.event_checks.specs.EventsKept.{KeptOf}
 use Rattle.event_checks.proofs.EventPassLaws.{take-none, take-more, take-stops}
 
 pub kept-start : KeptOf 0 (replicate 1024 0) []
@@ -119,7 +118,8 @@ module _ (base : ℕ) (bs : List ℕ) (bytes : Bytes bs) {least : ℕ} {words : 
 
   loop-bytes : Bytes (flatten loop)
   loop-bytes =
-      subst Bytes (sym (cut-joined statedEventSize (λ piece. omega arith) (eventLoop bs))) (bytes-take (length bs - sectionOverhead) (drop headerSize bs) (bytes-drop headerSize bs bytes))
+      subst Bytes (sym (cut-joined statedEventSize (λ piece. omega arith) (eventLoop bs)))
+      (bytes-take (length bs - sectionOverhead) (drop headerSize bs) (bytes-drop headerSize bs bytes))
 
   abbrev taking : EventPass
   taking = takeEvents base (headerIn bs) 0 least words loop

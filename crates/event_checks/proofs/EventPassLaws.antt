@@ -1,12 +1,11 @@
 -- The pass over an event loop, piece by piece: before each turn the pass over the whole loop is the pass over the rest (`PassSoFar`),
 -- and each way on or out is decided by the tests of the event there. Assumes nothing.
 use mathlib.Core.Path.{_≡_, refl, sym, ap, ap₂, _∙_}
-use mathlib.Core.Logic.{⊎-elim}
 use mathlib.Core.Bool.{Bool, true, false, not, _&&_}
 use mathlib.Core.List.{List, [], _∷_}
-use Prim.Native.Nat.{ℕ, zero, suc, _+_, _≤_, _<_}
+use Prim.Native.Nat.{ℕ, _+_, _≤_, _<_}
 use native.Mathlib.Omega.{arith}
-use lib.Dec.{T, leb, ltb}
+use lib.Dec.{leb}
 use lib.ListN.{length, drop, length-drop, drop-of-length-le}
 use lib.Seq.{drop-drop}
 use Rattle.eit.specs.declared.Record.{Record}
@@ -17,7 +16,7 @@ use Rattle.sections.specs.JudgeEvents.{isInSegment, isEvent, isFilledOrAlone}
 use Rattle.sections.proofs.Cut.{cut-nil, cut-next}
 use Rattle.codec.specs.Seen.{isSeen, withSeen}
 use Rattle.codec.proofs.SeenLaws.{seen-length}
-use Rattle.section_codec.specs.EventRead.{isWholeEvent, frontEvent, eventRead}
+use Rattle.section_codec.specs.EventRead.{frontEvent, eventRead}
 use Rattle.section_codec.specs.declared.event.EventRead.the-variants.{Whole, Broken}
 use Rattle.section_codec.proofs.EventReadLaws.{event-whole, whole-only, broken-only}
 use Rattle.event_checks.specs.EventPass.{EventPass, isTaken, takeEvents, checkedEvents}

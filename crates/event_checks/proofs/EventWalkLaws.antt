@@ -1,8 +1,8 @@
 -- An event that is read whole is the next piece of its event loop, and its chain length leads to the piece behind it: its bytes are as
 -- many as they state. Assumes nothing.
-use mathlib.Core.Path.{_≡_, sym, ap, ap₂, subst, _∙_}
+use mathlib.Core.Path.{_≡_, sym, ap, subst, _∙_}
 use mathlib.Core.Logic.{⊎-elim}
-use mathlib.Core.Bool.{Bool, true, _&&_, _||_}
+use mathlib.Core.Bool.{Bool, _&&_, _||_}
 use mathlib.Core.List.{List, _∷_}
 use Prim.Native.Nat.{ℕ, _+_, _/_, _≤_, _<_}
 use native.Mathlib.Omega.{arith}
@@ -58,7 +58,8 @@ module _ (base : ℕ) (bs : List ℕ) {r : Record} (read : eventRead base bs ≡
       (λ (enough : statedEventSize bs ≤ length bs). length-take-le (statedEventSize bs) bs enough)
       (λ (cut-short : length bs < statedEventSize bs).
       let all : frontEvent bs ≡ bs = take-all (statedEventSize bs) bs (omega arith) in
-      let states : length bs ≡ statedEventSize bs = subst (λ (xs : List ℕ). length xs ≡ statedEventSize xs) all (whole-stated base (frontEvent bs) holds) in
+      let states : length bs ≡ statedEventSize bs =
+      subst (λ (xs : List ℕ). length xs ≡ statedEventSize xs) all (whole-stated base (frontEvent bs) holds) in
       ap length all ∙ states)
       (le-or-lt (statedEventSize bs) (length bs))
 

@@ -1,18 +1,14 @@
 -- Where the walk ends: after last_table_id, or early. By what the code keeps of the last header. Assumes nothing.
-use mathlib.Core.Path.{_≡_, refl, sym, ap, ap₂, _∙_}
+use mathlib.Core.Path.{_≡_, ap, ap₂, _∙_}
 use mathlib.Core.Bool.{Bool, true, false, _&&_}
 use mathlib.Core.List.{List}
-use mathlib.Core.Option.{Option, none, some}
 use Prim.Native.Nat.{ℕ}
 use lib.Dec.{eqb}
-use Rattle.sections.specs.Section.{Header}
 use Rattle.sections.specs.Walk.{Progress, passed}
 use Rattle.sections.specs.Read.{refusal, success, isComplete, identityOf, atEnd}
-use Rattle.section_codec.specs.HeaderRead.{heldHeader}
 use Rattle.section_codec.specs.declared.header.SectionHeader.{SectionHeader}
 use Rattle.section_checks.specs.Kept.{keptHeader}
 use Rattle.section_checks.specs.declared.header.Kept.the-variants.{Header as Behind, Nothing}
-use Rattle.section_checks.specs.declared.header.Kept.{Kept}
 use Rattle.file_check.specs.Tracks.{Tracks}
 use Rattle.file_check.specs.declared.section.WalkState.{WalkState}
 

@@ -1,7 +1,6 @@
 -- The walk over the sections, one after the other: before each turn the walk over the whole file is the walk over the sections from
 -- the offset on (`WalkSoFar`), and what the code keeps is what the definition keeps. Assumes nothing.
-use mathlib.Core.Path.{_≡_, refl, sym, ap, ap₂, subst, _∙_}
-use mathlib.Core.Bool.{true, false}
+use mathlib.Core.Path.{_≡_, refl, sym, ap, subst, _∙_}
 use mathlib.Core.List.{List, [], _∷_}
 use Prim.Native.Nat.{ℕ, _+_, _≤_, _<_}
 use borrow.Author.Tests.{le-leb}
@@ -10,13 +9,13 @@ use lib.ListN.{length, drop, replicate}
 use Rattle.eit.specs.Sizes.{Sizes}
 use Rattle.eit.specs.Limits.{baseMost}
 use Rattle.sections.specs.Decode.{cutFile}
-use Rattle.sections.specs.Walk.{Progress, atStart, Verdict, passed, refused, step, walk}
-use Rattle.sections.specs.Read.{Answer, noIdentity, refusal, atEnd, checkFile}
+use Rattle.sections.specs.Walk.{Progress, atStart, passed, refused, step, walk}
+use Rattle.sections.specs.Read.{noIdentity, atEnd, checkFile}
 use Rattle.section_walk.specs.SectionAt.{sectionAt}
 use Rattle.section_walk.proofs.SectionAtLaws.{walk-end, walk-next, section-inside, section-some}
 use Rattle.section_checks.specs.declared.header.Kept.the-variants.{Nothing}
 use Rattle.event_checks.proofs.EventKeptLaws.{kept-start}
-use Rattle.read_answer.specs.Told.{answerNumber, answerValue, answerCount, told}
+use Rattle.read_answer.specs.Told.{answerNumber, answerValue, told}
 use Rattle.file_check.specs.Tracks.{Tracks, Said}
 use Rattle.read_answer.specs.declared.ReadAnswer.{ReadAnswer}
 use Rattle.read_answer.specs.declared.CheckedFile.{CheckedFile}

@@ -1,19 +1,19 @@
 -- The records of a file, section after section: what is left to write shrinks with each section. Assumes nothing.
-use mathlib.Core.Path.{_≡_, refl, sym, ap, ap₂, subst, _∙_}
-use mathlib.Core.List.{List, [], _∷_, _++_, map}
+use mathlib.Core.Path.{_≡_, sym, ap, subst, _∙_}
+use mathlib.Core.List.{List, _∷_, _++_, map}
 use Prim.Native.Nat.{ℕ, _+_, _-_, _*_, _≤_, _<_}
 use native.Mathlib.Omega.{arith}
-use lib.ListN.{length, take, drop, length-take, length-drop}
+use lib.ListN.{length, drop, length-take}
 use Rattle.eit.specs.Sizes.{sectionOverhead}
 use Rattle.eit.specs.Overwrite.{overwrite}
 use Rattle.eit.specs.Records.{recordSize, numbersOfAll}
 use Rattle.eit.specs.declared.Record.{Record}
 use Rattle.eit.proofs.Records.{numbers-length, numbers-append}
-use Rattle.sections.specs.Section.{Section, headerSize, sectionSize}
-use Rattle.sections.specs.Decode.{statedEventSize, eventIn, eventLoop, cutEvents, sectionIn, cutFile}
+use Rattle.sections.specs.Section.{headerSize}
+use Rattle.sections.specs.Decode.{statedEventSize, eventLoop, cutEvents, sectionIn, cutFile}
 use Rattle.sections.specs.Cut.{cut}
 use Rattle.sections.specs.Every.{Every}
-use Rattle.sections.specs.Places.{recordsAt, recordsFrom}
+use Rattle.sections.specs.Places.{recordsFrom}
 use Rattle.sections.specs.Read.{fileRecords}
 use Rattle.sections.proofs.Exact.{sections-are, records-are}
 use Rattle.codec.proofs.LeftLaws.{Left, left-all, left-fits, left-more, left-end}
@@ -118,7 +118,12 @@ module _ {base : ℕ} {file d out : List ℕ} {n offset : ℕ} (so-far : FileSoF
 
       pub file-room : (n + length pieces) * recordSize ≤ length out
       file-room =
-          omega (arith, left-fits (so-far .left) (numbersOfAll records) (numbersOfAll (shownRecords base (offset + length section) behind)) parts, width)
+          omega (
+            arith,
+            left-fits (so-far .left) (numbersOfAll records) (numbersOfAll (shownRecords base (offset + length section) behind))
+                parts,
+            width,
+          )
 
       pub file-more : {out′ : List ℕ} {n′ : ℕ} → out′ ≡ overwrite out (n * recordSize) (numbersOfAll records)
           → n′ ≡ n + length pieces → FileSoFar base file d out′ n′ (offset + length section)

@@ -2,11 +2,11 @@
 -- piece that is left is an event. Assumes nothing.
 use mathlib.Core.Path.{_≡_, refl, sym, ap, ap₂, subst, _∙_}
 use mathlib.Core.Bool.{false}
-use mathlib.Core.List.{List, [], _∷_, _++_, map, append-nil}
+use mathlib.Core.List.{List, [], _∷_, _++_, map}
 use Prim.Native.Nat.{ℕ, suc, _+_, _-_, _*_, _/_, _≤_, _<_}
 use native.Mathlib.Omega.{arith}
 use lib.Dec.{T}
-use lib.ListN.{length, take, drop, length-drop, length-map, drop-of-length-le}
+use lib.ListN.{length, take, drop, length-drop, drop-of-length-le}
 use lib.Seq.{drop-drop}
 use Rattle.eit.specs.Overwrite.{overwrite}
 use Rattle.eit.specs.Events.{Event}
@@ -14,14 +14,14 @@ use Rattle.eit.specs.Records.{recordSize, numbersOf, numbersOfAll}
 use Rattle.eit.specs.declared.Record.{Record}
 use Rattle.eit.proofs.Test.{and-left, and-right}
 use Rattle.eit.proofs.Records.{numbers-length}
-use Rattle.sections.specs.Section.{Header, eventOverhead, eventSize}
+use Rattle.sections.specs.Section.{eventOverhead, eventSize}
 use Rattle.sections.specs.Decode.{statedEventSize, eventIn}
 use Rattle.sections.specs.Cut.{cut}
 use Rattle.sections.specs.Places.{recordAt, recordsAt}
 use Rattle.sections.specs.JudgeEvents.{isEvent, areEvents}
 use Rattle.sections.proofs.Cut.{cut-nil, cut-next}
 use Rattle.codec.proofs.LeftLaws.{Left, left-all, left-fits, left-more, left-end}
-use Rattle.section_codec.specs.EventRead.{isWholeEvent, frontEvent, eventRead}
+use Rattle.section_codec.specs.EventRead.{frontEvent, eventRead}
 use Rattle.section_codec.specs.declared.event.EventRead.the-variants.{Whole, Broken}
 use Rattle.section_codec.proofs.EventReadLaws.{event-whole, broken-only}
 use Rattle.event_checks.proofs.EventWalkLaws.{whole-record, whole-inside, whole-next}
@@ -84,7 +84,8 @@ module _ {base from place : ℕ} {events d out : List ℕ} {n at : ℕ} (so-far 
         event-whole base (so-far .are .header) (frontEvent rest) ∙ rw (broken-only base rest broken) in
         let pieces = cut-next statedEventSize rest some-rest (omega arith) in
         let first : T (isEvent base (so-far .are .header) (frontEvent rest)) =
-        and-left (isEvent base (so-far .are .header) (frontEvent rest)) _ (subst (λ (xs : List (List ℕ)). T (areEvents base (so-far .are .header) xs)) pieces (so-far .are .are)) in
+        and-left (isEvent base (so-far .are .header) (frontEvent rest)) _
+        (subst (λ (xs : List (List ℕ)). T (areEvents base (so-far .are .header) xs)) pieces (so-far .are .are)) in
         subst T no-event first
 
     module _ {r : Record} (read : eventRead base rest ≡ Whole r) where

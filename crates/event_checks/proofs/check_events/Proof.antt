@@ -91,7 +91,8 @@ returns-2 : tie.Need-returns-2 Inv-loop μ-loop
 returns-2 c =
     let placed = c .before in
     let read = placed .before .before .before .before in
-    let stop = pass-stop (turn read .loop .inv) (read .before .before .loop-test .taken) (event-read read (placed .before .before .event .given .1)) in
+    let stop = pass-stop (turn read .loop .inv) (read .before .before .loop-test .taken)
+    (event-read read (placed .before .before .event .given .1)) in
     let segment = sym (placed .is-in-segment .ensures) in
     sym
     (⊎-elim
@@ -133,7 +134,8 @@ loop-again c =
     let placed = new .before .before .before in
     let read = placed .before .before .before .before in
     pass-more (turn read .loop .inv) (read .before .before .loop-test .taken) (event-read read (placed .before .before .event .given .1))
-    (rw (sym (placed .is-in-segment .ensures) ∙ not-false _ (new .before .before .if1 .left)) (sym (new .is-new .ensures) ∙ not-false _ (added .before .before .if2 .left)))
+    (rw (sym (placed .is-in-segment .ensures) ∙ not-false _ (new .before .before .if1 .left))
+    (sym (new .is-new .ensures) ∙ not-false _ (added .before .before .if2 .left)))
     (added .add-seen .ensures)
 
 is-alone-requires : tie.Need-is-alone-requires Inv-loop μ-loop
@@ -143,13 +145,17 @@ same-length-3 : tie.Need-same-length-3 Inv-loop μ-loop
 same-length-3 c = search needs
 
 returns-3 : tie.Need-returns-3 Inv-loop μ-loop
-returns-3 c = sym (pass-end (c .before .before .loop .inv) (c .before .loop-test .left) (filled-some (c .before .before .loop .inv) (c .before .loop-test .left) (c .if3 .taken) ∙ sym (lt-ltb _ _ (c .if3 .taken))))
+returns-3 c =
+    sym (pass-end (c .before .before .loop .inv) (c .before .loop-test .left)
+    (filled-some (c .before .before .loop .inv) (c .before .loop-test .left) (c .if3 .taken) ∙ sym (lt-ltb _ _ (c .if3 .taken))))
 
 same-length-4 : tie.Need-same-length-4 Inv-loop μ-loop
 same-length-4 c = search needs
 
 returns-4 : tie.Need-returns-4 Inv-loop μ-loop
-returns-4 c = sym (pass-end (c .before .before .before .loop .inv) (c .before .before .loop-test .left) (filled-none (c .before .before .before .loop .inv) (c .before .before .loop-test .left) (c .before .if3 .left) ∙ sym (c .is-alone .ensures)))
+returns-4 c =
+    sym (pass-end (c .before .before .before .loop .inv) (c .before .before .loop-test .left)
+    (filled-none (c .before .before .before .loop .inv) (c .before .before .loop-test .left) (c .before .if3 .left) ∙ sym (c .is-alone .ensures)))
 
 pub check-events-spec : {M : Type 1} → statement M
 check-events-spec =

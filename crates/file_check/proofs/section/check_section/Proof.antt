@@ -47,14 +47,16 @@ module _ (c : tie.After-is-in-place) where
 events-checked : (c : tie.After-check-events)
     → let a = entry (c .before .before .before .before) .args in
     passOf (c .check-events .result) (c .check-events .last .1 .1 .1 .1 .0)
-    ≡ checkedEvents (a .base-day) (heldHeader (c .before .before .before .before .before .before .shown .given .0 .0)) (a .state .least) (now (a .seen))
+    ≡ checkedEvents (a .base-day) (heldHeader (c .before .before .before .before .before .before .shown .given .0 .0))
+    (a .state .least) (now (a .seen))
     (cut statedEventSize (eventLoop (now (a .section))))
 events-checked c =
     let a = entry (c .before .before .before .before) .args in
     c .check-events .ensures
     ∙ ap
     (λ (events : List ℕ).
-    checkedEvents (a .base-day) (heldHeader (c .before .before .before .before .before .before .shown .given .0 .0)) (a .state .least) (now (a .seen))
+    checkedEvents (a .base-day) (heldHeader (c .before .before .before .before .before .before .shown .given .0 .0))
+    (a .state .least) (now (a .seen))
     (cut statedEventSize events))
     (c .before .before .event-loop .ensures)
 
@@ -146,7 +148,9 @@ returns-6 c p tracks =
     let framed = closed .before .before in
     let a = entry placed .args in
     let many : a .event-limit < checked .check-events .result .events + a .state .count =
-    ⊎-elim (λ w. omega (arith, w .taken)) (λ w. omega (arith, w .0 .left, ltb-true (a .event-limit - checked .check-events .result .events) (a .state .count) (w .2 .taken))) (c .if5 .came) in (
+    ⊎-elim (λ w. omega (arith, w .taken))
+    (λ w. omega (arith, w .0 .left, ltb-true (a .event-limit - checked .check-events .result .events) (a .state .count) (w .2 .taken)))
+    (c .if5 .came) in (
       says-26 tracks _ _ _ _ (section-bytes framed) (framed .is-framed .ensures) (not-false _ (closed .before .if1 .left)) (lent-table framed)
           (closed .is-closed .ensures) (not-false _ (kept .before .if2 .left)) (header-kept placed)
           (placed .is-in-place .ensures) (not-false _ (looped .before .if3 .left)) (events-checked checked)
@@ -161,7 +165,11 @@ add-t29 c =
     let start = entry (checked .before .before .before .before) in
     let a = start .args in
     let few : a .state .count + checked .check-events .result .events ≤ a .event-limit =
-    omega (arith, room .before .before .if5 .left, ltb-false (a .event-limit - checked .check-events .result .events) (a .state .count) (room .if6 .left)) in
+    omega (
+      arith,
+      room .before .before .if5 .left,
+      ltb-false (a .event-limit - checked .check-events .result .events) (a .state .count) (room .if6 .left),
+    ) in
     record { fits = at-most few (start .fits .event-limit .fits) }
 
 same-length-3 : tie.Need-same-length-3
@@ -181,7 +189,12 @@ returns-7 c p tracks =
     goes-on tracks _ _ _ _ (section-bytes framed) (framed .is-framed .ensures) (not-false _ (closed .before .if1 .left)) (lent-table framed)
     (closed .is-closed .ensures) (not-false _ (kept .before .if2 .left)) (header-kept placed)
     (placed .is-in-place .ensures) (not-false _ (looped .before .if3 .left)) (events-checked checked)
-    (not-false _ (whole .if4 .left)) (omega (arith, room .before .before .if5 .left, ltb-false (a .event-limit - checked .check-events .result .events) (a .state .count) (room .if6 .left)))
+    (not-false _ (whole .if4 .left))
+    (omega (
+      arith,
+      room .before .before .if5 .left,
+      ltb-false (a .event-limit - checked .check-events .result .events) (a .state .count) (room .if6 .left),
+    ))
 
 pub check-section-spec : {M : Type 1} → statement M
 check-section-spec =

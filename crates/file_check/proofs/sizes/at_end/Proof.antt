@@ -29,7 +29,10 @@ returns-2 : tie.Need-returns-2
 returns-2 c p offset words tracks =
     let last = c .before .before .before .before in
     let early = ends-early tracks _ (last .before2 .given .1) in
-    ⊎-elim (λ w. early (rw (ne-eqb _ _ (w .taken)))) (λ w. early (rw (eq-eqb _ _ (w .0 .left)) (not-true _ (w .2 .taken)))) (c .before .if1 .came) ∙ sym (ap told (c .refused2 .ensures))
+    ⊎-elim (λ w. early (rw (ne-eqb _ _ (w .taken))))
+    (λ w. early (rw (eq-eqb _ _ (w .0 .left)) (not-true _ (w .2 .taken))))
+    (c .before .if1 .came)
+    ∙ sym (ap told (c .refused2 .ensures))
 
 returns-3 : tie.Need-returns-3
 returns-3 c p offset words tracks =

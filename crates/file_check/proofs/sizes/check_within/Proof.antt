@@ -50,7 +50,8 @@ returns-2 : tie.Need-returns-2 Inv-loop μ-loop
 returns-2 c =
     let verdict = c .before .before .before .before .before in
     let turn = verdict .before .before .before .before .before in
-    walk-stops (turn .loop .inv) (verdict .before .before .before .before .loop-test .taken) (verdict .before .before .before .next-section .ensures)
+    walk-stops (turn .loop .inv) (verdict .before .before .before .before .loop-test .taken)
+    (verdict .before .before .before .next-section .ensures)
     _ _ (verdict .check-section .ensures _ (turn .loop .inv .tracks)) (c .before .before .said .given .1) (turn .before .before .if1 .left)
     ∙ sym (ap told (c .refused2 .ensures))
 
@@ -65,7 +66,11 @@ add-offset c =
 loop-less : tie.Need-loop-less Inv-loop μ-loop
 loop-less c =
     let walked = c .before .before .before .before .before .before .before in
-    omega (arith, walked .before .loop-test .taken, walk-some (walked .before .before .loop .inv) (walked .before .loop-test .taken) (walked .next-section .ensures))
+    omega (
+      arith,
+      walked .before .loop-test .taken,
+      walk-some (walked .before .before .loop .inv) (walked .before .loop-test .taken) (walked .next-section .ensures),
+    )
 
 loop-again : tie.Need-loop-again Inv-loop μ-loop
 loop-again c =
