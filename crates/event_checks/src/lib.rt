@@ -9,7 +9,7 @@ ghost use mathlib.Core.Path.{_≡_};
 ghost use mathlib.Core.Bool.{_&&_, not};
 ghost use mathlib.Core.List.{[]};
 ghost use lib.Dec.{leb};
-ghost use Rattle.sections.specs.Decode.{statedEventSize, cutEvents};
+ghost use Rattle.sections.specs.Decode.{statedEventSize};
 ghost use Rattle.sections.specs.Cut.{cut};
 ghost use Rattle.sections.specs.JudgeEvents.{isInSegment, isFilledOrAlone};
 ghost use Rattle.codec.specs.Seen.{isSeen};
