@@ -1,5 +1,5 @@
--- The pass over an event loop, piece by piece: before each turn the pass over the whole loop is the pass over the rest (`PassSoFar`),
--- and each way on or out is decided by the tests of the event there. Assumes nothing.
+-- The pass over an event loop, piece by piece: before each turn the pass over the whole loop is the pass over the rest
+-- (`PassSoFar`), and each way on or out is decided by the tests of the event there. Assumes nothing.
 use mathlib.Core.Path.{_≡_, refl, sym, ap, ap₂, _∙_}
 use mathlib.Core.Bool.{Bool, true, false, not, _&&_}
 use mathlib.Core.List.{List, [], _∷_}

@@ -1,5 +1,5 @@
--- An event that is read whole is the next piece of its event loop, and its chain length leads to the piece behind it: its bytes are as
--- many as they state. Assumes nothing.
+-- An event that is read whole is the next piece of its event loop, and its chain length leads to the piece behind it: its bytes
+-- are as many as they state. Assumes nothing.
 use mathlib.Core.Path.{_≡_, sym, ap, subst, _∙_}
 use mathlib.Core.Logic.{⊎-elim}
 use mathlib.Core.Bool.{Bool, _&&_, _||_}

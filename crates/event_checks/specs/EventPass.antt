@@ -1,5 +1,6 @@
--- A pass over a section's events that keeps the least start that the next event may have, and the ids so far as a set (01, "The file of
--- sections": over the file starts rise strictly, ids differ). Laws: proofs/EventPassLaws.antt, proofs/EventKeptLaws.antt. Assumes nothing.
+-- A pass over a section's events that keeps the least start that the next event may have, and the ids so far as a set (01, "The
+-- file of sections": over the file starts rise strictly, ids differ). Laws: proofs/EventPassLaws.antt,
+-- proofs/EventKeptLaws.antt. Assumes nothing.
 use Prim.Native.Nat.{ℕ, _+_}
 use mathlib.Core.Bool.{Bool, true, false, not, _&&_}
 use mathlib.Core.List.{List, [], _∷_}

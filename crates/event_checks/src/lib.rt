@@ -1,8 +1,10 @@
 // A section's event loop: each event, and each beside all that came before (01, "The file of sections").
 use codec::seen;
 use eit::Record;
+use section_checks::frame::TABLE_LEAST;
 use section_checks::place;
 use section_codec::event;
+use section_codec::event::EVENT_OVERHEAD;
 use section_codec::event::EventRead;
 use section_codec::header::SectionHeader;
 ghost use mathlib.Core.Path.{_≡_};
@@ -28,15 +30,12 @@ pub struct EventCheck {
 // Seconds of a segment.
 const SEGMENT_SECONDS: u32 = 10_800;
 
-// Bytes of an event before its chain.
-const EVENT_OVERHEAD: usize = 12;
-
 // An event starts in its section's segment.
 fn is_in_segment(header: SectionHeader, start: u32) -> bool
     ensures { λ r. ⌜ r ≡ isInSegment (heldHeader header) start ⌝ }
 {
     let index = start / SEGMENT_SECONDS;
-    0x50 + index / 32 == header.table_id as u32
+    TABLE_LEAST + index / 32 == header.table_id as u32
         && 8 * (index % 32) == place::first_of(header.section_number)
 }
 
@@ -55,8 +54,8 @@ fn is_new(event: Record, least: u32, seen: &[u64]) -> bool
     least <= event.start && !seen::is_seen(seen, event.id)
 }
 
-// 24: every event of the loop passes, and follows those before, whose ids are in the set and which start before `least`. The ids of
-// the events that passed are added to the set.
+// 24: every event of the loop passes, and follows those before, whose ids are in the set and which start before `least`. The ids
+// of the events that passed are added to the set.
 pub fn check_events(
     events: &[u8],
     header: SectionHeader,

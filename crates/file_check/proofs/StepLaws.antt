@@ -1,5 +1,5 @@
--- The checks of one section in code, in their order, are the step of Read's definition: each test that fails is its refusal, and all
--- together are the way on. By the laws of each refusal (`step-20` to `step-26` of sections). Assumes nothing.
+-- The checks of one section in code, in their order, are the step of Read's definition: each test that fails is its refusal, and
+-- all together are the way on. By the laws of each refusal (`step-20` to `step-26` of sections). Assumes nothing.
 use mathlib.Core.Path.{_≡_, refl, sym, ap, ap₂, subst, _∙_}
 use mathlib.Core.Logic.{⊎-elim}
 use mathlib.Core.Bool.{Bool, true, false, not}

@@ -1,5 +1,5 @@
--- The walk over the sections, one after the other: before each turn the walk over the whole file is the walk over the sections from
--- the offset on (`WalkSoFar`), and what the code keeps is what the definition keeps. Assumes nothing.
+-- The walk over the sections, one after the other: before each turn the walk over the whole file is the walk over the sections
+-- from the offset on (`WalkSoFar`), and what the code keeps is what the definition keeps. Assumes nothing.
 use mathlib.Core.Path.{_≡_, refl, sym, ap, subst, _∙_}
 use mathlib.Core.List.{List, [], _∷_}
 use Prim.Native.Nat.{ℕ, _+_, _≤_, _<_}

@@ -1,5 +1,5 @@
--- What the code keeps on its walk over the sections, beside what Read's definition keeps (`Progress`). Laws: proofs/StepLaws.antt,
--- proofs/WalkLaws.antt. Assumes nothing.
+-- What the code keeps on its walk over the sections, beside what Read's definition keeps (`Progress`). Laws:
+-- proofs/StepLaws.antt, proofs/WalkLaws.antt. Assumes nothing.
 use mathlib.Core.Path.{_≡_}
 use mathlib.Core.List.{List}
 use Prim.Native.Nat.{ℕ}
@@ -19,7 +19,8 @@ pub record Tracks (offset : ℕ) (state : WalkState) (words : List ℕ) (p : Pro
   pub kept : KeptOf (state .least) words (p .seen)
   pub count-is : length (p .seen) ≡ state .count
 
--- the verdict on a section that ends at `end`, with the set of ids after it, is that of the definition
+-- the verdict on a section that ends at `end`, with the set of ids after it, is that of the definition; with a refusal the walk
+-- ends, and no one looks at the set again
 abbrev pub Said : ℕ → SectionVerdict → List ℕ → Verdict → Type 0
 Said end (Passed state) words v = (q : Progress) × (v ≡ passed q) × Tracks end state words q
 Said end (Refused answer) words v = (v ≡ refused (answerNumber answer) (answerValue answer)) × (answerCount answer ≡ 0)

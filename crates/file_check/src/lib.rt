@@ -1,4 +1,5 @@
-// Read without a record buffer (01, "Build, Read", "When a call says no"): check. It looks at every section once, and writes nothing.
+// Read without a record buffer (01, "Build, Read", "When a call says no"): check. It looks at every section once, and writes
+// nothing.
 use read_answer::CheckedFile;
 ghost use mathlib.Core.Path.{_≡_};
 ghost use Rattle.eit.specs.Sizes.{broadcast};

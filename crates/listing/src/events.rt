@@ -8,7 +8,7 @@ ghost use Rattle.sections.specs.Decode.{statedEventSize, cutEvents};
 const EVENT_OVERHEAD: usize = 12;
 
 // How many bytes the event at the front of the bytes has, by its chain length.
-fn stated_size(bytes: &[u8]) -> usize
+fn stated_event_size(bytes: &[u8]) -> usize
     ensures { λ r. ⌜ r ≡ statedEventSize (now (bytes .entry)) ⌝ }
 {
     EVENT_OVERHEAD + (fields::read_field(bytes, 10, 2) % 0x1000) as usize
@@ -21,7 +21,7 @@ pub fn count_events(section: &[u8]) -> usize
     let mut at = 0;
     let mut n = 0;
     while at < events.len() {
-        at += stated_size(&events[at..]);
+        at += stated_event_size(&events[at..]);
         n += 1;
     }
     n

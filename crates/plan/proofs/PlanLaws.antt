@@ -15,7 +15,8 @@ use Rattle.schedule.proofs.Build.{build-is, written-fits}
 use Rattle.listing.specs.Fill.{Fills}
 use Rattle.listing.specs.Listing.{listing, refusedText, tooLong}
 use Rattle.listing.proofs.FillLaws.{filled-whole, filled-same}
-use Rattle.plan.specs.PlanText.{scriptMost, outputSize, bufferSize, noPools, baseDay, noIdentity}
+use Rattle.sections.specs.Read.{noIdentity}
+use Rattle.plan.specs.PlanText.{scriptMost, outputSize, bufferSize, noPools, baseDay}
 use Rattle.plan.specs.PlanText.{builtText, listText, editedText, textWithin, planText, textMost, Written}
 
 -- ---- a list

@@ -7,8 +7,8 @@ use lib.ListN.{length, replicate}
 use Rattle.eit.specs.Sizes.{broadcast}
 use Rattle.eit.specs.Pools.{Pools, lentPools}
 use Rattle.eit.specs.Records.{EventList, lentList}
-use Rattle.eit.specs.declared.Identity.{Identity}
 use Rattle.script.specs.Edit.{Edited, edit}
+use Rattle.sections.specs.Read.{noIdentity}
 use Rattle.schedule.specs.Build.{Built, build, fileOf}
 use Rattle.listing.specs.Fill.{Fills}
 use Rattle.listing.specs.Listing.{listing, refusedText, tooLong}
@@ -28,12 +28,9 @@ bufferSize = 12_288
 abbrev pub noPools : Pools
 noPools = lentPools [] []
 
--- "base day 49,273, ids and version 0"
+-- "base day 49,273, ids and version 0" (`noIdentity`)
 abbrev pub baseDay : ℕ
 baseDay = 49_273
-
-abbrev pub noIdentity : Identity
-noIdentity = record { «service_id» = 0; «transport_stream_id» = 0; «original_network_id» = 0; version = 0 }
 
 -- the text for a list, with this output: the listing of Build's file, or its refusal
 unfoldable pub builtText : Built → List ℕ

@@ -109,5 +109,7 @@ fn main() {
     };
     let mut text = [0u8; TEXT_SIZE];
     let n = plan_text(&script[..size], &mut text);
-    io::write_all(STDOUT_FILENO, &text[..n]);
+    if !io::write_all(STDOUT_FILENO, &text[..n]) {
+        io::write_all(STDERR_FILENO, b"plan: standard output cannot be written\n");
+    }
 }

@@ -1,5 +1,5 @@
--- What Read says, by what check has said: a refusal stays one, and of an accepted file the record buffer is short or long enough. By the
--- cases of Read's definition. Assumes nothing.
+-- What Read says, by what check has said: a refusal stays one, and of an accepted file the record buffer is short or long
+-- enough. By the cases of Read's definition. Assumes nothing.
 use mathlib.Core.Path.{_≡_, sym, ap, _∙_}
 use mathlib.Core.List.{List}
 use Prim.Native.Nat.{ℕ, _*_, _/_, _≤_, _<_}

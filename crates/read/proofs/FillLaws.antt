@@ -1,5 +1,5 @@
--- The records of an event loop, written one behind the other: what is left to write shrinks with each event (`Left` of codec), and each
--- piece that is left is an event. Assumes nothing.
+-- The records of an event loop, written one behind the other: what is left to write shrinks with each event (`Left` of codec),
+-- and each piece that is left is an event. Assumes nothing.
 use mathlib.Core.Path.{_≡_, refl, sym, ap, ap₂, subst, _∙_}
 use mathlib.Core.Bool.{false}
 use mathlib.Core.List.{List, [], _∷_, _++_, map}

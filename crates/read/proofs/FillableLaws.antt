@@ -1,5 +1,5 @@
--- Every section of an accepted file can be filled in, and its offsets have 32 bits: what passed is the bytes of the section that it shows
--- (`section-forth`), and a file has at most 16 × 256 × 4,096 bytes (`accepted-size`). Assumes nothing.
+-- Every section of an accepted file can be filled in, and its offsets have 32 bits: what passed is the bytes of the section that
+-- it shows (`section-forth`), and a file has at most 16 × 256 × 4,096 bytes (`accepted-size`). Assumes nothing.
 use mathlib.Core.Path.{_≡_, sym, ap, subst, _∙_}
 use mathlib.Core.List.{List, [], _∷_, flatten}
 use Prim.Native.Nat.{ℕ, _^_, _<_}

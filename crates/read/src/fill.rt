@@ -2,7 +2,9 @@
 use eit::Record;
 use event_list::place;
 use section_codec::event;
+use section_codec::event::EVENT_OVERHEAD;
 use section_codec::event::EventRead;
+use section_codec::header::HEADER_SIZE;
 ghost use mathlib.Core.Path.{_≡_};
 ghost use mathlib.Core.List.{map};
 ghost use Prim.Native.Nat.{_+_, _*_, _^_, _≤_, _<_};
@@ -15,11 +17,6 @@ ghost use Rattle.sections.specs.Every.{Every};
 ghost use Rattle.sections.specs.Places.{recordsAt};
 ghost use Rattle.sections.specs.Read.{fileRecords};
 ghost use Rattle.read.specs.Fillable.{AreEvents, Fillable};
-
-// Bytes of a section before its events, and of an event before its chain.
-const HEADER_SIZE: usize = 14;
-
-const EVENT_OVERHEAD: usize = 12;
 
 // The records of an event loop that begins at `from` in the file, written from record `place` on. Returns the place behind them.
 fn fill_events(

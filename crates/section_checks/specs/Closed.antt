@@ -1,5 +1,5 @@
--- CRC_32 over a section by a lent table (01, "The file of sections": over the whole section it leaves 0). Law: proofs/ClosedLaws.antt.
--- Assumes nothing.
+-- CRC_32 over a section by a lent table (01, "The file of sections": over the whole section it leaves 0). Law:
+-- proofs/ClosedLaws.antt. Assumes nothing.
 use Prim.Native.Nat.{ℕ}
 use mathlib.Core.Bool.{Bool}
 use mathlib.Core.List.{List}

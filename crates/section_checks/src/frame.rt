@@ -7,7 +7,7 @@ ghost use Rattle.sections.specs.JudgeHeader.{isTable, isFramed};
 ghost use Rattle.section_checks.specs.Closed.{isClosedBy};
 
 // table_id, 0x50 to 0x5F.
-const TABLE_LEAST: u32 = 0x50;
+pub const TABLE_LEAST: u32 = 0x50;
 
 const TABLE_MOST: u32 = 0x5F;
 

@@ -1,5 +1,6 @@
 // A section's numbers, and its place behind the section before it (01, "The file of sections"): S is section_number, G is
 // segment_last_section_number, L is last_section_number.
+use crate::frame::TABLE_LEAST;
 use crate::header::Kept;
 use section_codec::header::SectionHeader;
 ghost use mathlib.Core.Path.{_≡_};
@@ -8,9 +9,6 @@ ghost use mathlib.Core.Option.{some};
 ghost use Rattle.sections.specs.Segment.{firstOf};
 ghost use Rattle.sections.specs.JudgeHeader.{isNumbered, isAt, isNext, isInPlace};
 ghost use Rattle.section_checks.specs.Kept.{keptHeader};
-
-// table_id of the first table.
-const TABLE_FIRST: u32 = 0x50;
 
 // s0 = S − S mod 8: the first section of the segment that S belongs to.
 pub fn first_of(number: u8) -> u32
@@ -71,7 +69,7 @@ fn is_next(before: Kept, header: SectionHeader) -> bool
     ensures { λ r. ⌜ r ≡ isNext (keptHeader before) (heldHeader header) ⌝ }
 {
     match before {
-        Kept::Nothing => header.table_id as u32 == TABLE_FIRST && header.section_number == 0,
+        Kept::Nothing => header.table_id as u32 == TABLE_LEAST && header.section_number == 0,
         Kept::Header(last) => is_behind(last, header),
     }
 }

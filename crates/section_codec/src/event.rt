@@ -22,7 +22,7 @@ pub enum EventRead {
 }
 
 // Bytes of an event before its chain.
-const OVERHEAD: usize = 12;
+pub const EVENT_OVERHEAD: usize = 12;
 
 // running_status, 5 for off air, and free_CA, above the 12 bits of a chain length.
 fn status_bits(marks: u32) -> usize
@@ -52,14 +52,14 @@ pub fn write_event(out: &mut [u8], at: usize, base_day: u32, event: Record, chai
         now (out .exit)
         ≡ writeAt (now (out .entry)) at (eventBytes «base_day» (eventWith event (now (chain .entry)))) ⌝ }
 {
-    if !fields::is_within(out.len(), at, OVERHEAD + chain.len()) {
+    if !fields::is_within(out.len(), at, EVENT_OVERHEAD + chain.len()) {
         return;
     }
     fields::write_field(out, at, 2, event.id as usize);
     time_codec::write_start(out, at + 2, base_day, event.start);
     time_codec::write_duration(out, at + 7, event.duration);
     fields::write_field(out, at + 10, 2, status_bits(event.marks) + chain.len());
-    write_chain(out, at + OVERHEAD, chain);
+    write_chain(out, at + EVENT_OVERHEAD, chain);
 }
 
 // running_status is 0, or 5 for off air.
@@ -74,7 +74,7 @@ pub fn read_event(bytes: &[u8], base_day: u32) -> EventRead
     ensures { λ r. ⌜ r ≡ eventRead «base_day» (now (bytes .entry)) ⌝ }
 {
     let word = fields::read_field(bytes, 10, 2);
-    let size = OVERHEAD + (word % 0x1000) as usize;
+    let size = EVENT_OVERHEAD + (word % 0x1000) as usize;
     if bytes.len() < size {
         return EventRead::Broken;
     }
@@ -88,7 +88,7 @@ pub fn read_event(bytes: &[u8], base_day: u32) -> EventRead
     let TimeRead::Seconds(duration) = time_codec::read_duration(bytes, 7) else {
         return EventRead::Broken;
     };
-    if !chain::is_chain(&bytes[OVERHEAD..size]) {
+    if !chain::is_chain(&bytes[EVENT_OVERHEAD..size]) {
         return EventRead::Broken;
     }
     EventRead::Whole(Record {
@@ -96,7 +96,7 @@ pub fn read_event(bytes: &[u8], base_day: u32) -> EventRead
         start,
         duration,
         marks: word / 0x1000 % 2 + status / 5 * 4,
-        offset: OVERHEAD as u32,
+        offset: EVENT_OVERHEAD as u32,
         chain_length: word % 0x1000,
     })
 }

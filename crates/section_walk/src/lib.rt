@@ -48,7 +48,8 @@ pub fn section<'a>(reader: SectionReader<'a>) -> &'a [u8]
     section_at(reader.file, reader.offset)
 }
 
-// The section at an offset of a file, through the reader.
+// The section at an offset of a file, through the reader: the form that 01 names, with plain parameters. Loops go on through it,
+// from the offset behind the section.
 pub fn next_section<'a>(file: &'a [u8], offset: usize) -> &'a [u8]
     ensures { λ r. ⌜ now r ≡ sectionAt (now (file .entry)) offset ⌝ }
 {

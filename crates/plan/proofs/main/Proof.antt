@@ -64,8 +64,17 @@ slice-aggregate-write-all-2 c =
 write-all-requires-2 : tie.Need-write-all-requires-2
 write-all-requires-2 c κs = search needs
 
+slice-aggregate-write-all-3 : tie.Need-slice-aggregate-write-all-3
+slice-aggregate-write-all-3 c = search needs
+
+write-all-requires-3 : tie.Need-write-all-requires-3
+write-all-requires-3 c κs = search needs
+
 returns-2 : tie.Need-returns-2
 returns-2 c = search needs
+
+returns-3 : tie.Need-returns-3
+returns-3 c = search needs
 
 pub main-spec : {M : Type 1} → statement M
 main-spec =
@@ -85,4 +94,7 @@ main-spec =
     array-share-prefix-text
     slice-aggregate-write-all-2
     write-all-requires-2
-    returns-2)
+    slice-aggregate-write-all-3
+    write-all-requires-3
+    returns-2
+    returns-3)

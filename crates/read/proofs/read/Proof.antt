@@ -6,7 +6,6 @@ use Rattle.read_answer.specs.declared.CheckedFile.{CheckedFile}
 use Rattle.read.specs.ReadTold.{readTold}
 use Rattle.read.proofs.FillableLaws.{accepted-fills, accepted-below}
 use Rattle.read.proofs.AnswerLaws.{read-stops, accepted, read-27, records-fit, read-fills}
-use native.Mathlib.Omega.{arith}
 use borrow.Author.Needs.{needs}
 use Rattle.read.proofs.read.Statement.{statement}
 use Rattle.read.proofs.read.Tie as tie

@@ -1,5 +1,5 @@
--- `section::check_section` meets its contract: each check that fails is its refusal, and all together are the way on (`StepLaws`).
--- Assumes nothing.
+-- `section::check_section` meets its contract: each check that fails is its refusal, and all together are the way on
+-- (`StepLaws`). Assumes nothing.
 use mathlib.Core.Path.{_≡_, refl, sym, ap, _∙_}
 use mathlib.Core.Logic.{⊎-elim}
 use mathlib.Core.List.{List}

@@ -4,7 +4,6 @@ use mathlib.Core.Logic.{⊎-elim}
 use borrow.Author.Tests.{eq-eqb, ne-eqb, not-true, not-false}
 use Rattle.read_answer.specs.Told.{told}
 use Rattle.file_check.proofs.EndLaws.{ends-empty, ends-early, ends-whole}
-use native.Mathlib.Omega.{arith}
 use borrow.Author.Needs.{needs}
 use Rattle.file_check.proofs.sizes.at_end.Statement.{statement}
 use Rattle.file_check.proofs.sizes.at_end.Tie as tie

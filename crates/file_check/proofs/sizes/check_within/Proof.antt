@@ -1,5 +1,5 @@
--- `sizes::check_within` meets its contract: before each turn the walk stands as `WalkSoFar` says. The measure is what is left of the
--- file. Assumes nothing.
+-- `sizes::check_within` meets its contract: before each turn the walk stands as `WalkSoFar` says. The measure is what is left of
+-- the file. Assumes nothing.
 use mathlib.Core.Path.{sym, ap, _∙_}
 use Prim.Native.Nat.{_-_}
 use lib.ListN.{length}

@@ -21,32 +21,32 @@ event-loop-requires c κs = search needs
 loop-holds : tie.Need-loop-holds Inv-loop μ-loop
 loop-holds c = (omega arith, omega arith)
 
-sub-stated-size : tie.Need-sub-stated-size Inv-loop μ-loop
-sub-stated-size c = search needs
+sub-stated-event-size : tie.Need-sub-stated-event-size Inv-loop μ-loop
+sub-stated-event-size c = search needs
 
-part-stated-size-start : tie.Need-part-stated-size-start Inv-loop μ-loop
-part-stated-size-start c = search needs
+part-stated-event-size-start : tie.Need-part-stated-event-size-start Inv-loop μ-loop
+part-stated-event-size-start c = search needs
 
-part-stated-size-end : tie.Need-part-stated-size-end Inv-loop μ-loop
-part-stated-size-end c = search needs
+part-stated-event-size-end : tie.Need-part-stated-event-size-end Inv-loop μ-loop
+part-stated-event-size-end c = search needs
 
-stated-size-requires : tie.Need-stated-size-requires Inv-loop μ-loop
-stated-size-requires c κs = search needs
+stated-event-size-requires : tie.Need-stated-event-size-requires Inv-loop μ-loop
+stated-event-size-requires c κs = search needs
 
 add-at : tie.Need-add-at Inv-loop μ-loop
-add-at c = omega (arith, c .stated-size .ensures)
+add-at c = omega (arith, c .stated-event-size .ensures)
 
 add-n : tie.Need-add-n Inv-loop μ-loop
 add-n c = omega arith
 
 loop-less : tie.Need-loop-less Inv-loop μ-loop
-loop-less c = omega (arith, c .stated-size .ensures)
+loop-less c = omega (arith, c .stated-event-size .ensures)
 
 loop-again : tie.Need-loop-again Inv-loop μ-loop
 loop-again c =
     let turn = c .before .before .before .loop in (
-      omega (arith, c .stated-size .ensures),
-      count-next _ (turn .at) (turn .n) (turn .inv .1) (omega arith) (c .stated-size .ensures),
+      omega (arith, c .stated-event-size .ensures),
+      count-next _ (turn .at) (turn .n) (turn .inv .1) (omega arith) (c .stated-event-size .ensures),
     )
 
 returns : tie.Need-returns Inv-loop μ-loop
@@ -65,10 +65,10 @@ count-events-spec =
     μ-loop
     event-loop-requires
     loop-holds
-    sub-stated-size
-    part-stated-size-start
-    part-stated-size-end
-    stated-size-requires
+    sub-stated-event-size
+    part-stated-event-size-start
+    part-stated-event-size-end
+    stated-event-size-requires
     add-at
     add-n
     loop-less

@@ -1,5 +1,5 @@
--- `fill::fill_events` meets its contract: before each turn the records are filled in as `FillSoFar` says. The measure is what is left of
--- the loop. Assumes nothing.
+-- `fill::fill_events` meets its contract: before each turn the records are filled in as `FillSoFar` says. The measure is what is
+-- left of the loop. Assumes nothing.
 use mathlib.Core.Path.{_≡_, refl, sym, ap, _∙_}
 use denote.Ref.{now}
 use Rattle.eit.specs.Records.{recordSize}
