@@ -1,5 +1,5 @@
 // The walk over the sections of a file (01, "Build, Read": "The walk is a reader that carries the borrowed file and an offset").
-// Who walks keeps the offset, and gets each section through `next_section`.
+// Who walks keeps the offset, and gets each section through `next_section`, and through `event_loop` the bytes of its events.
 use codec::fields;
 ghost use mathlib.Core.Path.{_≡_};
 ghost use Rattle.sections.specs.Decode.{statedSectionSize, eventLoop};
