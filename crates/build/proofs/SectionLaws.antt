@@ -20,10 +20,10 @@ use Rattle.sections.proofs.RowBytes.{loop-none, loop-more}
 use Rattle.sections.proofs.SectionBack.{section-is, covered-is}
 use Rattle.sections.proofs.Lengths.{event-length, header-length, covered-length}
 use Rattle.codec.specs.Write.{writeAt}
-use Rattle.crc_codec.specs.CrcTable.{crcTable, crcBy}
+use Rattle.crc_codec.specs.CrcTables.{crcTables, crcBy}
 use Rattle.codec.proofs.WriteLaws.{write-fits}
 use Rattle.codec.proofs.LeftLaws.{Left, left-fits, left-more, left-end}
-use Rattle.crc_codec.proofs.CrcLaws.{crc32-by-table}
+use Rattle.crc_codec.proofs.BlockLaws.{crc32-by-tables}
 use Rattle.section_counts.specs.Between.{eventsBetween}
 use Rattle.section_counts.proofs.BetweenLaws.{between-more, between-end}
 
@@ -86,17 +86,17 @@ module _ (base : ℕ) (s : Section) (d : List ℕ) (at : ℕ) {size : ℕ} (is-s
         over-then d at head loop first (filled ∙ ap (λ (k : ℕ). overwrite d₁ k loop) seam) (omega arith)
         ∙ ap (overwrite d at) (rw is-size (sym (covered-is base s)))
 
-    -- and CRC_32 over them, by the table
-    pub section-written : {d₁ d₂ d₃ table : List ℕ} {end register : ℕ}
+    -- and CRC_32 over them, by the tables
+    pub section-written : {d₁ d₂ d₃ tables : List ℕ} {end register : ℕ}
         → d₁ ≡ writeAt d at (headerBytes size (s .header))
         → d₂ ≡ overwrite d₁ (at + headerSize) (eventLoopBytes base (s .events))
         → end ≡ at + headerSize + eventSizes (s .events)
         → Bytes d₂
-        → table ≡ crcTable
-        → register ≡ crcBy table crcFirst (take (end - at) (drop at d₂))
+        → tables ≡ crcTables
+        → register ≡ crcBy tables crcFirst (take (end - at) (drop at d₂))
         → d₃ ≡ writeAt d₂ end (bigEndian 4 register)
         → d₃ ≡ overwrite d at (sectionBytes base s)
-    section-written {d₁} {d₂} {d₃} {table} {end} {register} headed filled ends bytes is-table summed closed =
+    section-written {d₁} {d₂} {d₃} {tables} {end} {register} headed filled ends bytes are-tables summed closed =
         let covered : List ℕ = coveredBytes base s in
         let width : length covered ≡ headerSize + eventSizes (s .events) = covered-length base s in
         let written : d₂ ≡ overwrite d at covered = covered-written headed filled in
@@ -107,8 +107,8 @@ module _ (base : ℕ) (s : Section) (d : List ℕ) (at : ℕ) {size : ℕ} (is-s
         ap₂ (λ (n : ℕ) (l : List ℕ). take n (drop at l)) run written ∙ over-within d at covered (omega arith) in
         let sum : register ≡ crc32 covered =
         summed
-        ∙ ap (λ (t : List ℕ). crcBy t crcFirst slice) is-table
-        ∙ crc32-by-table slice (bytes-take (end - at) (drop at d₂) (bytes-drop at d₂ bytes))
+        ∙ ap (λ (t : List ℕ). crcBy t crcFirst slice) are-tables
+        ∙ crc32-by-tables slice (bytes-take (end - at) (drop at d₂) (bytes-drop at d₂ bytes))
         ∙ ap crc32 seen in
         let seam : end ≡ at + length covered = omega arith in
         let last : d₃ ≡ overwrite d₂ (at + length covered) (bigEndian 4 (crc32 covered)) =

@@ -18,7 +18,7 @@ ghost use Rattle.eit.specs.Records.{recordsIn};
 ghost use Rattle.eit.specs.Events.{eventsIn};
 ghost use Rattle.sections.specs.Section.{sectionSizes};
 ghost use Rattle.sections.specs.Encode.{fileBytes};
-ghost use Rattle.crc_codec.specs.CrcTable.{crcTable};
+ghost use Rattle.crc_codec.specs.CrcTables.{crcTables};
 ghost use Rattle.section_codec.specs.HeaderRead.{heldHeader};
 ghost use Rattle.section_counts.specs.Between.{eventsBetween};
 ghost use Rattle.schedule.specs.SectionsOf.{sectionsOf};
@@ -45,7 +45,7 @@ fn write_segment<'a>(
     day: &'a [u8],
     series: &'a [u8],
     room: u16,
-    table: &[u32; 256],
+    crc_tables: &[u32; 2048],
 ) -> usize
     requires { ⌜
         (at
@@ -53,7 +53,7 @@ fn write_segment<'a>(
         (sectionsFrom room (heldHeader first) sections (eventsBetween (lentPools (now day) (now series)) (now list) from end))
         ≤ length (now out))
         × (first .«section_number» + sections ≤ 256)
-        × (now table ≡ crcTable) ⌝ }
+        × (now «crc_tables» ≡ crcTables) ⌝ }
     ensures { λ r. ⌜
         (now (out .exit)
         ≡ overwrite (now (out .entry)) at
@@ -85,7 +85,7 @@ fn write_segment<'a>(
             taken.to,
             day,
             series,
-            table,
+            crc_tables,
         );
         place += size;
         next = taken.to;
@@ -151,7 +151,7 @@ pub fn write_file<'a>(
         (eventsIn (lentPools (now (day .entry)) (now (series .entry))) (recordsIn count (now (list .entry)))))) ⌝ }
 {
     let room = count::room_of(section_size);
-    let table = crc_codec::table();
+    let crc_tables = crc_codec::tables();
     let last_table_id = (TABLE_LEAST + segment::last_index(list, count) / TABLE_SEGMENTS) as u8;
     let mut last: u8 = 0;
     let mut at = 0;
@@ -177,7 +177,7 @@ pub fn write_file<'a>(
                 day,
                 series,
                 room,
-                &table,
+                &crc_tables,
             );
             from = end;
         }

@@ -16,7 +16,7 @@ ghost use Rattle.eit.specs.Overwrite.{overwrite};
 ghost use Rattle.eit.specs.Pools.{lentPools};
 ghost use Rattle.sections.specs.Section.{eventSizes};
 ghost use Rattle.sections.specs.Encode.{eventLoopBytes, sectionBytes};
-ghost use Rattle.crc_codec.specs.CrcTable.{crcTable};
+ghost use Rattle.crc_codec.specs.CrcTables.{crcTables};
 ghost use Rattle.section_counts.specs.Between.{eventsBetween};
 ghost use Rattle.build.specs.Sections.{sectionOf, sectionSizeOf};
 
@@ -65,12 +65,12 @@ pub fn write_section<'a>(
     to: usize,
     day: &'a [u8],
     series: &'a [u8],
-    table: &[u32; 256],
+    crc_tables: &[u32; 2048],
 )
     requires { ⌜
         (size ≡ sectionSizeOf (eventsBetween (lentPools (now day) (now series)) (now list) from to))
         × (at + size ≤ length (now out))
-        × (now table ≡ crcTable) ⌝ }
+        × (now «crc_tables» ≡ crcTables) ⌝ }
     ensures { λ _. ⌜
         now (out .exit)
         ≡ overwrite (now (out .entry)) at
@@ -79,6 +79,6 @@ pub fn write_section<'a>(
 {
     header::write_header(out, at, size, header);
     let end = write_events(out, at + HEADER_SIZE, base_day, list, from, to, day, series);
-    let crc = crc_codec::crc_by(table, CRC_FIRST, &out[at..end]);
+    let crc = crc_codec::crc_by(crc_tables, CRC_FIRST, &out[at..end]);
     fields::write_field(out, end, CRC_SIZE, crc as usize);
 }

@@ -1,3 +1,7 @@
 -- Laws of this crate's definitions, and the proofs of its functions.
--- CRC_32 by the table
-pub mod CrcLaws
+-- two lists of numbers are the same, computed
+pub mod SameList
+-- what the tables hold
+pub mod TableLaws
+-- CRC_32 by the tables, block after block
+pub mod BlockLaws

@@ -23,7 +23,7 @@ use Rattle.sections.specs.Walk.{Progress, behind, refused, step}
 use Rattle.sections.proofs.Walk.{step-passes}
 use Rattle.sections.proofs.Answers.{step-20, step-21, step-22, step-23, step-24, step-26}
 use Rattle.sections.proofs.Order.{seen-length}
-use Rattle.crc_codec.specs.CrcTable.{crcTable}
+use Rattle.crc_codec.specs.CrcTables.{crcTables}
 use Rattle.section_codec.specs.HeaderRead.{heldHeader}
 use Rattle.section_codec.specs.declared.header.SectionHeader.{SectionHeader}
 use Rattle.section_checks.specs.Closed.{isClosedBy}
@@ -32,7 +32,7 @@ use Rattle.event_checks.specs.EventPass.{EventPass, checkedEvents, passOf}
 use Rattle.event_checks.specs.EventsKept.{KeptOf}
 use Rattle.section_checks.specs.declared.header.Kept.the-variants.{Header as Behind, Nothing}
 use Rattle.event_checks.specs.declared.EventCheck.{EventCheck}
-use Rattle.section_checks.proofs.ClosedLaws.{closed-by-table}
+use Rattle.section_checks.proofs.ClosedLaws.{closed-by-tables}
 use Rattle.event_checks.proofs.EventKeptLaws.{loop-checked, loop-kept}
 use Rattle.file_check.specs.Tracks.{Tracks, Said}
 use Rattle.file_check.specs.declared.section.WalkState.{WalkState}
@@ -86,17 +86,17 @@ module _ {offset : ℕ} {state : WalkState} {words : List ℕ} {p : Progress} (t
   says-20 made is = at-offset (step-20 sizes base p bs (fails (made ∙ same-frame) is))
 
   module _ (bytes : Bytes bs) {framed : Bool} (frame : framed ≡ isFramed (sectionsUpTo size) bs) (frame-holds : framed ≡ true)
-      {table : List ℕ} (right : table ≡ crcTable) where
+      {tables : List ℕ} (right : tables ≡ crcTables) where
     is-framed : T (isFramed sizes bs)
     is-framed = holds (frame ∙ same-frame) frame-holds
 
-    same-crc : isClosedBy table bs ≡ isClosed bs
-    same-crc = ap (λ (t : List ℕ). isClosedBy t bs) right ∙ closed-by-table bs bytes
+    same-crc : isClosedBy tables bs ≡ isClosed bs
+    same-crc = ap (λ (t : List ℕ). isClosedBy t bs) right ∙ closed-by-tables bs bytes
 
-    pub says-21 : {closed : Bool} → closed ≡ isClosedBy table bs → closed ≡ false → step sizes base p bs ≡ refused 21 offset
+    pub says-21 : {closed : Bool} → closed ≡ isClosedBy tables bs → closed ≡ false → step sizes base p bs ≡ refused 21 offset
     says-21 made is = at-offset (step-21 sizes base p bs is-framed (fails (made ∙ same-crc) is))
 
-    module _ {closed : Bool} (crc : closed ≡ isClosedBy table bs) (crc-holds : closed ≡ true) where
+    module _ {closed : Bool} (crc : closed ≡ isClosedBy tables bs) (crc-holds : closed ≡ true) where
       is-closed : T (isClosed bs)
       is-closed = holds (crc ∙ same-crc) crc-holds
 

@@ -8,7 +8,7 @@ ghost use mathlib.Core.Path.{_≡_};
 ghost use Prim.Native.Nat.{_+_};
 ghost use lib.ListN.{length};
 ghost use Rattle.eit.specs.Sizes.{sized};
-ghost use Rattle.crc_codec.specs.CrcTable.{crcTable};
+ghost use Rattle.crc_codec.specs.CrcTables.{crcTables};
 ghost use Rattle.sections.specs.Walk.{Progress, step};
 ghost use Rattle.file_check.specs.Tracks.{Tracks, Said};
 
@@ -33,10 +33,10 @@ pub fn check_section(
     base_day: u32,
     section_size: usize,
     event_limit: usize,
-    table: &[u32; 256],
+    crc_tables: &[u32; 2048],
     seen: &mut [u64],
 ) -> SectionVerdict
-    requires { ⌜ now table ≡ crcTable ⌝ }
+    requires { ⌜ now «crc_tables» ≡ crcTables ⌝ }
     ensures { λ r. ⌜
         ((p : Progress) → Tracks offset state (now (seen .entry)) p
         → Said (offset + length (now (section .entry))) r (now (seen .exit))
@@ -45,7 +45,7 @@ pub fn check_section(
     if !frame::is_framed(section, section_size) {
         return SectionVerdict::Refused(ReadAnswer::Frame(offset));
     }
-    if !frame::is_closed(table, section) {
+    if !frame::is_closed(crc_tables, section) {
         return SectionVerdict::Refused(ReadAnswer::Crc(offset));
     }
     let before = state.before;

@@ -51,7 +51,7 @@ pub fn check_within(
     if BASE_DAY_MOST < base_day {
         return read_answer::refused(ReadAnswer::BaseDay);
     }
-    let table = crc_codec::table();
+    let crc_tables = crc_codec::tables();
     let mut seen = [0u64; SEEN_WORDS];
     let mut state = WalkState {
         before: Kept::Nothing,
@@ -68,7 +68,7 @@ pub fn check_within(
             base_day,
             section_size,
             event_limit,
-            &table,
+            &crc_tables,
             &mut seen,
         ) {
             SectionVerdict::Refused(said) => return read_answer::refused(said),

@@ -35,9 +35,9 @@ pub fn is_framed(section: &[u8], section_size: usize) -> bool
     is_table(fields::read_field(section, 0, 1))
 }
 
-// 21: over the whole section CRC_32 leaves 0, by the lent table.
-pub fn is_closed(table: &[u32; 256], section: &[u8]) -> bool
-    ensures { λ r. ⌜ r ≡ isClosedBy (now (table .entry)) (now (section .entry)) ⌝ }
+// 21: over the whole section CRC_32 leaves 0, by the lent tables.
+pub fn is_closed(crc_tables: &[u32; 2048], section: &[u8]) -> bool
+    ensures { λ r. ⌜ r ≡ isClosedBy (now («crc_tables» .entry)) (now (section .entry)) ⌝ }
 {
-    crc_codec::crc_by(table, CRC_FIRST, section) == 0
+    crc_codec::crc_by(crc_tables, CRC_FIRST, section) == 0
 }

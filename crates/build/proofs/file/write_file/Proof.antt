@@ -21,12 +21,12 @@ use Rattle.build.proofs.file.write_file.Statement.{statement}
 use Rattle.build.proofs.file.write_file.Tie as tie
 
 abbrev Inv-loop : tie.InvT-loop
-Inv-loop out₀ base-day identity list count day series section-size counts room table last-table-id last₀ at₀ from₀ index₀
+Inv-loop out₀ base-day identity list count day series section-size counts room crc-tables last-table-id last₀ at₀ from₀ index₀
     out last at from index =
     FileSoFar (lentPools day series) list count (sectionsUpTo section-size) identity base-day out₀ out last at from index
 
 abbrev μ-loop : tie.MeasureT-loop
-μ-loop out₀ base-day identity list count day series section-size counts room table last-table-id last₀ at₀ from₀ index₀
+μ-loop out₀ base-day identity list count day series section-size counts room crc-tables last-table-id last₀ at₀ from₀ index₀
     out last at from index =
     512 - index
 
@@ -47,8 +47,8 @@ events c = heldEvents (pools c) (now (c .args .list)) (c .args .count)
 room-of-requires : tie.Need-room-of-requires Inv-loop μ-loop
 room-of-requires c κs = search needs
 
-table-requires : tie.Need-table-requires Inv-loop μ-loop
-table-requires c κs = search needs
+tables-requires : tie.Need-tables-requires Inv-loop μ-loop
+tables-requires c κs = search needs
 
 last-index-requires : tie.Need-last-index-requires Inv-loop μ-loop
 last-index-requires c κs = search needs
@@ -109,7 +109,7 @@ write-segment-requires c κs =
       part-fits ps _ _ ready (turn .loop .inv) few some (ended .end-of .ensures ps) (turn .before .before .before .room-of .ensures)
           (table-last joined) (ap tableOf (turn .before .last-index .ensures ps)) (made .ensures),
       omega (arith, count-few ready (turn .loop .index) few, ap (λ (h : SectionHeader). h .«section_number») (made .ensures)),
-      turn .before .before .table .ensures,
+      turn .before .before .tables .ensures,
     )
 
 add-index : tie.Need-add-index Inv-loop μ-loop
@@ -146,7 +146,7 @@ write-file-spec =
     Inv-loop
     μ-loop
     room-of-requires
-    table-requires
+    tables-requires
     last-index-requires
     add-last-table-id
     cast-last-table-id

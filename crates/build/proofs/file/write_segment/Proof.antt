@@ -12,12 +12,12 @@ use Rattle.build.proofs.file.write_segment.Statement.{statement}
 use Rattle.build.proofs.file.write_segment.Tie as tie
 
 abbrev Inv-loop : tie.InvT-loop
-Inv-loop out₀ at first sections base-day list from end day series room table header₀ place₀ next₀ k₀ out
+Inv-loop out₀ at first sections base-day list from end day series room crc-tables header₀ place₀ next₀ k₀ out
     header place next k =
     SegmentSoFar (lentPools day series) list room first sections end base-day out₀ at from out header place next k
 
 abbrev μ-loop : tie.MeasureT-loop
-μ-loop out₀ at first sections base-day list from end day series room table header₀ place₀ next₀ k₀ out
+μ-loop out₀ at first sections base-day list from end day series room crc-tables header₀ place₀ next₀ k₀ out
     header place next k =
     sections - k
 

@@ -10,7 +10,7 @@ use Rattle.eit.specs.Fields.{Bytes}
 use Rattle.eit.proofs.Fields.{bytes-all}
 use Rattle.sections.specs.Decode.{statedEventSize, eventLoop}
 use Rattle.sections.specs.Cut.{cut}
-use Rattle.crc_codec.specs.CrcTable.{crcTable}
+use Rattle.crc_codec.specs.CrcTables.{crcTables}
 use Rattle.section_codec.specs.HeaderRead.{heldHeader}
 use Rattle.section_checks.specs.Kept.{keptHeader, checkedHeader}
 use Rattle.event_checks.specs.EventPass.{checkedEvents, passOf}
@@ -28,8 +28,8 @@ module _ (c : tie.After-is-framed) where
   section-bytes : Bytes (now (c .before .before .before .args .section))
   section-bytes = bytes-all (now (c .before .before .before .args .section)) (λ k. c .before .before .shared-slice-known .given k .fits)
 
-  lent-table : now (c .before .before .before .args .table) ≡ crcTable
-  lent-table = c .before .before .before .pre
+  lent-tables : now (c .before .before .before .args .crc-tables) ≡ crcTables
+  lent-tables = c .before .before .before .pre
 
 at-most : {m n k : ℕ} → m ≤ n → n < k → m < k
 at-most few fits = omega arith
@@ -71,7 +71,7 @@ returns-2 : tie.Need-returns-2
 returns-2 c p tracks =
     let framed = c .before .before .before in (
       says-21 tracks _ _ _ _ (section-bytes framed) (framed .is-framed .ensures) (not-false _ (c .before .before .if1 .left))
-          (lent-table framed) (c .before .is-closed .ensures) (not-true _ (c .if2 .taken)),
+          (lent-tables framed) (c .before .is-closed .ensures) (not-true _ (c .if2 .taken)),
       refl,
     )
 
@@ -89,7 +89,7 @@ returns-3 c p tracks =
     let kept = c .before .before in
     let closed = kept .before .before in
     let framed = closed .before .before in (
-      says-22 tracks _ _ _ _ (section-bytes framed) (framed .is-framed .ensures) (not-false _ (closed .before .if1 .left)) (lent-table framed)
+      says-22 tracks _ _ _ _ (section-bytes framed) (framed .is-framed .ensures) (not-false _ (closed .before .if1 .left)) (lent-tables framed)
           (closed .is-closed .ensures) (not-false _ (kept .before .if2 .left))
           (sym (ap keptHeader (c .enum-told .given .1)) ∙ kept .check-header .ensures),
       refl,
@@ -104,7 +104,7 @@ returns-4 c p tracks =
     let kept = placed .before .before .before .before in
     let closed = kept .before .before in
     let framed = closed .before .before in (
-      says-23 tracks _ _ _ _ (section-bytes framed) (framed .is-framed .ensures) (not-false _ (closed .before .if1 .left)) (lent-table framed)
+      says-23 tracks _ _ _ _ (section-bytes framed) (framed .is-framed .ensures) (not-false _ (closed .before .if1 .left)) (lent-tables framed)
           (closed .is-closed .ensures) (not-false _ (kept .before .if2 .left)) (header-kept placed)
           (placed .is-in-place .ensures) (not-true _ (c .if3 .taken)),
       refl,
@@ -127,7 +127,7 @@ returns-5 c p tracks =
     let kept = placed .before .before .before .before in
     let closed = kept .before .before in
     let framed = closed .before .before in (
-      says-24 tracks _ _ _ _ (section-bytes framed) (framed .is-framed .ensures) (not-false _ (closed .before .if1 .left)) (lent-table framed)
+      says-24 tracks _ _ _ _ (section-bytes framed) (framed .is-framed .ensures) (not-false _ (closed .before .if1 .left)) (lent-tables framed)
           (closed .is-closed .ensures) (not-false _ (kept .before .if2 .left)) (header-kept placed)
           (placed .is-in-place .ensures) (not-false _ (looped .before .if3 .left)) (events-checked checked)
           (not-true _ (c .if4 .taken)),
@@ -151,7 +151,7 @@ returns-6 c p tracks =
     ⊎-elim (λ w. omega (arith, w .taken))
     (λ w. omega (arith, w .0 .left, ltb-true (a .event-limit - checked .check-events .result .events) (a .state .count) (w .2 .taken)))
     (c .if5 .came) in (
-      says-26 tracks _ _ _ _ (section-bytes framed) (framed .is-framed .ensures) (not-false _ (closed .before .if1 .left)) (lent-table framed)
+      says-26 tracks _ _ _ _ (section-bytes framed) (framed .is-framed .ensures) (not-false _ (closed .before .if1 .left)) (lent-tables framed)
           (closed .is-closed .ensures) (not-false _ (kept .before .if2 .left)) (header-kept placed)
           (placed .is-in-place .ensures) (not-false _ (looped .before .if3 .left)) (events-checked checked)
           (not-false _ (whole .if4 .left)) many,
@@ -186,7 +186,7 @@ returns-7 c p tracks =
     let closed = kept .before .before in
     let framed = closed .before .before in
     let a = entry placed .args in
-    goes-on tracks _ _ _ _ (section-bytes framed) (framed .is-framed .ensures) (not-false _ (closed .before .if1 .left)) (lent-table framed)
+    goes-on tracks _ _ _ _ (section-bytes framed) (framed .is-framed .ensures) (not-false _ (closed .before .if1 .left)) (lent-tables framed)
     (closed .is-closed .ensures) (not-false _ (kept .before .if2 .left)) (header-kept placed)
     (placed .is-in-place .ensures) (not-false _ (looped .before .if3 .left)) (events-checked checked)
     (not-false _ (whole .if4 .left))

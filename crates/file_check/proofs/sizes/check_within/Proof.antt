@@ -13,11 +13,11 @@ use Rattle.file_check.proofs.sizes.check_within.Statement.{statement}
 use Rattle.file_check.proofs.sizes.check_within.Tie as tie
 
 abbrev Inv-loop : tie.InvT-loop
-Inv-loop file base-day section-size event-limit table seen₀ state₀ offset₀ seen state offset =
+Inv-loop file base-day section-size event-limit crc-tables seen₀ state₀ offset₀ seen state offset =
     WalkSoFar (sized section-size event-limit) base-day file seen state offset
 
 abbrev μ-loop : tie.MeasureT-loop
-μ-loop file base-day section-size event-limit table seen₀ state₀ offset₀ seen state offset = length file - offset
+μ-loop file base-day section-size event-limit crc-tables seen₀ state₀ offset₀ seen state offset = length file - offset
 
 refused-requires : tie.Need-refused-requires Inv-loop μ-loop
 refused-requires c κs = search needs
@@ -25,8 +25,8 @@ refused-requires c κs = search needs
 returns : tie.Need-returns Inv-loop μ-loop
 returns c = check-base _ _ _ (c .before .if1 .taken) ∙ sym (ap told (c .refused .ensures))
 
-table-requires : tie.Need-table-requires Inv-loop μ-loop
-table-requires c κs = search needs
+tables-requires : tie.Need-tables-requires Inv-loop μ-loop
+tables-requires c κs = search needs
 
 loop-holds : tie.Need-loop-holds Inv-loop μ-loop
 loop-holds c = walk-start _ _ _
@@ -97,7 +97,7 @@ check-within-spec =
     μ-loop
     refused-requires
     returns
-    table-requires
+    tables-requires
     loop-holds
     next-section-requires
     slice-aggregate-check-section

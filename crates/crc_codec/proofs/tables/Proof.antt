@@ -1,0 +1,13 @@
+-- `crc_codec::tables` meets its contract: each of the 2,048 entries, computed. Assumes nothing.
+use Rattle.eit.specs.Crc.{crcBit, crcBits}
+use Rattle.crc_codec.specs.CrcTables.{crcTables}
+use Rattle.crc_codec.proofs.SameList.{same-list}
+use Rattle.crc_codec.proofs.tables.Statement.{statement}
+use Rattle.crc_codec.proofs.tables.Tie as tie
+
+returns : tie.Need-returns
+unfolding crcTables crcBits crcBit
+returns c = same-list _ _ tt
+
+pub tables-spec : {M : Type 1} → statement M
+tables-spec = tie.close (tie.spec returns)
