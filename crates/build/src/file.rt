@@ -1,9 +1,9 @@
 // The file written: its segments one behind the other (01, "The file of sections", "Build, Read").
 use crate::section;
 use eit::Identity;
+use eit::sizes::SECTION_OVERHEAD;
 use section_codec::header::SectionHeader;
 use section_counts::count;
-use section_counts::count::SECTION_OVERHEAD;
 use section_counts::cut;
 use section_counts::segment;
 use section_counts::segment::SEGMENTS;

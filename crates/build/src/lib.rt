@@ -1,6 +1,7 @@
 // Plan and Build (01, "Build, Read").
 use build_answer::BuildAnswer;
 use eit::Identity;
+use eit::sizes::EVENT_LIMIT;
 ghost use mathlib.Core.Path.{_≡_};
 ghost use Rattle.eit.specs.Sizes.{broadcast};
 ghost use Rattle.eit.specs.Pools.{lentPools};
@@ -13,10 +14,8 @@ mod file;
 mod section;
 mod sizes;
 
-// Bytes of a section at most (01, "The file of sections"), and events in a list at most ("Event record and sound list").
+// Bytes of a section at most (01, "The file of sections").
 const SECTION_SIZE: u16 = 4_096;
-
-const EVENT_LIMIT: usize = 2_048;
 
 // 01's Plan: sixteen tables of thirty-two section counts, each that of the definition.
 pub fn plan<'a>(list: &[u32], count: usize, day: &'a [u8], series: &'a [u8]) -> [[u8; 32]; 16]

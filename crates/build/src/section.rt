@@ -3,12 +3,13 @@
 use codec::fields;
 use codec::pools;
 use crc_codec::CRC_FIRST;
+use eit::sizes::CRC_SIZE;
+use eit::sizes::EVENT_OVERHEAD;
+use eit::sizes::HEADER_SIZE;
 use event_list::records;
 use section_codec::event;
 use section_codec::header;
-use section_codec::header::HEADER_SIZE;
 use section_codec::header::SectionHeader;
-use section_counts::cut::EVENT_OVERHEAD;
 ghost use mathlib.Core.Path.{_≡_};
 ghost use Prim.Native.Nat.{_+_, _≤_};
 ghost use lib.ListN.{length};
@@ -19,9 +20,6 @@ ghost use Rattle.sections.specs.Encode.{eventLoopBytes, sectionBytes};
 ghost use Rattle.crc_codec.specs.CrcTables.{crcTables};
 ghost use Rattle.section_counts.specs.Between.{eventsBetween};
 ghost use Rattle.build.specs.Sections.{sectionOf, sectionSizeOf};
-
-// Bytes of CRC_32.
-const CRC_SIZE: usize = 4;
 
 // The events from `from` to `to`, written from `at` on. Returns the place behind them.
 fn write_events<'a>(

@@ -2,6 +2,7 @@
 use crate::file;
 use build_answer::BuildAnswer;
 use eit::Identity;
+use eit::sizes::BASE_DAY_MOST;
 use section_counts::count;
 use section_counts::segment::SEGMENTS;
 ghost use mathlib.Core.Path.{_≡_};
@@ -12,9 +13,7 @@ ghost use Rattle.schedule.specs.Plan.{plan};
 ghost use Rattle.schedule.specs.Build.{build};
 ghost use Rattle.build_answer.specs.Told.{told};
 
-// The most that a base day and a version may be.
-const BASE_DAY_MOST: u32 = 65_472;
-
+// The most that a version may be.
 const VERSION_MOST: u8 = 31;
 
 // The counts of all segments, 254 each if the list is unsound.

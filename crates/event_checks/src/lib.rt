@@ -1,10 +1,11 @@
 // A section's event loop: each event, and each beside all that came before (01, "The file of sections").
 use codec::seen;
 use eit::Record;
+use eit::sizes::EVENT_OVERHEAD;
+use eit::sizes::SEGMENT_SECONDS;
 use section_checks::frame::TABLE_LEAST;
 use section_checks::place;
 use section_codec::event;
-use section_codec::event::EVENT_OVERHEAD;
 use section_codec::event::EventRead;
 use section_codec::header::SectionHeader;
 ghost use mathlib.Core.Path.{_≡_};
@@ -26,9 +27,6 @@ pub struct EventCheck {
     // The least start that the next event may have.
     pub least: u32,
 }
-
-// Seconds of a segment.
-const SEGMENT_SECONDS: u32 = 10_800;
 
 // An event starts in its section's segment.
 fn is_in_segment(header: SectionHeader, start: u32) -> bool

@@ -1,5 +1,6 @@
 // Read without a record buffer (01, "Build, Read", "When a call says no"): check. It looks at every section once, and writes
 // nothing.
+use eit::sizes::EVENT_LIMIT;
 use read_answer::CheckedFile;
 ghost use mathlib.Core.Path.{_≡_};
 ghost use Rattle.eit.specs.Sizes.{broadcast};
@@ -9,10 +10,8 @@ ghost use Rattle.read_answer.specs.Told.{told};
 mod section;
 mod sizes;
 
-// Bytes of a section at most (01, "The file of sections"), and events in a file at most.
+// Bytes of a section at most (01, "The file of sections").
 const SECTION_SIZE: usize = 4_096;
-
-const EVENT_LIMIT: usize = 2_048;
 
 // Answer, identity and number of events are those of the definition. It never says 27.
 pub fn check(file: &[u8], base_day: u32) -> CheckedFile

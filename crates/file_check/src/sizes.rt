@@ -2,6 +2,8 @@
 use crate::section;
 use crate::section::SectionVerdict;
 use crate::section::WalkState;
+use eit::sizes::BASE_DAY_MOST;
+use eit::sizes::ID_WORDS;
 use read_answer::CheckedFile;
 use read_answer::ReadAnswer;
 use section_checks::header::Kept;
@@ -13,12 +15,6 @@ ghost use Rattle.sections.specs.Read.{atEnd, checkFile};
 ghost use Rattle.sections.specs.Walk.{Progress, passed};
 ghost use Rattle.read_answer.specs.Told.{told};
 ghost use Rattle.file_check.specs.Tracks.{Tracks};
-
-// The most that a base day may be.
-const BASE_DAY_MOST: u32 = 65_472;
-
-// A bit for each id.
-const SEEN_WORDS: usize = 1024;
 
 // At the end of a file of `size` bytes: it ends after last_table_id, or early.
 fn at_end(state: WalkState, size: usize) -> CheckedFile
@@ -52,7 +48,7 @@ pub fn check_within(
         return read_answer::refused(ReadAnswer::BaseDay);
     }
     let crc_tables = crc_codec::tables();
-    let mut seen = [0u64; SEEN_WORDS];
+    let mut seen = [0u64; ID_WORDS];
     let mut state = WalkState {
         before: Kept::Nothing,
         least: 0,

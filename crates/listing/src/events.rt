@@ -1,11 +1,9 @@
 // How many events a section has (01, "The file of sections"): its event loop, cut by the chain lengths.
 use codec::fields;
+use eit::sizes::EVENT_OVERHEAD;
 ghost use mathlib.Core.Path.{_≡_};
 ghost use lib.ListN.{length};
 ghost use Rattle.sections.specs.Decode.{statedEventSize, cutEvents};
-
-// Bytes of an event before its chain.
-const EVENT_OVERHEAD: usize = 12;
 
 // How many bytes the event at the front of the bytes has, by its chain length.
 fn stated_event_size(bytes: &[u8]) -> usize

@@ -1,10 +1,10 @@
 // The records of a file that was accepted (01, "Build, Read": marks never have 2, offsets are into the file).
 use eit::Record;
+use eit::sizes::EVENT_OVERHEAD;
+use eit::sizes::HEADER_SIZE;
 use event_list::place;
 use section_codec::event;
-use section_codec::event::EVENT_OVERHEAD;
 use section_codec::event::EventRead;
-use section_codec::header::HEADER_SIZE;
 ghost use mathlib.Core.Path.{_≡_};
 ghost use mathlib.Core.List.{map};
 ghost use Prim.Native.Nat.{_+_, _*_, _^_, _≤_, _<_};

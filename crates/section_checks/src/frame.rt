@@ -1,6 +1,7 @@
 // A section's frame and its CRC_32 (01, "The file of sections").
 use codec::fields;
 use crc_codec::CRC_FIRST;
+use eit::sizes::SECTION_OVERHEAD;
 ghost use mathlib.Core.Path.{_≡_};
 ghost use Rattle.eit.specs.Sizes.{sectionsUpTo};
 ghost use Rattle.sections.specs.JudgeHeader.{isTable, isFramed};
@@ -10,9 +11,6 @@ ghost use Rattle.section_checks.specs.Closed.{isClosedBy};
 pub const TABLE_LEAST: u32 = 0x50;
 
 const TABLE_MOST: u32 = 0x5F;
-
-// Bytes of a section around its events: a section has no fewer.
-const SECTION_OVERHEAD: usize = 18;
 
 // Whether a number is a table_id of an EIT schedule of this work.
 pub fn is_table(table_id: u32) -> bool

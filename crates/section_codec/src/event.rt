@@ -2,6 +2,7 @@
 use codec::chain;
 use codec::fields;
 use eit::Record;
+use eit::sizes::EVENT_OVERHEAD;
 use time_codec::TimeRead;
 ghost use mathlib.Core.Path.{_≡_};
 ghost use mathlib.Core.Bool.{_||_};
@@ -20,9 +21,6 @@ pub enum EventRead {
     // Bytes that are cut, or that break a rule.
     Broken,
 }
-
-// Bytes of an event before its chain.
-pub const EVENT_OVERHEAD: usize = 12;
 
 // running_status, 5 for off air, and free_CA, above the 12 bits of a chain length.
 fn status_bits(marks: u32) -> usize

@@ -1,6 +1,7 @@
 // A section's header as bytes, and back (01, "The file of sections").
 use codec::fields;
 use eit::Identity;
+use eit::sizes::HEADER_SIZE;
 ghost use mathlib.Core.Path.{_≡_};
 ghost use Prim.Native.Nat.{_+_, _%_, _≤_};
 ghost use lib.ListN.{length};
@@ -25,9 +26,6 @@ pub enum HeaderRead {
     // Fewer bytes than a header has.
     Short,
 }
-
-// Bytes of a section before its events.
-pub const HEADER_SIZE: usize = 14;
 
 // Bits 1111, then section_length: the bytes after this field. Of a size that is out of range, the low 16 bits.
 fn length_word(size: usize) -> usize

@@ -2,6 +2,7 @@
 use crate::cut;
 use crate::segment;
 use crate::segment::SEGMENTS;
+use eit::sizes::SECTION_OVERHEAD;
 ghost use mathlib.Core.Path.{_≡_};
 ghost use lib.Dec.{T};
 ghost use Rattle.eit.specs.Sizes.{room, sized, sectionsUpTo};
@@ -25,9 +26,6 @@ pub struct Counted {
     pub lowest: usize,
     pub need: usize,
 }
-
-// Bytes of a section around its events.
-pub const SECTION_OVERHEAD: usize = 18;
 
 // The most sections of a segment.
 const SEGMENT_MOST: u8 = 8;

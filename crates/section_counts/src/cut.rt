@@ -1,5 +1,6 @@
 // The events that one section takes (01, "Build, Read": "each section takes as many of the segment's next events as fit").
 use codec::pools;
+use eit::sizes::EVENT_OVERHEAD;
 use event_list::records;
 ghost use mathlib.Core.Path.{_≡_};
 ghost use Prim.Native.Nat.{_*_};
@@ -16,9 +17,6 @@ pub struct Cut {
     pub to: usize,
     pub bytes: usize,
 }
-
-// Bytes of an event before its chain.
-pub const EVENT_OVERHEAD: usize = 12;
 
 // The bytes of event i.
 fn event_size<'a>(list: &[u32], i: usize, day: &'a [u8], series: &'a [u8]) -> usize

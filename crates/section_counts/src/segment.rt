@@ -1,4 +1,5 @@
 // The segments of a list's events (01, "The file of sections": start ÷ 10,800, rounded down, is the segment index).
+use eit::sizes::SEGMENT_SECONDS;
 use event_list::records;
 ghost use mathlib.Core.Path.{_≡_};
 ghost use Prim.Native.Nat.{_+_, _*_};
@@ -14,8 +15,6 @@ ghost use Rattle.section_counts.specs.Between.{eventsBetween, leading, i
 pub const SEGMENTS: usize = 512;
 
 pub const TABLE_SEGMENTS: usize = 32;
-
-const SEGMENT_SECONDS: u32 = 10_800;
 
 // The segment index of record i.
 fn segment_index(list: &[u32], i: usize) -> usize

@@ -1,6 +1,8 @@
 // The walk over the sections of a file (01, "Build, Read": "The walk is a reader that carries the borrowed file and an offset").
 // Who walks keeps the offset, and gets each section through `next_section`, and through `event_loop` the bytes of its events.
 use codec::fields;
+use eit::sizes::CRC_SIZE;
+use eit::sizes::HEADER_SIZE;
 ghost use mathlib.Core.Path.{_≡_};
 ghost use Rattle.sections.specs.Decode.{statedSectionSize, eventLoop};
 ghost use Rattle.section_walk.specs.SectionAt.{sectionAt};
@@ -55,11 +57,6 @@ pub fn next_section<'a>(file: &'a [u8], offset: usize) -> &'a [u8]
 {
     section(reader_at(file, offset))
 }
-
-// Bytes of a section before its events, and those of CRC_32 behind them.
-const HEADER_SIZE: usize = 14;
-
-const CRC_SIZE: usize = 4;
 
 // The bytes between a section's header and its CRC_32; none where they would be fewer.
 pub fn event_loop(section: &[u8]) -> &[u8]

@@ -3,6 +3,7 @@ use codec::pools;
 use codec::seen;
 use eit::Record;
 use eit::Time;
+use eit::sizes::ID_WORDS;
 use event_list::records;
 use event_list::records::RECORD_SIZE;
 ghost use mathlib.Core.Path.{_≡_};
@@ -15,9 +16,6 @@ ghost use Rattle.eit.specs.Sound.{inRange, sound};
 const ID_MOST: u32 = 65_535;
 
 const MARKS_MOST: u32 = 7;
-
-// A bit for each id.
-const SEEN_WORDS: usize = 1024;
 
 // Values are in range.
 pub fn is_in_range(event: Record) -> bool
@@ -44,7 +42,7 @@ pub fn is_sound<'a>(
     if event_limit < count || list.len() / RECORD_SIZE < count {
         return false;
     }
-    let mut seen = [0u64; SEEN_WORDS];
+    let mut seen = [0u64; ID_WORDS];
     let mut least = 0;
     let mut i = 0;
     while i < count {
