@@ -1,7 +1,19 @@
-/* Chirdaluko: the C face. What each call returns and leaves is proved to equal its definition; docs/MANUAL.md has the refusals.
+/* Chirdaluko: DVB EIT schedules of one service. Edit makes an event list, Build turns the list into a file of EIT schedule
+ * sections (ETSI EN 300 468, 5.2.4, tables 0x50 to 0x5F), Read turns a file back into a list. docs/MANUAL.md shows every call at
+ * work.
  *
- * A slice passes as a pointer and a length in elements. The pointer of an empty slice is not null. The slices of one call do not
- * overlap where one of them is written. No call allocates, keeps a pointer, or has a state. */
+ * What each call returns and leaves is proved for every input that keeps the following:
+ *
+ * - A slice passes as a pointer and a length in elements, and the memory is there for all of them.
+ * - A pointer is never null, not even that of an empty slice: a length of 0 with any valid pointer.
+ * - A pointer to uint32_t is aligned to four bytes.
+ * - What a call writes overlaps nothing else that it is lent. What it only reads may overlap.
+ *
+ * Nothing else is asked: counts, base days, list contents and files may be any at all, and a refusal says what is wrong.
+ *
+ * No call allocates, keeps a pointer, has a state or prints, so calls that write to different buffers may run at the same
+ * time. Each runs on the caller's stack: docs/MANUAL.md, "Stack", says how much. The library is for x86-64 Linux, and of the
+ * C library it needs memcpy, memmove, memset and memcmp at most. */
 #ifndef CHIRDALUKO_H
 #define CHIRDALUKO_H
 
@@ -12,39 +24,145 @@
 extern "C" {
 #endif
 
+/* The numbers that a call returns. Of several causes a call says the first in its own order, which stands at the call. */
+enum {
+    EIT_SUCCESS = 0,
+    EIT_BASE_DAY = 1,          /* the base day is above EIT_BASE_DAY_MAX */
+    EIT_VERSION = 2,           /* the version is above EIT_VERSION_MAX */
+    EIT_BROKEN = 3,            /* the script has an unknown command, or ends within a command's operands */
+    EIT_NOTHING_TO_STRIKE = 4, /* UNDO with no edit before it that is not yet struck */
+    EIT_OUT_OF_RANGE = 5,      /* PUT, MOVE: start, duration or marks out of range */
+    EIT_WRONG_ID = 6,          /* PUT: the list has the id already; WITHDRAW, MOVE: it has not */
+    EIT_START_TAKEN = 7,       /* PUT, MOVE: another event has the start */
+    EIT_LIST_FULL = 8,         /* PUT: the list is at its limit */
+    EIT_NO_CHAIN = 9,          /* PUT: the descriptors lie outside their pool, or do not end where the part ends */
+    EIT_UNPACKABLE = 10,       /* a segment needs a ninth section, or has an event with over EIT_CHAIN_MAX descriptor bytes */
+    EIT_OUTPUT_SHORT = 11,     /* the output is shorter than the file */
+    EIT_UNSOUND = 12,          /* the list is not sound (see "Event list") */
+    EIT_FRAME = 20,            /* a section is cut, or its table_id or section_length is out of range */
+    EIT_CRC = 21,              /* a section's CRC_32 is wrong */
+    EIT_HEADER = 22,           /* a fixed bit is wrong, or the identity or last_table_id is not that of the section before */
+    EIT_NUMBERING = 23,        /* a section is missing, doubled or out of order, or its table is past last_table_id */
+    EIT_EVENT_LOOP = 24,       /* a section's events break a rule */
+    EIT_EARLY_END = 25,        /* the file ends before the last section of last_table_id, or is empty */
+    EIT_EVENT_LIMIT = 26,      /* the file has event 2,049 */
+    EIT_RECORDS_SHORT = 27     /* the record buffer is shorter than six numbers for each event */
+};
+
+/* Limits. */
+enum {
+    EIT_RECORD = 6,              /* numbers in a record */
+    EIT_EVENTS_MAX = 2048,       /* events in a list or file */
+    EIT_NUMBERS_MAX = 12288,     /* numbers that hold every list: EIT_RECORD * EIT_EVENTS_MAX */
+    EIT_ID_MAX = 65535,          /* a record's id */
+    EIT_START_LIMIT = 5529600,   /* a record's start is below: 64 days in seconds */
+    EIT_DURATION_MAX = 359999,   /* a record's duration is 1 to 99:59:59 */
+    EIT_BASE_DAY_MAX = 65472,    /* a Modified Julian Date: all 64 days then fit its 16 bits */
+    EIT_VERSION_MAX = 31,        /* version_number has 5 bits */
+    EIT_SEGMENT_SECONDS = 10800, /* a segment is three hours */
+    EIT_TABLE_SEGMENTS = 32,     /* segments in a table: four days */
+    EIT_SEGMENTS = 512,          /* segments in the sixteen tables */
+    EIT_SEGMENT_SECTIONS = 8,    /* sections in a segment at most */
+    EIT_SECTION_MAX = 4096,      /* bytes in a section at most */
+    EIT_CHAIN_MAX = 4066,        /* descriptor bytes of one event that a section can hold */
+    EIT_FILE_MAX = 16777216      /* bytes that hold every file: 16 tables of 256 sections */
+};
+
+/* Event list: a buffer of numbers and a count. A record is six numbers:
+ *
+ *   id        event_id, at most EIT_ID_MAX
+ *   start     seconds after midnight UTC of the base day, below EIT_START_LIMIT
+ *   duration  seconds, 1 to EIT_DURATION_MAX
+ *   marks     a sum of EIT_FREE_CA, EIT_SERIES_POOL and EIT_OFF_AIR, or 0
+ *   offset    where its descriptors begin in their pool
+ *   length    how many bytes they have; 0 for none
+ *
+ * Descriptors lie in one of two pools of bytes that the caller lends with the list: the day pool, or with EIT_SERIES_POOL the
+ * series pool. They are a chain: each a tag byte, a length byte and that many bytes, the last one ending where the part ends.
+ *
+ * A list is sound if count is at most EIT_EVENTS_MAX, the buffer has six numbers for each record, every value is in range,
+ * every part lies in its pool (offset + length at most the pool's length) and is a chain, starts rise strictly, and ids
+ * differ. Events may overlap. The empty list is a count of 0 with any buffer. */
+enum {
+    EIT_FREE_CA = 1,     /* free_CA_mode is 1: a conditional access system may control a stream of the event */
+    EIT_SERIES_POOL = 2, /* the descriptors lie in the series pool; a file does not show it */
+    EIT_OFF_AIR = 4      /* running_status is 5, service off air; else it is 0 */
+};
+
+/* Edit's commands: a byte, then big-endian operands of these widths in bytes. */
+enum {
+    EIT_PUT = 0x01,      /* id 2, start 4, duration 4, marks 1, offset 4, length 2: inserts a record by its start */
+    EIT_WITHDRAW = 0x02, /* id 2: takes a record out; the freed record becomes six zeros */
+    EIT_MOVE = 0x03,     /* id 2, start 4: gives a record another start and its place */
+    EIT_UNDO = 0x04      /* none: strikes the nearest edit before it that is not yet struck */
+};
+
 /* What Edit returns. */
 typedef struct EitEdited {
-    uint32_t number; /* 0, or the refusal's: 3 to 9, 12 */
-    size_t value;    /* success: the new count; 3 to 9: the offset of the command's byte; 12: 0 */
-    size_t count;    /* the count then held; for 12, 3 and 4 the given one */
+    uint32_t number; /* EIT_SUCCESS, or the refusal */
+    size_t value;    /* success: the new count; 3 to 9: the offset of the refused command's byte in the script; 12: 0 */
+    size_t count;    /* the count that the list has now, refused or not; after 12, 3 and 4 it is the given one */
 } EitEdited;
 
-/* Carries an edit script out on an event list of `count` records, six numbers each: id, start, duration, marks, offset, length.
- * Refusals 12, 3 and 4 leave the list as it was; 5 to 9 leave it as the earlier edits made it. */
+/* Carries an edit script out on an event list, in place.
+ *
+ *   list, list_length      the list's buffer; list_length / 6, at most EIT_EVENTS_MAX, is how many records it can come to hold
+ *   count                  how many records the list has
+ *   day, day_length        the day pool
+ *   series, series_length  the series pool
+ *   script, script_length  the commands
+ *
+ * UNDO strikes by the script, before anything is carried out. Struck edits are looked at for their form only; the others are
+ * carried out in order.
+ *
+ * Refusals: EIT_UNSOUND; EIT_BROKEN over the whole script; EIT_NOTHING_TO_STRIKE over the whole script; then edit by edit
+ * EIT_OUT_OF_RANGE, EIT_NO_CHAIN, EIT_WRONG_ID, EIT_START_TAKEN, EIT_LIST_FULL.
+ * Left: after the first three all of `list` is as it was; after the others it is as the edits before the refused one made it.
+ * Numbers that no edit changes stay, behind the list too. */
 EitEdited eit_edit(uint32_t *list, size_t list_length, size_t count, const uint8_t *day, size_t day_length,
                    const uint8_t *series, size_t series_length, const uint8_t *script, size_t script_length);
 
 /* What Build returns. */
 typedef struct EitBuilt {
-    uint32_t number; /* 0, or the refusal's: 1, 2, 10, 11, 12 */
-    size_t value;    /* success: the file's length; 10: the lowest unpackable segment index; 11: the bytes needed; 1, 2, 12: 0 */
+    uint32_t number; /* EIT_SUCCESS, or the refusal */
+    size_t value;    /* success: the file's length; 10: the lowest such segment index, 0 to 511; 11: the bytes needed; else 0 */
 } EitBuilt;
 
-/* Writes the file of sections for an event list to the front of `out`; the bytes behind the file stay. A refusal leaves all of
- * `out` as it was. The base day is a Modified Julian Date of at most 65,472, the version at most 31. */
+/* Writes the file of sections of an event list to the front of `out`. The file depends on the events, the base day and the
+ * identity alone: its packing is fixed, each section takes as many of its segment's next events as fit.
+ *
+ *   list .. series_length  the list and its pools, as for eit_edit; only read
+ *   base_day               the day whose midnight UTC starts count from, a Modified Julian Date
+ *   service_id, transport_stream_id, original_network_id, version
+ *                          the identity, the same in every section
+ *   out, out_length        the output; EIT_FILE_MAX bytes are always enough, and an out_length of 0 asks for the need
+ *
+ * Refusals: EIT_BASE_DAY, EIT_VERSION, EIT_UNSOUND, EIT_UNPACKABLE, EIT_OUTPUT_SHORT.
+ * Left: after a refusal all of `out` is as it was; after success the bytes behind the file are. */
 EitBuilt eit_build(const uint32_t *list, size_t list_length, size_t count, const uint8_t *day, size_t day_length,
                    const uint8_t *series, size_t series_length, uint32_t base_day, uint16_t service_id,
                    uint16_t transport_stream_id, uint16_t original_network_id, uint8_t version, uint8_t *out,
                    size_t out_length);
 
-/* Writes 512 section counts, those of Build's packing: the 32 segments of table 0x50, then those of 0x51, up to 0x5F. A count is
- * 0 outside its table's range and 255 for an unpackable segment; all are 254 if the list is unsound. */
-void eit_plan(const uint32_t *list, size_t list_length, size_t count, const uint8_t *day, size_t day_length,
-              const uint8_t *series, size_t series_length, uint8_t plan[512]);
+/* Counts of Plan that are no number of sections. */
+enum {
+    EIT_PLAN_UNSOUND = 254,   /* every count, if the list is unsound */
+    EIT_PLAN_UNPACKABLE = 255 /* a segment for which Build says EIT_UNPACKABLE; the others have their own counts */
+};
 
-/* What Read returns. A refused reading has count 0 and zeros for the identity. */
+/* Writes the number of sections that Build makes of each segment: the 32 segments of table 0x50, then those of 0x51, up to 0x5F.
+ * A count is 0 outside its table's range, and 1 to 8 within it, a segment without events having 1.
+ *
+ *   list .. series_length  the list and its pools, as for eit_edit; only read
+ *   plan                   512 counts; every one is written
+ *
+ * There is no refusal: the counts themselves say it. */
+void eit_plan(const uint32_t *list, size_t list_length, size_t count, const uint8_t *day, size_t day_length,
+              const uint8_t *series, size_t series_length, uint8_t plan[EIT_SEGMENTS]);
+
+/* What Read and check return. After a refusal count and identity are 0. */
 typedef struct EitReading {
-    uint32_t number; /* 0, or the refusal's: 1, 20 to 27 */
+    uint32_t number; /* EIT_SUCCESS, or the refusal */
     size_t value;    /* success, 27: the number of events; 20 to 24, 26: the section's offset; 25: the file's length; 1: 0 */
     size_t count;    /* the number of events */
     uint16_t service_id;
@@ -53,16 +171,25 @@ typedef struct EitReading {
     uint8_t version;
 } EitReading;
 
-/* Reads a file of sections into records of six numbers each: id, start, duration, marks, offset, length. Starts count from
- * midnight UTC of the base day; marks have no 2; an offset is into the file, so that the file is the records' day pool. The
- * numbers behind the 6 * count that are written stay, and a refusal leaves all of `records` as it was. 12,288 numbers are
- * enough for every file. */
+/* Reads a file of sections, whoever made it, into records: the whole file is looked at first, and records are written only if
+ * all of it is right.
+ *
+ *   file, file_length        the sections, joined, without stuffing
+ *   base_day                 the day that starts are to count from
+ *   records, records_length  the record buffer; EIT_NUMBERS_MAX numbers are always enough
+ *
+ * The records are a sound list with the file as day pool: an offset is into the file, and no marks have EIT_SERIES_POOL.
+ *
+ * Refusals: EIT_BASE_DAY; section by section EIT_FRAME, EIT_CRC, EIT_HEADER, EIT_NUMBERING, EIT_EVENT_LOOP, EIT_EVENT_LIMIT; at
+ * the end EIT_EARLY_END, EIT_RECORDS_SHORT.
+ * Left: after a refusal all of `records` is as it was; after success the numbers behind 6 * count are. */
 EitReading eit_read(const uint8_t *file, size_t file_length, uint32_t base_day, uint32_t *records, size_t records_length);
 
-/* The same without a record buffer, and so without refusal 27. */
+/* The same without a record buffer: it writes nothing, and never says EIT_RECORDS_SHORT. */
 EitReading eit_check(const uint8_t *file, size_t file_length, uint32_t base_day);
 
-/* CRC_32 of the bytes: over a whole section it is 0. */
+/* CRC_32 as sections have it: register first 0xFFFFFFFF, polynomial 0x04C11DB7, high bit first, no final inversion. Over a
+ * whole section it is 0. There is no refusal. */
 uint32_t eit_crc32(const uint8_t *bytes, size_t bytes_length);
 
 #ifdef __cplusplus

@@ -1,35 +1,51 @@
-//! The library's calls in the shapes of the other implementation's, so that one can stand in for the other.
+//! The library's calls, through its Rust wrapper, in the shapes of the other implementation's, so that one can stand in for the
+//! other. The wrapper's cases give number and value back.
 
-use crate::face::{self, EitBuilt, EitEdited, EitReading};
+use crate::chirdaluko::{self, Pools, ReadRefusal};
 use crate::other::{Answer, Built, Identity, Lent, Plan, Reading};
 
+pub use crate::chirdaluko::crc32;
+
 pub fn edit(list: &mut [u32], count: usize, day: &[u8], series: &[u8], script: &[u8]) -> Answer {
-    let EitEdited { number, value, count } = face::edit(list, count, day, series, script);
-    Answer { number, value, count }
+    match chirdaluko::edit(list, count, Pools { day, series }, script) {
+        Ok(count) => Answer { number: 0, value: count, count },
+        Err(refusal) => Answer { number: refusal.number(), value: refusal.value(), count: refusal.count() },
+    }
 }
 
 pub fn build(lent: &Lent, base_day: u32, identity: Identity, output: &mut [u8]) -> Built {
     let Identity { service_id, transport_stream_id, original_network_id, version } = identity;
-    let ids = [service_id, transport_stream_id, original_network_id];
-    let EitBuilt { number, value } =
-        face::build(lent.list, lent.count, lent.day, lent.series, base_day, ids, version, output);
-    Built { number, value }
+    let identity = chirdaluko::Identity { service_id, transport_stream_id, original_network_id, version };
+    match chirdaluko::build(lent.list, lent.count, pools(lent), base_day, identity, output) {
+        Ok(length) => Built { number: 0, value: length },
+        Err(refusal) => Built { number: refusal.number(), value: refusal.value() },
+    }
 }
 
 pub fn plan(lent: &Lent, plan: &mut Plan) {
-    face::plan(lent.list, lent.count, lent.day, lent.series, plan);
+    chirdaluko::plan(lent.list, lent.count, pools(lent), plan);
 }
 
 pub fn read(file: &[u8], base_day: u32, records: &mut [u32]) -> Reading {
-    reading(face::read(file, base_day, records))
+    reading(chirdaluko::read(file, base_day, records))
 }
 
 pub fn check(file: &[u8], base_day: u32) -> Reading {
-    reading(face::check(file, base_day))
+    reading(chirdaluko::check(file, base_day))
 }
 
-fn reading(eit: EitReading) -> Reading {
-    let EitReading { number, value, count, service_id, transport_stream_id, original_network_id, version } = eit;
-    let identity = Identity { service_id, transport_stream_id, original_network_id, version };
-    Reading { number, value, count, identity }
+fn pools<'a>(lent: &Lent<'a>) -> Pools<'a> {
+    Pools { day: lent.day, series: lent.series }
+}
+
+/// A refused reading has count 0 and identity 0: the wrapper knows no other.
+fn reading(said: Result<chirdaluko::Reading, ReadRefusal>) -> Reading {
+    match said {
+        Ok(chirdaluko::Reading { count, identity }) => {
+            let chirdaluko::Identity { service_id, transport_stream_id, original_network_id, version } = identity;
+            let identity = Identity { service_id, transport_stream_id, original_network_id, version };
+            Reading { number: 0, value: count, count, identity }
+        }
+        Err(refusal) => crate::other::refused(refusal.number(), refusal.value()),
+    }
 }

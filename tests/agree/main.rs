@@ -1,13 +1,14 @@
-//! Compares the library, through its C face, with the other implementation on seeded inputs. It first checks that faults show;
+//! Compares the library, through its Rust wrapper and so through its C face, with the other implementation on seeded inputs. It first checks that faults show;
 //! with `--self-check` it does only that.
 
 mod breaking;
 mod build;
 mod chains;
+#[allow(dead_code)]
+#[path = "../../bindings/rust/chirdaluko.rs"]
+mod chirdaluko;
 mod crcs;
 mod edits;
-#[path = "../face.rs"]
-mod face;
 mod faults;
 mod forms;
 mod groups;
@@ -59,7 +60,7 @@ fn self_check() -> Result<Vec<String>, String> {
 fn compare() -> Result<(), String> {
     let mut edits = Comparison::new(library::edit);
     all_groups(&mut edits)?;
-    let crcs = crcs::run(face::crc32)?;
+    let crcs = crcs::run(library::crc32)?;
     let mut builds = build::Comparison::new(build::Subject { build: library::build, plan: library::plan });
     build::all_groups(&mut builds)?;
 

@@ -1,8 +1,9 @@
-//! Times the library, through its C face, beside the other implementation on the same inputs. Nothing fails for being slow.
+//! Times the library, through its Rust wrapper, beside the other implementation on the same inputs. Nothing fails for being slow.
 
 mod builds;
-#[path = "../face.rs"]
-mod face;
+#[allow(dead_code)]
+#[path = "../../bindings/rust/chirdaluko.rs"]
+mod chirdaluko;
 mod inputs;
 #[path = "../library.rs"]
 mod library;
@@ -74,7 +75,7 @@ fn main() {
     head("CRC_32, beside one table");
     for (size, calls) in [(64, 1_000), (4 * KB, 50), (1_024 * KB, 1)] {
         let input: Vec<_> = (0..size).map(|_| random.byte()).collect();
-        let subjects = [face::crc32, other::crc32_by_table];
+        let subjects = [library::crc32, other::crc32_by_table];
         assert_eq!(subjects.map(|crc| crc(&input)), [other::crc32(&input); 2], "the two disagree");
         let times = subjects.map(|crc| {
             shortest(|| {

@@ -1,0 +1,525 @@
+//! Chirdaluko from Rust: safe functions on slices over the library's C face (include/chirdaluko.h), with an enum for the answers of
+//! each call. One file, standard library only; it allocates nothing. Make it a module, and link the static library:
+//! README.md, "How to link", has the commands, and docs/MANUAL.md shows every call at work.
+//!
+//! What each call returns and leaves is proved. Slices keep all that the C face asks of its caller: pointers that are not null,
+//! lengths that are true, and written buffers that overlap nothing else. Any value of any argument is taken.
+//!
+//! An answer that is none of a call's, an unknown number or a value that its number does not come with, panics: the library is
+//! proved to return no such answer, so it is then of another version than this file, and no caller could go on from there.
+//!
+//! ```
+//! use chirdaluko::{build, check, edit, read, BuildRefusal, Identity, Pools, Record};
+//!
+//! // PUT: id 1, at 12:45:00, for 1:45:30, no marks, no descriptors.
+//! let script = [0x01, 0, 1, 0, 0, 0xB3, 0x4C, 0, 0, 0x18, 0xBA, 0, 0, 0, 0, 0, 0, 0];
+//! let pools = Pools { day: &[], series: &[] };
+//! let mut list = [0; 6];
+//! let count = edit(&mut list, 0, pools, &script).unwrap();
+//! assert_eq!(count, 1);
+//!
+//! let identity = Identity { service_id: 1, transport_stream_id: 2, original_network_id: 3, version: 0 };
+//! let mut out = [0; 200];
+//! assert_eq!(build(&list, count, pools, 49_273, identity, &mut []), Err(BuildRefusal::OutputShort { needed: 102 }));
+//! let length = build(&list, count, pools, 49_273, identity, &mut out).unwrap();
+//! let file = &out[..length];
+//!
+//! assert_eq!(check(file, 49_273).unwrap().identity, identity);
+//! let mut numbers = [0; 6];
+//! let reading = read(file, 49_273, &mut numbers).unwrap();
+//! assert_eq!(reading.count, 1);
+//! let record = Record::from(numbers);
+//! assert_eq!((record.id, record.start, record.duration), (1, 45_900, 6_330));
+//! ```
+
+use std::error::Error;
+use std::fmt::{self, Display, Formatter};
+
+/// Numbers in a record.
+pub const RECORD: usize = 6;
+/// Events in a list or file.
+pub const EVENTS_MAX: usize = 2_048;
+/// Numbers that hold every list.
+pub const NUMBERS_MAX: usize = RECORD * EVENTS_MAX;
+/// Segments in the sixteen tables, 32 in each.
+pub const SEGMENTS: usize = 512;
+/// The last base day: a Modified Julian Date.
+pub const BASE_DAY_MAX: u32 = 65_472;
+/// The last version.
+pub const VERSION_MAX: u8 = 31;
+/// Bytes that hold every file.
+pub const FILE_MAX: usize = 16_777_216;
+
+/// The two pools of descriptors that an event list refers to.
+#[derive(Clone, Copy, Debug)]
+pub struct Pools<'a> {
+    pub day: &'a [u8],
+    /// For records with [`Record::SERIES_POOL`].
+    pub series: &'a [u8],
+}
+
+/// An event record. A list is a buffer of these as six numbers each, and a count.
+#[derive(Clone, Copy, Debug, Default, PartialEq, Eq)]
+pub struct Record {
+    /// At most 65,535.
+    pub id: u32,
+    /// Seconds after midnight UTC of the base day, below 5,529,600.
+    pub start: u32,
+    /// Seconds, 1 to 359,999.
+    pub duration: u32,
+    /// A sum of the three marks, or 0.
+    pub marks: u32,
+    /// Where its descriptors begin in their pool.
+    pub offset: u32,
+    /// How many bytes they have.
+    pub chain_length: u32,
+}
+
+impl Record {
+    /// A mark: free_CA_mode is 1.
+    pub const FREE_CA: u32 = 1;
+    /// A mark: the descriptors lie in the series pool.
+    pub const SERIES_POOL: u32 = 2;
+    /// A mark: running_status is 5, off air.
+    pub const OFF_AIR: u32 = 4;
+}
+
+impl From<[u32; RECORD]> for Record {
+    fn from([id, start, duration, marks, offset, chain_length]: [u32; RECORD]) -> Record {
+        Record { id, start, duration, marks, offset, chain_length }
+    }
+}
+
+impl From<Record> for [u32; RECORD] {
+    fn from(record: Record) -> [u32; RECORD] {
+        let Record { id, start, duration, marks, offset, chain_length } = record;
+        [id, start, duration, marks, offset, chain_length]
+    }
+}
+
+/// What is the same in every section of a file.
+#[derive(Clone, Copy, Debug, Default, PartialEq, Eq)]
+pub struct Identity {
+    pub service_id: u16,
+    pub transport_stream_id: u16,
+    pub original_network_id: u16,
+    /// At most 31.
+    pub version: u8,
+}
+
+/// Why Edit says no. `offset` is that of the refused command's byte in the script, `count` the records that the list has now.
+///
+/// `Unsound`, `Broken` and `NothingToStrike` leave the list as it was, the others as the edits before the refused one made it.
+#[derive(Clone, Copy, Debug, PartialEq, Eq)]
+pub enum EditRefusal {
+    /// 12: the list is unsound.
+    Unsound { count: usize },
+    /// 3: the script has an unknown command, or ends within a command's operands.
+    Broken { offset: usize, count: usize },
+    /// 4: UNDO with no edit before it that is not yet struck.
+    NothingToStrike { offset: usize, count: usize },
+    /// 5: PUT, MOVE: start, duration or marks out of range.
+    OutOfRange { offset: usize, count: usize },
+    /// 9: PUT: the descriptors lie outside their pool, or do not end where the part ends.
+    NoChain { offset: usize, count: usize },
+    /// 6: PUT: the list has the id already; WITHDRAW, MOVE: it has not.
+    WrongId { offset: usize, count: usize },
+    /// 7: PUT, MOVE: another event has the start.
+    StartTaken { offset: usize, count: usize },
+    /// 8: PUT: the list is at its limit.
+    ListFull { offset: usize, count: usize },
+}
+
+impl EditRefusal {
+    /// The number, the value and the count that the C face returns for it.
+    fn told(self) -> (u32, usize, usize) {
+        match self {
+            EditRefusal::Broken { offset, count } => (3, offset, count),
+            EditRefusal::NothingToStrike { offset, count } => (4, offset, count),
+            EditRefusal::OutOfRange { offset, count } => (5, offset, count),
+            EditRefusal::WrongId { offset, count } => (6, offset, count),
+            EditRefusal::StartTaken { offset, count } => (7, offset, count),
+            EditRefusal::ListFull { offset, count } => (8, offset, count),
+            EditRefusal::NoChain { offset, count } => (9, offset, count),
+            EditRefusal::Unsound { count } => (12, 0, count),
+        }
+    }
+
+    pub fn number(self) -> u32 {
+        self.told().0
+    }
+
+    /// The offset of the refused command's byte; 0 for `Unsound`.
+    pub fn value(self) -> usize {
+        self.told().1
+    }
+
+    /// How many records the list has now.
+    pub fn count(self) -> usize {
+        self.told().2
+    }
+}
+
+/// Why Build says no. Each leaves the output as it was.
+#[derive(Clone, Copy, Debug, PartialEq, Eq)]
+pub enum BuildRefusal {
+    /// 1: the base day is above 65,472.
+    BaseDay,
+    /// 2: the version is above 31.
+    Version,
+    /// 12: the list is unsound.
+    Unsound,
+    /// 10: the lowest segment index, 0 to 511, that needs a ninth section, or has an event with over 4,066 descriptor bytes.
+    Unpackable { segment: usize },
+    /// 11: the output is shorter than the file, which has so many bytes.
+    OutputShort { needed: usize },
+}
+
+impl BuildRefusal {
+    fn told(self) -> (u32, usize) {
+        match self {
+            BuildRefusal::BaseDay => (1, 0),
+            BuildRefusal::Version => (2, 0),
+            BuildRefusal::Unpackable { segment } => (10, segment),
+            BuildRefusal::OutputShort { needed } => (11, needed),
+            BuildRefusal::Unsound => (12, 0),
+        }
+    }
+
+    pub fn number(self) -> u32 {
+        self.told().0
+    }
+
+    /// The segment index or the bytes needed; 0 where the cause has neither.
+    pub fn value(self) -> usize {
+        self.told().1
+    }
+}
+
+/// Why Read or check says no. `offset` is that of the section in the file. Each leaves the record buffer as it was.
+#[derive(Clone, Copy, Debug, PartialEq, Eq)]
+pub enum ReadRefusal {
+    /// 1: the base day is above 65,472.
+    BaseDay,
+    /// 20: a section is cut, or its table_id or section_length is out of range.
+    Frame { offset: usize },
+    /// 21: a section's CRC_32 is wrong.
+    Crc { offset: usize },
+    /// 22: a fixed bit is wrong, or the identity or last_table_id is not that of the section before.
+    Header { offset: usize },
+    /// 23: a section is missing, doubled or out of order, or its table is past last_table_id.
+    Numbering { offset: usize },
+    /// 24: a section's events break a rule.
+    EventLoop { offset: usize },
+    /// 26: the section has event 2,049.
+    EventLimit { offset: usize },
+    /// 25: the file, of so many bytes, ends before the last section of last_table_id, or is empty.
+    EarlyEnd { file_length: usize },
+    /// 27: the record buffer is shorter than six numbers for each of so many events. Check never says it.
+    RecordsShort { events: usize },
+}
+
+impl ReadRefusal {
+    fn told(self) -> (u32, usize) {
+        match self {
+            ReadRefusal::BaseDay => (1, 0),
+            ReadRefusal::Frame { offset } => (20, offset),
+            ReadRefusal::Crc { offset } => (21, offset),
+            ReadRefusal::Header { offset } => (22, offset),
+            ReadRefusal::Numbering { offset } => (23, offset),
+            ReadRefusal::EventLoop { offset } => (24, offset),
+            ReadRefusal::EarlyEnd { file_length } => (25, file_length),
+            ReadRefusal::EventLimit { offset } => (26, offset),
+            ReadRefusal::RecordsShort { events } => (27, events),
+        }
+    }
+
+    pub fn number(self) -> u32 {
+        self.told().0
+    }
+
+    /// The section's offset, the file's length or the number of events; 0 for `BaseDay`.
+    pub fn value(self) -> usize {
+        self.told().1
+    }
+}
+
+/// What an accepted file has: how many events, and its identity.
+#[derive(Clone, Copy, Debug, PartialEq, Eq)]
+pub struct Reading {
+    pub count: usize,
+    pub identity: Identity,
+}
+
+/// What one of Plan's counts says of its segment.
+#[derive(Clone, Copy, Debug, PartialEq, Eq)]
+pub enum Planned {
+    /// 0: outside its table's range.
+    Outside,
+    /// 1 to 8: so many; a segment without events has 1.
+    Sections(u8),
+    /// 254: the list is unsound, and every count says so.
+    Unsound,
+    /// 255: Build says that the segment is unpackable.
+    Unpackable,
+}
+
+impl Planned {
+    pub fn of(count: u8) -> Planned {
+        match count {
+            0 => Planned::Outside,
+            1..=8 => Planned::Sections(count),
+            254 => Planned::Unsound,
+            255 => Planned::Unpackable,
+            _ => unknown("eit_plan", count.into(), 0),
+        }
+    }
+
+    pub fn number(self) -> u8 {
+        match self {
+            Planned::Outside => 0,
+            Planned::Sections(count) => count,
+            Planned::Unsound => 254,
+            Planned::Unpackable => 255,
+        }
+    }
+}
+
+/// Carries an edit script out on a list of `count` records, in place, and returns the new count. The list can come to hold as many
+/// records as its buffer has six numbers, at most 2,048. Numbers that no edit changes stay.
+pub fn edit(list: &mut [u32], count: usize, pools: Pools, script: &[u8]) -> Result<usize, EditRefusal> {
+    let Pools { day, series } = pools;
+    // Each pointer comes with the length of its own slice, and is not null even if the slice is empty. The one slice that is
+    // written overlaps no other.
+    let EitEdited { number, value, count } = unsafe {
+        eit_edit(
+            list.as_mut_ptr(),
+            list.len(),
+            count,
+            day.as_ptr(),
+            day.len(),
+            series.as_ptr(),
+            series.len(),
+            script.as_ptr(),
+            script.len(),
+        )
+    };
+    let offset = value;
+    let refusal = match number {
+        0 if value == count => return Ok(count),
+        3 => EditRefusal::Broken { offset, count },
+        4 => EditRefusal::NothingToStrike { offset, count },
+        5 => EditRefusal::OutOfRange { offset, count },
+        6 => EditRefusal::WrongId { offset, count },
+        7 => EditRefusal::StartTaken { offset, count },
+        8 => EditRefusal::ListFull { offset, count },
+        9 => EditRefusal::NoChain { offset, count },
+        12 => EditRefusal::Unsound { count },
+        _ => unknown("eit_edit", number, value),
+    };
+    if refusal.told() != (number, value, count) {
+        unknown("eit_edit", number, value);
+    }
+    Err(refusal)
+}
+
+/// Writes the file of sections of a list of `count` records to the front of `out`, and returns the file's length. The bytes behind
+/// the file stay.
+pub fn build(
+    list: &[u32],
+    count: usize,
+    pools: Pools,
+    base_day: u32,
+    identity: Identity,
+    out: &mut [u8],
+) -> Result<usize, BuildRefusal> {
+    let Pools { day, series } = pools;
+    // As in `edit`.
+    let EitBuilt { number, value } = unsafe {
+        eit_build(
+            list.as_ptr(),
+            list.len(),
+            count,
+            day.as_ptr(),
+            day.len(),
+            series.as_ptr(),
+            series.len(),
+            base_day,
+            identity.service_id,
+            identity.transport_stream_id,
+            identity.original_network_id,
+            identity.version,
+            out.as_mut_ptr(),
+            out.len(),
+        )
+    };
+    let refusal = match number {
+        0 => return Ok(value),
+        1 => BuildRefusal::BaseDay,
+        2 => BuildRefusal::Version,
+        10 => BuildRefusal::Unpackable { segment: value },
+        11 => BuildRefusal::OutputShort { needed: value },
+        12 => BuildRefusal::Unsound,
+        _ => unknown("eit_build", number, value),
+    };
+    if refusal.told() != (number, value) {
+        unknown("eit_build", number, value);
+    }
+    Err(refusal)
+}
+
+/// Writes how many sections Build makes of each segment: the 32 segments of table 0x50, then those of 0x51, up to 0x5F.
+/// [`Planned::of`] tells what a count says.
+pub fn plan(list: &[u32], count: usize, pools: Pools, counts: &mut [u8; SEGMENTS]) {
+    let Pools { day, series } = pools;
+    // As in `edit`; the length of the counts is in their type.
+    unsafe {
+        eit_plan(list.as_ptr(), list.len(), count, day.as_ptr(), day.len(), series.as_ptr(), series.len(), counts)
+    }
+}
+
+/// Reads a file of sections into `records`, six numbers for each event. They are a sound list with the file as day pool. The numbers
+/// behind them stay. 12,288 numbers are always enough.
+pub fn read(file: &[u8], base_day: u32, records: &mut [u32]) -> Result<Reading, ReadRefusal> {
+    // As in `edit`.
+    reading("eit_read", unsafe { eit_read(file.as_ptr(), file.len(), base_day, records.as_mut_ptr(), records.len()) })
+}
+
+/// Read without a record buffer: it writes nothing, and never says [`ReadRefusal::RecordsShort`].
+pub fn check(file: &[u8], base_day: u32) -> Result<Reading, ReadRefusal> {
+    // As in `edit`.
+    reading("eit_check", unsafe { eit_check(file.as_ptr(), file.len(), base_day) })
+}
+
+/// CRC_32 as sections have it; over a whole section it is 0.
+pub fn crc32(bytes: &[u8]) -> u32 {
+    // As in `edit`.
+    unsafe { eit_crc32(bytes.as_ptr(), bytes.len()) }
+}
+
+fn reading(call: &str, said: EitReading) -> Result<Reading, ReadRefusal> {
+    let EitReading { number, value, count, service_id, transport_stream_id, original_network_id, version } = said;
+    let identity = Identity { service_id, transport_stream_id, original_network_id, version };
+    let refusal = match number {
+        0 if value == count => return Ok(Reading { count, identity }),
+        1 => ReadRefusal::BaseDay,
+        20 => ReadRefusal::Frame { offset: value },
+        21 => ReadRefusal::Crc { offset: value },
+        22 => ReadRefusal::Header { offset: value },
+        23 => ReadRefusal::Numbering { offset: value },
+        24 => ReadRefusal::EventLoop { offset: value },
+        25 => ReadRefusal::EarlyEnd { file_length: value },
+        26 => ReadRefusal::EventLimit { offset: value },
+        27 => ReadRefusal::RecordsShort { events: value },
+        _ => unknown(call, number, value),
+    };
+    if refusal.told() != (number, value) || (count, identity) != (0, Identity::default()) {
+        unknown(call, number, value);
+    }
+    Err(refusal)
+}
+
+fn unknown(call: &str, number: u32, value: usize) -> ! {
+    panic!("chirdaluko.rs does not know the answer {number} {value} of {call}: the library is of another version")
+}
+
+impl Display for EditRefusal {
+    fn fmt(&self, to: &mut Formatter) -> fmt::Result {
+        let (number, value, count) = self.told();
+        write!(to, "edit refused {number} {value}, {count} records held")
+    }
+}
+
+impl Display for BuildRefusal {
+    fn fmt(&self, to: &mut Formatter) -> fmt::Result {
+        write!(to, "build refused {} {}", self.number(), self.value())
+    }
+}
+
+impl Display for ReadRefusal {
+    fn fmt(&self, to: &mut Formatter) -> fmt::Result {
+        write!(to, "read refused {} {}", self.number(), self.value())
+    }
+}
+
+impl Error for EditRefusal {}
+impl Error for BuildRefusal {}
+impl Error for ReadRefusal {}
+
+#[repr(C)]
+struct EitEdited {
+    number: u32,
+    value: usize,
+    count: usize,
+}
+
+#[repr(C)]
+struct EitBuilt {
+    number: u32,
+    value: usize,
+}
+
+#[repr(C)]
+struct EitReading {
+    number: u32,
+    value: usize,
+    count: usize,
+    service_id: u16,
+    transport_stream_id: u16,
+    original_network_id: u16,
+    version: u8,
+}
+
+extern "C" {
+    fn eit_edit(
+        list: *mut u32,
+        list_length: usize,
+        count: usize,
+        day: *const u8,
+        day_length: usize,
+        series: *const u8,
+        series_length: usize,
+        script: *const u8,
+        script_length: usize,
+    ) -> EitEdited;
+
+    fn eit_build(
+        list: *const u32,
+        list_length: usize,
+        count: usize,
+        day: *const u8,
+        day_length: usize,
+        series: *const u8,
+        series_length: usize,
+        base_day: u32,
+        service_id: u16,
+        transport_stream_id: u16,
+        original_network_id: u16,
+        version: u8,
+        out: *mut u8,
+        out_length: usize,
+    ) -> EitBuilt;
+
+    fn eit_plan(
+        list: *const u32,
+        list_length: usize,
+        count: usize,
+        day: *const u8,
+        day_length: usize,
+        series: *const u8,
+        series_length: usize,
+        plan: *mut [u8; SEGMENTS],
+    );
+
+    fn eit_read(
+        file: *const u8,
+        file_length: usize,
+        base_day: u32,
+        records: *mut u32,
+        records_length: usize,
+    ) -> EitReading;
+
+    fn eit_check(file: *const u8, file_length: usize, base_day: u32) -> EitReading;
+
+    fn eit_crc32(bytes: *const u8, bytes_length: usize) -> u32;
+}

@@ -1,0 +1,66 @@
+//! Provokes every refusal through the Rust wrapper, and looks at its case, its number and value, and every buffer. Then prints a row
+//! for each number: the calls that say it, what they return, and what is left. tests/manual compares them with the manual's table.
+
+#[allow(dead_code)]
+#[path = "../../bindings/rust/chirdaluko.rs"]
+mod chirdaluko;
+
+mod builds;
+mod edits;
+mod inputs;
+mod reads;
+
+use chirdaluko::Record;
+use std::collections::BTreeMap;
+
+/// What a refusal's value is.
+const ZERO: &str = "0";
+const COMMAND: &str = "offset of the command's byte";
+const SEGMENT: &str = "lowest such segment index";
+const NEED: &str = "bytes needed";
+const SECTION: &str = "section's offset";
+const FILE: &str = "file's length";
+const EVENTS: &str = "number of events";
+
+/// What a refusal leaves.
+const ALL: &str = "all as it was";
+const EARLIER: &str = "list as the edits before made it";
+
+/// For each number the calls that say it, what is returned, and what is left.
+#[derive(Default)]
+struct Rows(BTreeMap<u32, (Vec<&'static str>, &'static str, &'static str)>);
+
+impl Rows {
+    /// A call said this number. Whoever says it returns and leaves the same.
+    fn add(&mut self, call: &'static str, number: u32, returned: &'static str, left: &'static str) {
+        let row = self.0.entry(number).or_insert((Vec::new(), returned, left));
+        assert_eq!((row.1, row.2), (returned, left), "{number}, by {call}");
+        if !row.0.contains(&call) {
+            row.0.push(call);
+        }
+    }
+}
+
+/// The wrapper's limits are document 01's.
+const _: () = assert!(
+    chirdaluko::RECORD == 6
+        && chirdaluko::EVENTS_MAX == 2_048
+        && chirdaluko::NUMBERS_MAX == 12_288
+        && chirdaluko::SEGMENTS == 16 * 32
+        && chirdaluko::BASE_DAY_MAX == 65_472
+        && chirdaluko::VERSION_MAX == 31
+        && chirdaluko::FILE_MAX == 16 * 256 * 4_096
+        && Record::FREE_CA == 1
+        && Record::SERIES_POOL == 2
+        && Record::OFF_AIR == 4
+);
+
+fn main() {
+    let mut rows = Rows::default();
+    edits::run(&mut rows);
+    builds::run(&mut rows);
+    reads::run(&mut rows);
+    for (number, (calls, returned, left)) in rows.0 {
+        println!("| {number} | {} | {returned} | {left} |", calls.join(", "));
+    }
+}

@@ -1,0 +1,132 @@
+//! Read's and check's refusals: files that Build made, damaged, and given a right CRC_32 again where the damage is not to it.
+
+use crate::chirdaluko::{build, check, crc32, read, Identity, Pools, ReadRefusal, Reading, Record};
+use crate::inputs::{event, numbers};
+use crate::{Rows, ALL, EVENTS, FILE, SECTION, ZERO};
+use std::ops::Range;
+
+const BASE_DAY: u32 = 49_273;
+const IDENTITY: Identity = Identity { service_id: 1, transport_stream_id: 2, original_network_id: 3, version: 4 };
+
+/// Three events, each in a section of its own of 30 bytes: table 0x50 section 0, table 0x51 sections 0 and 8.
+const SECOND: Range<usize> = 30..60;
+const THIRD: usize = 60;
+const END: usize = 90;
+
+pub fn run(rows: &mut Rows) {
+    let file = built(&[event(1, 100), event(2, 345_600), event(3, 356_400)]);
+    assert_eq!(file.len(), END);
+    frames(rows, &file);
+    headers(rows, &file);
+    numbering(rows, &file);
+    ends(rows, &file);
+    event_limit(rows);
+}
+
+fn built(records: &[Record]) -> Vec<u8> {
+    let pools = Pools { day: &[], series: &[] };
+    let mut out = vec![0; 65_536];
+    let length = build(&numbers(records), records.len(), pools, BASE_DAY, IDENTITY, &mut out).expect("a sound list");
+    out.truncate(length);
+    out
+}
+
+/// Read and check both say it, and the record buffer, long enough for three events, stays.
+fn refused(rows: &mut Rows, file: &[u8], base_day: u32, refusal: ReadRefusal, returned: &'static str) {
+    let mut records = [77; 18];
+    assert_eq!(read(file, base_day, &mut records), Err(refusal));
+    assert_eq!(records, [77; 18]);
+    assert_eq!(check(file, base_day), Err(refusal));
+    rows.add("Read", refusal.number(), returned, ALL);
+    rows.add("check", refusal.number(), returned, ALL);
+}
+
+/// The file with a section changed, and its CRC_32 made right.
+fn changed(file: &[u8], section: Range<usize>, change: impl FnOnce(&mut [u8])) -> Vec<u8> {
+    let mut file = file.to_vec();
+    change(&mut file[section.clone()]);
+    seal(&mut file[section]);
+    file
+}
+
+fn seal(section: &mut [u8]) {
+    let (front, crc) = section.split_at_mut(section.len() - 4);
+    crc.copy_from_slice(&crc32(front).to_be_bytes());
+}
+
+fn frames(rows: &mut Rows, file: &[u8]) {
+    refused(rows, file, 65_473, ReadRefusal::BaseDay, ZERO);
+    let mut frame = |file: &[u8], offset| refused(rows, file, BASE_DAY, ReadRefusal::Frame { offset }, SECTION);
+    frame(&file[..END - 1], THIRD);
+    frame(&[file, &[0x50]].concat(), END);
+    frame(&changed(file, SECOND, |section| section[0] = 0x60), SECOND.start);
+    frame(&changed(file, SECOND, |section| section[2] = 14), SECOND.start);
+
+    let mut damaged = file.to_vec();
+    damaged[SECOND.end - 1] ^= 1;
+    refused(rows, &damaged, BASE_DAY, ReadRefusal::Crc { offset: SECOND.start }, SECTION);
+}
+
+fn headers(rows: &mut Rows, file: &[u8]) {
+    let mut header = |place: usize, byte: u8, offset: usize| {
+        let damaged = changed(file, offset..offset + 30, |section| section[place] = byte);
+        refused(rows, &damaged, BASE_DAY, ReadRefusal::Header { offset }, SECTION);
+    };
+    // current_next 0; another service; last_table_id out of its range; one that differs.
+    header(5, file[5] & 0xFE, 0);
+    header(4, 9, SECOND.start);
+    header(13, 0x60, 0);
+    header(13, 0x52, SECOND.start);
+}
+
+fn numbering(rows: &mut Rows, file: &[u8]) {
+    let mut numbering = |file: &[u8], offset| refused(rows, file, BASE_DAY, ReadRefusal::Numbering { offset }, SECTION);
+    // The second section is missing; it is there twice; its table is past last_table_id.
+    numbering(&[&file[..SECOND.start], &file[THIRD..]].concat(), SECOND.start);
+    numbering(&[&file[..SECOND.end], &file[SECOND]].concat(), THIRD);
+    let mut past = changed(file, 0..SECOND.start, |section| section[13] = 0x50);
+    past = changed(&past, SECOND, |section| section[13] = 0x50);
+    numbering(&past, SECOND.start);
+
+    let mut events = |file: &[u8], base_day, offset| {
+        refused(rows, file, base_day, ReadRefusal::EventLoop { offset }, SECTION);
+    };
+    // The first event is then before midnight; running_status 1; the id of the first event; an event of the next segment.
+    events(file, BASE_DAY + 1, 0);
+    events(&changed(file, SECOND, |section| section[24] = 0x20), BASE_DAY, SECOND.start);
+    events(&changed(file, SECOND, |section| section[15] = 1), BASE_DAY, SECOND.start);
+    events(&changed(file, SECOND, |section| section[18] = 0x03), BASE_DAY, SECOND.start);
+}
+
+fn ends(rows: &mut Rows, file: &[u8]) {
+    let mut early = |file: &[u8]| {
+        refused(rows, file, BASE_DAY, ReadRefusal::EarlyEnd { file_length: file.len() }, FILE);
+    };
+    early(&[]);
+    early(&file[..SECOND.start]);
+    early(&file[..THIRD]);
+
+    // A buffer for three events is just long enough; check has none, and says nothing of it.
+    let accepted = Ok(Reading { count: 3, identity: IDENTITY });
+    let short = ReadRefusal::RecordsShort { events: 3 };
+    let mut records = [77; 18];
+    assert_eq!(read(file, BASE_DAY, &mut records[..17]), Err(short));
+    assert_eq!(records, [77; 18]);
+    assert_eq!(read(file, BASE_DAY, &mut records), accepted);
+    assert_eq!(check(file, BASE_DAY), accepted);
+    rows.add("Read", short.number(), EVENTS, ALL);
+}
+
+/// 2,048 events in segment 0, and one more in its last section.
+fn event_limit(rows: &mut Rows) {
+    let records: Vec<_> = (0..2_048).map(|place| event(place, 5 * place)).collect();
+    let mut file = built(&records);
+    let last = 6 * (18 + 339 * 12);
+    let mut section = file.split_off(last);
+    // Event 2,048 at 02:50:40.
+    section.splice(182..182, [0x08, 0x00, 0xC0, 0x79, 0x02, 0x50, 0x40, 0x01, 0x00, 0x00, 0x00, 0x00]);
+    section[2] += 12;
+    seal(&mut section);
+    file.extend(section);
+    refused(rows, &file, BASE_DAY, ReadRefusal::EventLimit { offset: last }, SECTION);
+}

@@ -1,0 +1,81 @@
+//! The Rust wrapper over a library of another version: an answer that it does not know panics, and says what it is.
+
+// Plan and CRC_32 have no answer that could be unknown, and are not there.
+#[allow(dead_code)]
+#[path = "../../bindings/rust/chirdaluko.rs"]
+mod chirdaluko;
+
+use chirdaluko::{build, check, edit, read, BuildRefusal, EditRefusal, Identity, Planned, Pools, ReadRefusal, Reading};
+use std::panic::{catch_unwind, set_hook};
+use std::process::exit;
+
+extern "C" {
+    fn answer(number: u32, value: usize, count: usize, service_id: u16);
+}
+
+const POOLS: Pools = Pools { day: &[], series: &[] };
+
+fn edited() -> Result<usize, EditRefusal> {
+    edit(&mut [], 0, POOLS, &[])
+}
+
+fn built() -> Result<usize, BuildRefusal> {
+    build(&[], 0, POOLS, 0, Identity::default(), &mut [])
+}
+
+fn reading() -> Result<Reading, ReadRefusal> {
+    read(&[], 0, &mut [])
+}
+
+fn checked() -> Result<Reading, ReadRefusal> {
+    check(&[], 0)
+}
+
+/// The call panics, and names the number and the value.
+fn panics<T>(call: fn() -> T, number: u32, value: usize, count: usize, service_id: u16) {
+    // The library only remembers them.
+    unsafe { answer(number, value, count, service_id) };
+    let Err(panic) = catch_unwind(call) else {
+        eprintln!("unknown: {number} {value} passes for an answer");
+        exit(1);
+    };
+    let message = panic.downcast_ref::<String>().map_or("", String::as_str);
+    if !message.contains(&format!("answer {number} {value} of eit_")) {
+        eprintln!("unknown: the panic says: {message}");
+        exit(1);
+    }
+}
+
+fn main() {
+    set_hook(Box::new(|_| ()));
+    for number in (0..100).chain([u32::MAX]) {
+        let is = |numbers: &[u32]| numbers.contains(&number);
+        if !is(&[0, 3, 4, 5, 6, 7, 8, 9, 12]) {
+            panics(edited, number, 7, 7, 0);
+        }
+        if !is(&[0, 1, 2, 10, 11, 12]) {
+            panics(built, number, 7, 0, 0);
+        }
+        if !is(&[0, 1, 20, 21, 22, 23, 24, 25, 26, 27]) {
+            panics(reading, number, 7, 0, 0);
+            panics(checked, number, 7, 0, 0);
+        }
+    }
+
+    // A value that the number does not come with.
+    panics(edited, 0, 7, 8, 0);
+    panics(edited, 12, 7, 7, 0);
+    panics(built, 1, 7, 0, 0);
+    panics(built, 2, 7, 0, 0);
+    panics(built, 12, 7, 0, 0);
+    panics(reading, 0, 7, 8, 0);
+    panics(reading, 1, 7, 0, 0);
+    panics(reading, 20, 7, 1, 0);
+    panics(reading, 20, 7, 0, 1);
+    for count in 9..254 {
+        if catch_unwind(|| Planned::of(count)).is_ok() {
+            eprintln!("unknown: {count} passes for a count of Plan");
+            exit(1);
+        }
+    }
+}
