@@ -1,8 +1,9 @@
 //! Build and Plan.
 
-use crate::inputs::{rows, Input, BASE_DAY, IDENTITY};
+use crate::inputs::{largest, rows, Input, BASE_DAY, IDENTITY};
 use crate::library;
 use crate::other::{self, Built, Lent, Plan};
+use crate::random::Random;
 use crate::table::shortest;
 use std::hint::black_box;
 use std::time::Instant;
@@ -10,6 +11,14 @@ use std::time::Instant;
 pub fn run(inputs: &[Input]) {
     rows("Build, MB of the file", inputs, build_times);
     rows("Plan, MB of the file it plans", inputs, plan_times);
+}
+
+/// One call of the library with the largest input.
+pub fn once(random: &mut Random) {
+    let input = largest(random);
+    let mut output = vec![0; input.size];
+    let built = library::build(&input.lent(), BASE_DAY, IDENTITY, &mut output);
+    assert_eq!(built.number, 0, "a refusal");
 }
 
 fn build_times(input: &Input) -> [f64; 2] {

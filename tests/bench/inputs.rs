@@ -39,6 +39,11 @@ pub fn inputs(random: &mut Random) -> Vec<Input> {
     inputs
 }
 
+/// The largest of them.
+pub fn largest(random: &mut Random) -> Input {
+    inputs(random).pop().expect("there are inputs")
+}
+
 impl Input {
     fn new(random: &mut Random, name: &'static str, lineup: Lineup, grows: bool) -> Input {
         let (pools, list) = lineup.lend(random);

@@ -1,9 +1,10 @@
 //! Read of the files that Build makes, with a record buffer and without.
 
-use crate::inputs::{rows, Input, BASE_DAY, IDENTITY};
+use crate::inputs::{largest, rows, Input, BASE_DAY, IDENTITY};
 use crate::library;
 use crate::lists::{EVENTS_MAX, NUMBERS};
 use crate::other::{self, Reading};
+use crate::random::Random;
 use crate::table::shortest;
 use std::hint::black_box;
 use std::time::Instant;
@@ -13,6 +14,18 @@ const RECORDS: usize = NUMBERS * EVENTS_MAX;
 pub fn run(inputs: &[Input]) {
     rows("check, MB of the file", inputs, check_times);
     rows("Read, MB of the file", inputs, read_times);
+}
+
+/// One call of the library with the largest file, with a record buffer and without.
+pub fn once(random: &mut Random) {
+    let input = largest(random);
+    let mut records = vec![0; RECORDS];
+    assert_eq!(library::read(&file(&input), BASE_DAY, &mut records), accepted(&input), "a refusal");
+}
+
+pub fn once_checked(random: &mut Random) {
+    let input = largest(random);
+    assert_eq!(library::check(&file(&input), BASE_DAY), accepted(&input), "a refusal");
 }
 
 fn file(input: &Input) -> Vec<u8> {
