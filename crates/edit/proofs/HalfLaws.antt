@@ -6,7 +6,7 @@ use native.Mathlib.Omega.{arith}
 use mathlib.Core.List.{List, [], _∷_, _++_}
 use lib.Dec.{T}
 use lib.ListN.{length, getD, drop, take, length-take, length-drop}
-use lib.Seq.{take-all, take-add}
+use lib.Seq.{take-add}
 use Rattle.eit.specs.Sizes.{limitedTo}
 use Rattle.eit.specs.Pools.{lentPools}
 use Rattle.eit.specs.Records.{EventList, lentList, recordSize}
@@ -20,7 +20,7 @@ use Rattle.script.proofs.Edit.{run-append, run-sound}
 use Rattle.script_scan.specs.Commands.{commandsAt, offsetBehind}
 use Rattle.script_scan.proofs.CommandLaws.{commands-next}
 use Rattle.script_scan.proofs.PartLaws.{part-whole, behind-drops}
-use Rattle.edit.specs.Run.{editsOf, runOne, runFrom, runPart}
+use Rattle.edit.specs.Run.{editsOf, runOne, runPart}
 use Rattle.edit.proofs.PendingLaws.{live-none}
 use Rattle.edit.proofs.RunLaws.{none-done, run-ends}
 
@@ -55,13 +55,6 @@ module _ (script : List ℕ) (k at h mid : ℕ) (fits : h ≤ k) (there : mid �
 -- ---- what is carried out
 
 module _ (limit : ℕ) (day series : List ℕ) (list : EventList) (script : List ℕ) where
-  -- all commands, with no UNDO behind them
-  pub part-all : (k : ℕ) → k ≡ length (commandsAt 0 script)
-      → runFrom limit day series list 0 script ≡ runPart limit day series list 0 k 0 script
-  part-all k all =
-      ap (λ (cs : List Command). run (limitedTo limit) (lentPools day series) list (live 0 cs))
-      (sym (take-all k (commandsAt 0 script) (omega arith)))
-
   module _ (p k at : ℕ) where
     -- as many UNDOs as commands strike all
     pub part-struck : k ≤ p → runPart limit day series list p k at script ≡ record { number = 0; value = list .count; list = list }

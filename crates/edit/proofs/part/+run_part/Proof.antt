@@ -1,4 +1,4 @@
--- `machine::run_part` meets its contract: nothing is left to carry out, or one command, or the two halves one after the other. The
+-- `part::run_part` meets its contract: nothing is left to carry out, or one command, or the two halves one after the other. The
 -- measure is how many commands there are. Assumes nothing.
 use mathlib.Core.Path.{sym, _∙_}
 use Prim.Native.Nat.{ℕ, _-_, _/_, _<_, _≤_}
@@ -12,16 +12,16 @@ use Rattle.eit.specs.Records.{lentList}
 use Rattle.script_scan.specs.Commands.{commandTold, commandsAt}
 use Rattle.script_scan.proofs.PartLaws.{commands-fit}
 use Rattle.edit.proofs.HalfLaws.{sound-held, part-struck, part-one, part-sound, half-within, half-ends, half-goes-on}
-use Rattle.edit.proofs.machine.run_part.Reads as run-part
-use Rattle.edit.proofs.machine.run_part.Kinds as run-part-kinds
-use Rattle.edit.proofs.machine.+run_part.Lts-run_part as run-part-lts
+use Rattle.edit.proofs.part.run_part.Reads as run-part
+use Rattle.edit.proofs.part.run_part.Kinds as run-part-kinds
+use Rattle.edit.proofs.part.+run_part.Lts-run_part as run-part-lts
 use Rattle.edit_answer.proofs.number_of.Reads as number-of-reads
 use Rattle.edit.proofs.machine.carry_out.Reads as carry-out-reads
-use Rattle.edit.proofs.machine.pending_before.Reads as pending-before-reads
+use Rattle.edit.proofs.part.pending_before.Reads as pending-before-reads
 use Rattle.script_scan.proofs.command.command_at.Reads as command-at-reads
 use Rattle.script_scan.proofs.scan.skip_commands.Reads as skip-commands-reads
-use Rattle.edit.proofs.machine.+run_part.{statement}
-use Rattle.edit.proofs.machine.+run_part.Tie.{close}
+use Rattle.edit.proofs.part.+run_part.{statement}
+use Rattle.edit.proofs.part.+run_part.Tie.{close}
 
 abbrev μ-run-part : Measures 3 run-part-kinds.ps ℕ
 μ-run-part κs a = a .1 .1 .1 .1 .1 .1 .1 .0
