@@ -15,6 +15,7 @@ ghost use Rattle.script.specs.Edit.{edit};
 ghost use Rattle.script_scan.specs.Commands.{formTold};
 ghost use Rattle.edit_answer.specs.Told.{told};
 
+mod live;
 mod machine;
 mod part;
 
