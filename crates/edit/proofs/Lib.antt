@@ -11,3 +11,9 @@ pub mod HalfLaws
 pub mod CarryLaws
 -- Edit by the answers of the code's passes
 pub mod EditLaws
+-- commands by their places, and the pass that notes UNDOs
+pub mod PlaceLaws
+-- live edits by their places, and the pass that finds them
+pub mod LiveLaws
+-- the pass that carries out the live edits
+pub mod ForwardLaws

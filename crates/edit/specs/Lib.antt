@@ -1,2 +1,3 @@
 -- What the contracts of this crate say beyond the model's definitions.
 pub mod Run  -- what the machine carries out
+pub mod Live  -- UNDOs and live edits by their places
