@@ -205,7 +205,7 @@ pub enum ReadRefusal {
     Frame { offset: usize },
     /// 21: a section's CRC_32 is wrong.
     Crc { offset: usize },
-    /// 22: a fixed bit is wrong, or the identity or last_table_id is not that of the section before.
+    /// 22: a fixed bit is wrong, last_table_id is not 0x50 to 0x5F, or it or the identity is not that of the section before.
     Header { offset: usize },
     /// 23: a section is missing, doubled or out of order, or its table is past last_table_id.
     Numbering { offset: usize },

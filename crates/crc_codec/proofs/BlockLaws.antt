@@ -2,7 +2,7 @@
 -- (`crc-of-xor`), so each byte adds an entry of its own, and the rest of the register moves up.
 -- Assumes nothing.
 use mathlib.Core.Path.{_≡_, refl, sym, ap, ap₂, _∙_}
-use mathlib.Core.List.{List, [], _∷_, _++_}
+use mathlib.Core.List.{List, [], _∷_}
 use Prim.Native.Nat.{ℕ, zero, suc, _+_, _-_, _*_, _/_, _%_, _^_, _≤_, _<_}
 use native.Mathlib.Nat.{mod-lt}
 use native.Mathlib.Omega.{arith}
@@ -13,10 +13,11 @@ use lib.Pow.{pow-pos}
 use lib.Seq.{drop-cons, drop-drop}
 use Rattle.eit.specs.Crc.{crcFirst, crcBits, crcByte, crcOf, crc32}
 use Rattle.eit.specs.Fields.{Bytes}
-use Rattle.eit.proofs.Crc.{crc-bits-lt, crc-bits-add, crc-bits-xor, crc-nil, crc-cons, crc-byte-bits, crc-byte-lt, crc-lt, crc-append, crc-byte-table, crc32-of}
+use Rattle.eit.proofs.Crc.{crc-bits-lt, crc-bits-add, crc-bits-xor, crc-nil, crc-cons, crc-byte-bits, crc-byte-lt, crc-lt}
+use Rattle.eit.proofs.Crc.{crc-append, crc-byte-table, crc32-of}
 use Rattle.eit.proofs.Fields.{bytes-take, bytes-drop}
 use Rattle.eit.proofs.Xor.{xor-assoc}
-use Rattle.crc_codec.specs.CrcTables.{blockSize, tableSize, entryOf, crcTables, chosenEntry, crcBlock, crcBlocks, crcBy}
+use Rattle.crc_codec.specs.CrcTables.{blockSize, crcTables, chosenEntry, crcBlock, crcBlocks, crcBy}
 use Rattle.crc_codec.proofs.TableLaws.{table-entry}
 
 -- the high byte and a byte choose one of 256 entries
@@ -107,16 +108,21 @@ block-table r [] hr hb h = block-nil crcTables r ∙ sym (crc-nil r)
 block-table r (b ∷ bs) hr hb h =
     let k : ℕ = bitXor (r / 2 ^ 24) b in
     let hk : k < 256 = entry-lt r b hr (hb .0) in
+    let up : ℕ = r * 2 ^ 8 % 2 ^ 32 in
+    let up-lt : up < 2 ^ 32 = mod-lt (r * 2 ^ 8) (pow-pos 32) in
     let bits : 8 * suc (length bs) ≡ 8 + 8 * length bs = omega arith in
+    let chosen : chosenEntry crcTables (length bs) r b ≡ crcBits (8 * length bs) (crcBits 8 (k * 2 ^ 24)) =
+    table-entry (length bs) k (omega arith) hk
+    ∙ ap (λ (n : ℕ). crcBits n (k * 2 ^ 24)) bits
+    ∙ crc-bits-add 8 (8 * length bs) (k * 2 ^ 24) in
     block-cons crcTables r b bs
-    ∙ ap₂ bitXor
-    (table-entry (length bs) k (omega arith) hk ∙ ap (λ (n : ℕ). crcBits n (k * 2 ^ 24)) bits ∙ crc-bits-add 8 (8 * length bs) (k * 2 ^ 24))
-    (block-table (r * 2 ^ 8 % 2 ^ 32) bs (mod-lt (r * 2 ^ 8) (pow-pos 32)) (hb .1) (omega arith))
-    ∙ sym (crc-of-xor (crcBits 8 (k * 2 ^ 24)) (r * 2 ^ 8 % 2 ^ 32) bs (crc-bits-lt 8 (k * 2 ^ 24) (omega arith)) (mod-lt (r * 2 ^ 8) (pow-pos 32)) (hb .1))
+    ∙ ap₂ bitXor chosen (block-table up bs up-lt (hb .1) (omega arith))
+    ∙ sym (crc-of-xor (crcBits 8 (k * 2 ^ 24)) up bs (crc-bits-lt 8 (k * 2 ^ 24) (omega arith)) up-lt (hb .1))
     ∙ ap (λ (x : ℕ). crcOf x bs) (sym (crc-byte-table r b hr (hb .0)))
     ∙ sym (crc-cons r b bs)
 
-blocks-table : (n r : ℕ) (bs : List ℕ) → r < 2 ^ 32 → Bytes bs → length bs ≤ n * blockSize + blockSize → crcBlocks n crcTables r bs ≡ crcOf r bs
+blocks-table : (n r : ℕ) (bs : List ℕ) → r < 2 ^ 32 → Bytes bs → length bs ≤ n * blockSize + blockSize
+    → crcBlocks n crcTables r bs ≡ crcOf r bs
 unfolding crcBlocks
 blocks-table zero r bs hr hb h = block-table r bs hr hb (omega arith)
 blocks-table (suc n) r bs hr hb h =

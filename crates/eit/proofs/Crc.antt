@@ -4,7 +4,8 @@
 use mathlib.Core.Path.{_≡_, refl, sym, ap, ap₂, _∙_}
 use mathlib.Core.List.{List, [], _∷_, _++_}
 use Prim.Native.Nat.{ℕ, zero, suc, _+_, _-_, _*_, _/_, _%_, _^_, _≤_, _<_}
-use native.Mathlib.Nat.{mod-lt, add-zero, mod-eq-of-lt, mul-mod-left, mul-one, zero-mul, add-mul, mul-lt-mul-of-pos-right, mul-assoc, le-mul-of-pos-right, pow-succ', zero-add, suc-add}
+use native.Mathlib.Nat.{mod-lt, add-zero, mod-eq-of-lt, mul-mod-left, mul-one, zero-mul, add-mul, mul-lt-mul-of-pos-right}
+use native.Mathlib.Nat.{mul-assoc, le-mul-of-pos-right, pow-succ', zero-add, suc-add}
 use native.Mathlib.Decide.{decLt}
 use native.Mathlib.Omega.{arith}
 use lib.Arith.{le→nltb}

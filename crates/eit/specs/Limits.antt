@@ -21,7 +21,7 @@ durationMost = 359_999
 abbrev pub marksMost : ℕ
 marksMost = 7
 
--- the base day, a Modified Julian Date of 0 to 65,472
+-- 01's term: base day. A Modified Julian Date of 0 to 65,472
 abbrev pub baseMost : ℕ
 baseMost = 65_472
 

@@ -32,7 +32,7 @@ durationBytes duration = timeBytes (timeOf duration)
 abbrev pub secondsOfDay : ℕ
 secondsOfDay = 86_400
 
--- start as MJD (2) and six BCD digits hhmmss; t0 is midnight UTC of the base day
+-- start as MJD (2) and six BCD digits hhmmss. 01's term: t0, midnight UTC of the base day
 abbrev pub startBytes : ℕ → ℕ → List ℕ
 startBytes base start = bigEndian 2 (base + start / secondsOfDay) ++ timeBytes (timeOf (start % secondsOfDay))
 

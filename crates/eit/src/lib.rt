@@ -1,4 +1,5 @@
-// The types that the calls share, the time type, and the sizes that several crates ask for. Everything else of this crate is definitions (specs/) and laws (proofs/).
+// The types that the calls share, the time type, and the sizes that several crates ask for. Everything else of this crate is
+// definitions (specs/) and laws (proofs/).
 ghost use mathlib.Core.Path.{_≡_};
 ghost use mathlib.Core.Bool.{_&&_};
 ghost use lib.Dec.{ltb, leb};
@@ -7,7 +8,7 @@ ghost use Rattle.eit.specs.Time.{timeOf};
 
 pub mod sizes;
 
-// An event record: six numbers of the lent list (01, "Event record and sound list").
+// 01's term: record. Six numbers of the lent list (01, "Event record and sound list").
 pub struct Record {
     pub id: u32,
     // Seconds after t0.

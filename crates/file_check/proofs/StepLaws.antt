@@ -7,7 +7,7 @@ use mathlib.Core.List.{List, map, reverse, _++_}
 use mathlib.Core.Option.{Option, none, some}
 use Prim.Native.Nat.{ℕ, _+_, _≤_, _<_}
 use native.Mathlib.Omega.{arith}
-use lib.Dec.{T, leb, le→leb}
+use lib.Dec.{T, le→leb}
 use borrow.Author.Tests.{lt-leb}
 use lib.ListN.{length, length-map}
 use Rattle.eit.specs.Sizes.{Sizes, sized, sectionsUpTo}

@@ -11,6 +11,7 @@ pub record EventRefusals : Type 0 where
   pub other-segment : says (section 0x50 0 0 0 0x50 (event 1 0x03 0x00)) ≡ refusal 24 0
   pub other-table : says (withEvent (0xC0 ∷ 0x7D ∷ 0x01 ∷ 0x00 ∷ 0x00 ∷ []) hour bare) ≡ refusal 24 0
   pub before-base : says (withEvent (0xC0 ∷ 0x78 ∷ 0x01 ∷ 0x00 ∷ 0x00 ∷ []) hour bare) ≡ refusal 24 0
+  -- 24:00 of the day before the base day: refused for that day, too
   pub hour-24 : says (withEvent (0xC0 ∷ 0x78 ∷ 0x24 ∷ 0x00 ∷ 0x00 ∷ []) hour bare) ≡ refusal 24 0
   pub no-digit : says (withEvent (0xC0 ∷ 0x79 ∷ 0x00 ∷ 0x0A ∷ 0x00 ∷ []) hour bare) ≡ refusal 24 0
   pub no-duration : says (withEvent one (0x00 ∷ 0x00 ∷ 0x00 ∷ []) bare) ≡ refusal 24 0

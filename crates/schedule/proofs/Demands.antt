@@ -23,7 +23,7 @@ use Rattle.script.specs.Edit.{Edited, Stopped}
 use Rattle.script.proofs.Edit.{edit-runs, edit-leaves, run-stops}
 use Rattle.sections.specs.Section.{Section, sectionSizes}
 use Rattle.sections.specs.Decode.{cutSections}
-use Rattle.sections.specs.Count.{sectionsCounted, eventsCounted}
+use Rattle.sections.specs.Count.{sectionsCounted}
 use Rattle.sections.specs.Places.{recordsFrom, filePools}
 use Rattle.sections.specs.Read.{Reading, success, checkFile, fileRecords, read, listOf}
 use Rattle.sections.specs.Exact.{RecordBuffer, Accepted, FollowsRules}
@@ -35,22 +35,38 @@ use Rattle.sections.proofs.Frame.{read-leaves}
 use Rattle.sections.proofs.FileSize.{accepted-size}
 use Rattle.sections.proofs.Places.{records-count}
 use Rattle.sections.proofs.FileSound.{accepted-sound, accepted-events}
-use Rattle.sections.proofs.Count.{counted-is, held-is}
 use Rattle.schedule.specs.Extent.{isInside}
 use Rattle.schedule.specs.SectionsOf.{isUnpackable}
 use Rattle.schedule.specs.Plan.{sectionCount, plan, planned}
 use Rattle.schedule.specs.Build.{Built, refusal, build, fileOf}
 use Rattle.schedule.specs.Given.{Given, built, events, Carries, EightHold}
+use Rattle.schedule.specs.Refused.{RefusedFor}
 use Rattle.schedule.specs.Demands.{DemandsFor, Demands}
 use Rattle.schedule.proofs.Parts.{parts-few}
 use Rattle.schedule.proofs.Rival.{segment-eight-hold}
 use Rattle.schedule.proofs.Build.{build-packs, build-leaves, build-beyond, written-short, written-fits, written-file}
 use Rattle.schedule.proofs.Packable.{eight-hold, held-packable, lowest-none}
-use Rattle.schedule.proofs.Best.{best-fewest, best-most}
+use Rattle.schedule.proofs.BestFile.{fewest, most}
+use Rattle.schedule.proofs.Only.{built-only}
 use Rattle.schedule.proofs.Plan.{plan-sound, plan-unsound, tabled-at, count-sections, count-inside, count-outside}
 use Rattle.schedule.proofs.Plan.{count-unpackable}
 use Rattle.schedule.proofs.Given.{LegalSizes, shown-rules, facts, ownSections, ownFile, build-or, own-rules, own-events}
-use Rattle.schedule.proofs.Given.{own-carries, writes, rival-rules, rival-events, rival-eight, own-counted, own-held}
+use Rattle.schedule.proofs.Given.{own-carries, writes, rival-eight, own-counted}
+
+-- ---- Demand 1: what a refusal leaves
+
+leaves : (sizes : Sizes) → RefusedFor sizes
+leaves sizes =
+    record {
+      build-leaves = build-leaves sizes;
+      build-beyond = build-beyond sizes;
+      read-leaves = read-leaves sizes;
+      edit-leaves = edit-leaves sizes;
+      edit-keeps = λ pools list script cs es is form struck refuses.
+          let runs = edit-runs sizes pools list script is cs es form struck in
+          subst (λ (o : Edited). Stopped sizes pools list es o) (sym runs)
+          (run-stops sizes pools list es (λ zero. refuses (ap (λ (o : Edited). o .number) runs ∙ zero)));
+    }
 
 module _ (sizes : Sizes) (legal : LegalSizes sizes) where
   -- ---- Demand 2: accepted files
@@ -201,33 +217,6 @@ module _ (sizes : Sizes) (legal : LegalSizes sizes) where
         ))
         (build-or g)
 
-  -- ---- Demand 3: best
-
-  module _ (g : Given sizes) (output : List ℕ) (zero : built g output .number ≡ 0) (file : List ℕ) (c : Carries g file) (index : ℕ) where
-    fewest : sectionsCounted (g .base) (fileOf (built g output)) index ≤ sectionsCounted (g .base) file index
-    fewest =
-        let (fits, is, enough, own) = writes g output zero in
-        omega (
-          arith,
-          ap (λ (f : List ℕ). sectionsCounted (g .base) f index) own,
-          own-counted legal g fits index,
-          counted-is (g .base) file index,
-          best-fewest sizes (events g) (facts g) (checkFile sizes (g .base) file .identity) (cutSections (g .base) file)
-              (rival-rules g file c) (rival-events g file c) (g .identity) index,
-        )
-
-    most : (k : ℕ) → k ≤ 8 → eventsCounted (g .base) file index k ≤ eventsCounted (g .base) (fileOf (built g output)) index k
-    most k few =
-        let (fits, is, enough, own) = writes g output zero in
-        omega (
-          arith,
-          ap (λ (f : List ℕ). eventsCounted (g .base) f index k) own,
-          own-held legal g fits index k,
-          held-is (g .base) file index k,
-          best-most sizes (events g) (facts g) (checkFile sizes (g .base) file .identity) (cutSections (g .base) file)
-              (rival-rules g file c) (rival-events g file c) (g .identity) index (legal .least) (g .legalIdentity) fits k few,
-        )
-
   -- ---- all of it, for every section size that can be
 
   pub demands-for : DemandsFor sizes
@@ -239,6 +228,7 @@ module _ (sizes : Sizes) (legal : LegalSizes sizes) where
         check-agrees = λ base file buffer not-27. read-agrees sizes base file buffer not-27;
         check-never-27 = λ base file says. omega (arith, check-below-27 sizes base file);
         accepted-sound = λ base file series buffer bytes accepted size. accepted-sound sizes base file buffer series bytes (accepted buffer size);
+        accepted-events = λ base file series buffer bytes accepted size. accepted-events sizes base file buffer series bytes (accepted buffer size);
         accepted-packable = λ base file series buffer bytes accepted size. packs base file bytes accepted series buffer size;
         built-carries = carries;
         built-read = reads;
@@ -251,17 +241,11 @@ module _ (sizes : Sizes) (legal : LegalSizes sizes) where
             ∙ tabled-at (λ (index : ℕ). 254) index few;
         unpackable-exactly = refused-exactly;
         unpackable-lowest = refused-lowest;
-        fewest-sections = fewest;
-        most-events = most;
+        fewest-sections = fewest sizes legal;
+        most-events = most sizes legal;
+        built-only = built-only sizes legal;
         cut-back = λ base identity ss day rules. cut-sections-back sizes base (legal .most) day identity ss rules;
-        build-leaves = build-leaves sizes;
-        build-beyond = build-beyond sizes;
-        read-leaves = read-leaves sizes;
-        edit-leaves = edit-leaves sizes;
-        edit-keeps = λ pools list script cs es is form struck refuses.
-            let runs = edit-runs sizes pools list script is cs es form struck in
-            subst (λ (o : Edited). Stopped sizes pools list es o) (sym runs)
-            (run-stops sizes pools list es (λ zero. refuses (ap (λ (o : Edited). o .number) runs ∙ zero)));
+        refused = leaves sizes;
       }
 
 -- and so for broadcast

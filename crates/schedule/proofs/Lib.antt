@@ -32,9 +32,11 @@ pub mod Plan
 pub mod ByIndex
 -- Build of what it is given, and any file that carries the same events
 pub mod Given
--- demands 2 and 3
+-- in every segment Build's file is best
+pub mod BestFile
+-- under its identity it is the only best one
+pub mod Only
+-- demands 2 and 3, and demand 1's refusals
 pub mod Demands
 -- three laws of Build's file
 pub mod BuiltFile
--- under its identity it is the only best one
-pub mod Only

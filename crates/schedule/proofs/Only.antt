@@ -1,5 +1,5 @@
 -- Under its identity Build's file is the only best one: any that carries the same events and is as good in every segment is this
--- one. By the demands the counts are the same; they tell the events of each section, and these the file. Assumes nothing.
+-- one. Since it is best, the counts are the same; they tell the events of each section, and these the file. Assumes nothing.
 use mathlib.Core.Path.{_≡_, sym, ap, subst, _∙_}
 use mathlib.Core.List.{List}
 use Prim.Native.Nat.{ℕ, _≤_}
@@ -22,7 +22,7 @@ use Rattle.schedule.specs.Given.{Given, built, events, Carries}
 use Rattle.schedule.proofs.Rival.{segment-packing, segment-parts, first-held}
 use Rattle.schedule.proofs.Given.{LegalSizes, shown-rules, ownSections, own-rules, own-events, own-counted, own-held}
 use Rattle.schedule.proofs.Given.{writes, rival-rules, rival-events}
-use Rattle.schedule.proofs.Demands.{demands-for}
+use Rattle.schedule.proofs.BestFile.{fewest, most}
 
 -- ---- two files with the same events
 
@@ -52,7 +52,7 @@ module _ (sizes : Sizes) (legal : LegalSizes sizes) (g : Given sizes) (output : 
       → ((index : ℕ) → sectionsCounted (g .base) file index ≤ sectionsCounted (g .base) (fileOf (built g output)) index)
       → ((index k : ℕ) → k ≤ 8 → eventsCounted (g .base) (fileOf (built g output)) index k ≤ eventsCounted (g .base) file index k)
       → file ≡ fileOf (built g output)
-  built-only identity few most =
+  built-only identity few as-many =
       let (fits, is, enough, own) = writes g output zero in
       let ss : List Section = cutSections (g .base) file in
       let ts : List Section = ownSections g in
@@ -66,15 +66,15 @@ module _ (sizes : Sizes) (legal : LegalSizes sizes) (g : Given sizes) (output : 
       (omega (
         arith,
         few index,
-        demands-for sizes legal .fewest-sections g output zero file c index,
+        fewest sizes legal g output zero file c index,
         counted-is (g .base) file index,
         ap (λ (f : List ℕ). sectionsCounted (g .base) f index) own,
         own-counted legal g fits index,
       ))
       (λ k eight. omega (
         arith,
-        most index k eight,
-        demands-for sizes legal .most-events g output zero file c index k eight,
+        as-many index k eight,
+        most sizes legal g output zero file c index k eight,
         held-is (g .base) file index k,
         ap (λ (f : List ℕ). eventsCounted (g .base) f index k) own,
         own-held legal g fits index k,

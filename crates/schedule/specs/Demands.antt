@@ -1,28 +1,25 @@
--- Demands 2 and 3, and what demand 1 says of refusals: one record type, its fields in groups, each group under the clauses that
--- it states. The value is `demands` of proofs/Demands.antt. Everything is said of what the calls return and leave: `read`,
--- `checkFile`, `build`, `plan`, `edit`; what the fields speak of is in specs/Given.antt. Which refusal comes, and with which
+-- Demands 2 and 3, and what demand 1 says of refusals (specs/Refused.antt): one record type, its fields in groups, each group under
+-- the clauses that it states. The value is `demands` of proofs/Demands.antt. Everything is said of what the calls return and leave:
+-- `read`, `checkFile`, `build`, `plan`, `edit`; what the fields speak of is in specs/Given.antt. Which refusal comes, and with which
 -- value, is in the definitions of the calls, as Edit's plain machine is; each call's contract equates it with its definition.
 -- A segment is its index: table 0x50 + index ÷ 32, segment index mod 32. "In 2 and 3 base day and version are legal, the base
 -- day is the same for both, and Read's record buffer has 12,288 numbers." Assumes nothing.
 use mathlib.Core.Path.{_≡_}
 use mathlib.Core.Bool.{not}
-use mathlib.Core.Logic.{_↔_, _⊎_}
+use mathlib.Core.Logic.{_↔_}
 use Prim.Native.Nat.{ℕ, _*_, _≤_, _<_}
-use mathlib.Core.List.{List, _++_}
+use mathlib.Core.List.{List}
 use lib.Dec.{T}
-use lib.ListN.{length, drop}
+use lib.ListN.{length}
 use Rattle.eit.specs.Sizes.{Sizes, broadcast}
 use Rattle.eit.specs.Limits.{baseMost}
 use Rattle.eit.specs.Fields.{Bytes}
 use Rattle.eit.specs.Pools.{Pools}
 use Rattle.eit.specs.Records.{EventList, recordSize}
-use Rattle.eit.specs.Sound.{sound}
+use Rattle.eit.specs.Sound.{sound, eventsOf}
 use Rattle.eit.specs.declared.Identity.{Identity}
 use Rattle.eit.specs.declared.Record.{Record}
-use Rattle.script.specs.Form.{Edit, Command, commands, formOf}
-use Rattle.script.specs.Struck.{unstruck, unstruckIn}
-use Rattle.script.specs.Edit.{edit, Stopped}
-use Rattle.sections.specs.Section.{Section}
+use Rattle.sections.specs.Section.{Section, sectionEvents}
 use Rattle.sections.specs.Encode.{fileBytes}
 use Rattle.sections.specs.Rules.{Rules}
 use Rattle.sections.specs.Decode.{cutSections}
@@ -33,6 +30,7 @@ use Rattle.sections.specs.Exact.{RecordBuffer, Accepted, FollowsRules, readingO
 use Rattle.schedule.specs.Plan.{plan, planned}
 use Rattle.schedule.specs.Build.{build, fileOf}
 use Rattle.schedule.specs.Given.{Given, built, events, Carries, EightHold}
+use Rattle.schedule.specs.Refused.{RefusedFor}
 
 pub record DemandsFor (sizes : Sizes) : Type 0 where
   -- ---- Demand 2: "Read accepts exactly the files that follow their rules, packing aside, and returns the identity and events
@@ -49,9 +47,13 @@ pub record DemandsFor (sizes : Sizes) : Type 0 where
       → read sizes base file buffer .answer ≡ checkFile sizes base file
   pub check-never-27 : (base : ℕ) (file : List ℕ) → checkFile sizes base file .number ≡ 27 → ⊥
   -- ---- Demand 2: "the identity and events that the file's bytes carry": the records of an accepted file are a sound list with
-  -- the file as day pool, and Build of them says neither 12 nor 10, whatever else it is given
+  -- the file as day pool
   pub accepted-sound : (base : ℕ) (file series buffer : List ℕ) → Bytes file → Accepted sizes base file → RecordBuffer sizes buffer
       → T (sound sizes (filePools file series) (listOf (read sizes base file buffer)))
+  -- and they are the events of the sections that the file's bytes show
+  pub accepted-events : (base : ℕ) (file series buffer : List ℕ) → Bytes file → Accepted sizes base file → RecordBuffer sizes buffer
+      → eventsOf (filePools file series) (listOf (read sizes base file buffer)) ≡ sectionEvents (cutSections base file)
+  -- Build of them says neither 12 nor 10, whatever else it is given
   pub accepted-packable : (base : ℕ) (file series buffer : List ℕ) → Bytes file → Accepted sizes base file → RecordBuffer sizes buffer
       → (day : ℕ) (identity : Identity) (output : List ℕ)
       → let b = build sizes (filePools file series) (listOf (read sizes base file buffer)) day identity output in
@@ -96,27 +98,17 @@ pub record DemandsFor (sizes : Sizes) : Type 0 where
   pub most-events : (g : Given sizes) (output : List ℕ) → built g output .number ≡ 0
       → (file : List ℕ) → Carries g file → (index k : ℕ) → k ≤ 8
       → eventsCounted (g .base) file index k ≤ eventsCounted (g .base) (fileOf (built g output)) index k
-  -- both count the sections that the file's bytes show: of joined sections that keep the rules, these sections
+  -- and Build's file is the only one: under the same identity no other is as good in every segment
+  pub built-only : (g : Given sizes) (output : List ℕ) → built g output .number ≡ 0
+      → (file : List ℕ) → Carries g file → checkFile sizes (g .base) file .identity ≡ g .identity
+      → ((index : ℕ) → sectionsCounted (g .base) file index ≤ sectionsCounted (g .base) (fileOf (built g output)) index)
+      → ((index k : ℕ) → k ≤ 8 → eventsCounted (g .base) (fileOf (built g output)) index k ≤ eventsCounted (g .base) file index k)
+      → file ≡ fileOf (built g output)
+  -- all count the sections that the file's bytes show: of joined sections that keep the rules, these sections
   pub cut-back : (base : ℕ) (identity : Identity) (ss : List Section) → base ≤ baseMost → Rules sizes identity ss
       → cutSections base (fileBytes base ss) ≡ ss
   -- ---- Demand 1: "A refusal leaves them untouched, except that a refused edit keeps the edits before it"
-  pub build-leaves : (pools : Pools) (list : EventList) (base : ℕ) (identity : Identity) (output : List ℕ)
-      → let b = build sizes pools list base identity output in
-      (b .number ≡ 0 → ⊥) → b .output ≡ output
-  -- "Bytes beyond the file stay"
-  pub build-beyond : (pools : Pools) (list : EventList) (base : ℕ) (identity : Identity) (output : List ℕ)
-      → let b = build sizes pools list base identity output in
-      b .number ≡ 0 → b .output ≡ fileOf b ++ drop (b .value) output
-  pub read-leaves : (base : ℕ) (file buffer : List ℕ) → (read sizes base file buffer .answer .number ≡ 0 → ⊥)
-      → read sizes base file buffer .buffer ≡ buffer
-  pub edit-leaves : (pools : Pools) (list : EventList) (script : List ℕ)
-      → let o = edit sizes pools list script in
-      (o .number ≡ 12) ⊎ ((o .number ≡ 3) ⊎ (o .number ≡ 4)) → o .list ≡ list
-  -- 5 to 9: the list is as the edits before made it
-  pub edit-keeps : (pools : Pools) (list : EventList) (script : List ℕ) (cs : List Command) (es : List Edit)
-      → T (sound sizes pools list) → formOf script ≡ commands cs → unstruckIn cs ≡ unstruck es
-      → (edit sizes pools list script .number ≡ 0 → ⊥)
-      → Stopped sizes pools list es (edit sizes pools list script)
+  pub refused : RefusedFor sizes
 
 -- for broadcast: sections of at most 4,096 bytes, at most 2,048 events, and so 12,288 numbers for Read's records
 abbrev pub Demands : Type 0

@@ -5,4 +5,5 @@ pub mod SectionsOf  -- its sections: events and numbers
 pub mod Plan  -- Plan
 pub mod Build  -- Build
 pub mod Given  -- what the demands speak of
-pub mod Demands  -- demands 2 and 3 as one record type
+pub mod Refused  -- what demand 1 says of refusals
+pub mod Demands  -- demands 2 and 3, and demand 1's refusals, as one record type

@@ -29,8 +29,8 @@ unfoldable pub lowestUnpackable : Sizes → List Event → Option ℕ
 unfolding lowest isUnpackable
 lowestUnpackable sizes es = lowest (isUnpackable sizes es) 0 (suc (lastIndex 0 es))
 
--- packing rule: each section takes as many of the segment's next events as fit, in `bytes` bytes. A segment without events is
--- one section
+-- 01's term: packing rule. Each section takes as many of the segment's next events as fit, in `bytes` bytes. A segment without
+-- events is one section
 unfoldable pub packed : ℕ → List Event → List (List Event)
 unfolding greedy
 packed bytes [] = [] ∷ []

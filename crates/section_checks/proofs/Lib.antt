@@ -1,6 +1,6 @@
 -- the tests of a section's frame, one by one
 pub mod FrameLaws
--- CRC_32 over a section by the lent table
+-- CRC_32 over a section by the lent tables
 pub mod ClosedLaws
 -- the tests of a section's header, one by one
 pub mod HeaderCheckLaws

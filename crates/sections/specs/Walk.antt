@@ -1,5 +1,5 @@
--- Read's walk over the sections of a file, one after the other (01, "When a call says no": per section 20, 21, 22, 23, 24, 26).
--- Laws: proofs/Walk.antt, proofs/Answers.antt. Assumes nothing.
+-- 01's term: walk. Read goes over the sections of a file, one after the other (01, "When a call says no": per section 20, 21, 22, 23,
+-- 24, 26). Laws: proofs/Walk.antt, proofs/Answers.antt. Assumes nothing.
 use Prim.Native.Nat.{ℕ, _+_}
 use mathlib.Core.Bool.{Bool, true, false}
 use mathlib.Core.List.{List, [], _∷_, _++_, map, reverse}

@@ -1,10 +1,9 @@
 -- `crc_codec::crc_block` meets its contract, for any tables. The loop's invariant: what the bytes so far have chosen, with what the
 -- rest of the block comes to from the rest of the register, is what the whole block comes to; a turn is `block-step`. The measure is
 -- the bytes left. Assumes nothing.
-use mathlib.Core.Path.{_≡_, refl, sym, ap, _∙_}
-use Prim.Native.Nat.{ℕ, _-_, _≤_, _<_, _^_}
+use mathlib.Core.Path.{_≡_, refl, sym, _∙_}
+use Prim.Native.Nat.{_-_, _≤_}
 use native.Mathlib.Omega.{arith}
-use borrow.Author.Needs.{needs}
 use lib.Bits.{bitXor}
 use lib.ListN.{length, drop}
 use Rattle.crc_codec.specs.CrcTables.{crcBlock}
