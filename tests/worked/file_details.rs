@@ -26,7 +26,7 @@ pub const ALL: [Detail; 15] = [
 ];
 
 /// Build's file of a list with these pools.
-fn file_of(records: &[Record], pools: Pools) -> Vec<u8> {
+pub fn file_of(records: &[Record], pools: Pools) -> Vec<u8> {
     let mut out = vec![0; 65_536];
     let length = build(&numbers(records), records.len(), pools, BASE_DAY, IDENTITY, &mut out).expect("a file");
     out.truncate(length);

@@ -1,5 +1,5 @@
-//! The worked examples and the details of docs/MANUAL.md, made through the Rust wrapper and printed as the manual has them: each
-//! block under the line that names it, and each detail once a call has shown it. tests/manual compares them.
+//! The worked examples, the details and two tables of docs/MANUAL.md, made through the Rust wrapper and printed as the manual has
+//! them: each block under the line that names it, and details and tables once calls have shown them. tests/manual compares them.
 
 #[allow(dead_code)]
 #[path = "../../bindings/rust/chirdaluko.rs"]
@@ -15,6 +15,7 @@ mod inputs;
 mod layout;
 mod lines;
 mod sections;
+mod tables;
 
 use chirdaluko::{build, check, crc32, edit, plan, read, Pools, RECORD, SEGMENTS};
 use evening::{BASE_DAY, IDENTITY};
@@ -58,4 +59,5 @@ fn main() {
         ],
     );
     details::print();
+    tables::print();
 }
