@@ -10,7 +10,7 @@ use crate::sections::{self, section};
 pub const ALL: [Detail; 15] = [
     ("A start of 10,799 stands in section 0, one of 10,800 in section 8: segments count from midnight UTC.", segments),
     ("The fifth day is table 0x51, and its events have the date of the base day + 4: the date comes from the start.", date),
-    ("Sections 0, 8 and 16 alone have last_section_number 16, not 3.", last_number),
+    ("A table of sections 0, 8 and 16 has last_section_number 16, not 3.", last_number),
     ("A table without events before the last table is one section without events, number 0.", empty_table),
     ("340 events without descriptors in one segment are two sections, of 339 and of 1.", packing),
     ("Which pool the descriptors came from is not in the file: both give the same bytes.", pools_alike),

@@ -54,8 +54,8 @@ fn main() {
         "CRC_32 of some bytes:",
         &[
             crc("the ASCII digits 1 to 9", b"123456789"),
-            crc("section 32 above without its last four bytes", &section[..section.len() - 4]),
-            crc("all of section 32 above", section),
+            crc("section 32 of table 0x50 without its last four bytes", &section[..section.len() - 4]),
+            crc("all of section 32 of table 0x50", section),
         ],
     );
     details::print();
