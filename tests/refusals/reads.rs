@@ -19,6 +19,7 @@ pub fn run(rows: &mut Rows) {
     frames(rows, &file);
     headers(rows, &file);
     numbering(rows, &file);
+    event_loops(rows, &file);
     ends(rows, &file);
     event_limit(rows);
 }
@@ -59,8 +60,18 @@ fn frames(rows: &mut Rows, file: &[u8]) {
     let mut frame = |file: &[u8], offset| refused(rows, file, BASE_DAY, ReadRefusal::Frame { offset }, SECTION);
     frame(&file[..END - 1], THIRD);
     frame(&[file, &[0x50]].concat(), END);
+    frame(&changed(file, SECOND, |section| section[0] = 0x4F), SECOND.start);
     frame(&changed(file, SECOND, |section| section[0] = 0x60), SECOND.start);
-    frame(&changed(file, SECOND, |section| section[2] = 14), SECOND.start);
+    // All of the section is there; within the limits it is looked at, and its CRC_32 is wrong.
+    let of_length = |length: u16| {
+        let [high, low] = (0xF000 | length).to_be_bytes();
+        [&file[..SECOND.start], &[0x51, high, low], &[0; 4_096]].concat()
+    };
+    frame(&of_length(14), SECOND.start);
+    frame(&of_length(4_094), SECOND.start);
+    for length in [15, 4_093] {
+        refused(rows, &of_length(length), BASE_DAY, ReadRefusal::Crc { offset: SECOND.start }, SECTION);
+    }
 
     let mut damaged = file.to_vec();
     damaged[SECOND.end - 1] ^= 1;
@@ -72,9 +83,16 @@ fn headers(rows: &mut Rows, file: &[u8]) {
         let damaged = changed(file, offset..offset + 30, |section| section[place] = byte);
         refused(rows, &damaged, BASE_DAY, ReadRefusal::Header { offset }, SECTION);
     };
-    // current_next 0; another service; last_table_id out of its range; one that differs.
+    // Fixed bits; current_next 0.
+    header(1, file[1] & 0x7F, 0);
+    header(5, file[5] & 0x7F, 0);
     header(5, file[5] & 0xFE, 0);
+    // Another service, stream, network and version; last_table_id out of its range, and one that differs.
     header(4, 9, SECOND.start);
+    header(9, 9, SECOND.start);
+    header(11, 9, SECOND.start);
+    header(5, file[5] ^ 2, SECOND.start);
+    header(13, 0x4F, 0);
     header(13, 0x60, 0);
     header(13, 0x52, SECOND.start);
 }
@@ -87,15 +105,38 @@ fn numbering(rows: &mut Rows, file: &[u8]) {
     let mut past = changed(file, 0..SECOND.start, |section| section[13] = 0x50);
     past = changed(&past, SECOND, |section| section[13] = 0x50);
     numbering(&past, SECOND.start);
+}
 
+fn event_loops(rows: &mut Rows, file: &[u8]) {
     let mut events = |file: &[u8], base_day, offset| {
         refused(rows, file, base_day, ReadRefusal::EventLoop { offset }, SECTION);
     };
-    // The first event is then before midnight; running_status 1; the id of the first event; an event of the next segment.
+    // The first event is then before midnight.
     events(file, BASE_DAY + 1, 0);
-    events(&changed(file, SECOND, |section| section[24] = 0x20), BASE_DAY, SECOND.start);
-    events(&changed(file, SECOND, |section| section[15] = 1), BASE_DAY, SECOND.start);
-    events(&changed(file, SECOND, |section| section[18] = 0x03), BASE_DAY, SECOND.start);
+    let mut with = |place: usize, byte: u8| {
+        events(&changed(file, SECOND, |section| section[place] = byte), BASE_DAY, SECOND.start);
+    };
+    // The id of the first event; another date; an event of the next segment; 24 hours, 60 minutes, a half byte above 9.
+    with(15, 1);
+    with(17, 0x79);
+    with(18, 0x03);
+    with(18, 0x24);
+    with(19, 0x60);
+    with(20, 0x0A);
+    // No duration; running_status 1; a chain that is cut.
+    with(21, 0x00);
+    with(24, 0x20);
+    with(25, 0x01);
+    // Two events, the second with the start of the first.
+    let two = changed(&built(&[event(1, 100), event(2, 160)]), 0..42, |section| section[31] = 0x01);
+    events(&two, BASE_DAY, 0);
+    // The third section's segment has a second section, and the third section no events.
+    let mut empty = file[..THIRD].to_vec();
+    let mut third = [&file[THIRD..THIRD + 14], &[0; 4]].concat();
+    (third[2], third[7], third[12]) = (15, 9, 9);
+    seal(&mut third);
+    empty = changed(&empty, SECOND, |section| section[7] = 9);
+    events(&[empty, third].concat(), BASE_DAY, THIRD);
 }
 
 fn ends(rows: &mut Rows, file: &[u8]) {
@@ -121,6 +162,7 @@ fn ends(rows: &mut Rows, file: &[u8]) {
 fn event_limit(rows: &mut Rows) {
     let records: Vec<_> = (0..2_048).map(|place| event(place, 5 * place)).collect();
     let mut file = built(&records);
+    assert_eq!(check(&file, BASE_DAY), Ok(Reading { count: 2_048, identity: IDENTITY }));
     let last = 6 * (18 + 339 * 12);
     let mut section = file.split_off(last);
     // Event 2,048 at 02:50:40.
