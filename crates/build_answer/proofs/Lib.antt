@@ -1,0 +1,2 @@
+-- a built file lies in the output
+pub mod Inside

@@ -5,7 +5,7 @@ use text::write_text;
 ghost use Rattle.listing.specs.Fill.{Fills};
 ghost use Rattle.listing.specs.Listing.{sectionLine, listing, refusedText, tooLong};
 
-mod events;
+pub mod events;
 mod text;
 
 // The line of a section: table, section number and number of events. Returns the place behind it.

@@ -1,7 +1,7 @@
 -- The text for a script, case by case, by the tests of its definition; and that every text has room. Assumes nothing.
 use Prim.Native.Nat.{ℕ, _+_, _*_, _≤_, _<_}
 use mathlib.Core.List.{List}
-use mathlib.Core.Path.{_≡_, refl, sym, ap, subst, _∙_}
+use mathlib.Core.Path.{_≡_, refl, sym, ap, _∙_}
 use native.Mathlib.Omega.{arith}
 use borrow.Author.Tests.{le-leb, lt-leb, eq-eqb, ne-eqb}
 use lib.ListN.{length, take, replicate, length-replicate}
@@ -9,9 +9,7 @@ use Rattle.eit.specs.Sizes.{broadcast}
 use Rattle.eit.specs.Overwrite.{overwrite}
 use Rattle.eit.specs.Records.{EventList, lentList}
 use Rattle.script.specs.Edit.{Edited, edit}
-use Rattle.sections.specs.Section.{Section, sectionSizes}
-use Rattle.schedule.specs.Build.{Built, build, written}
-use Rattle.schedule.proofs.Build.{build-is, written-fits}
+use Rattle.schedule.specs.Build.{Built, build}
 use Rattle.listing.specs.Fill.{Fills}
 use Rattle.listing.specs.Listing.{listing, refusedText, tooLong}
 use Rattle.listing.proofs.FillLaws.{filled-whole, filled-same}
@@ -20,19 +18,6 @@ use Rattle.plan.specs.PlanText.{scriptMost, outputSize, bufferSize, noPo
 use Rattle.plan.specs.PlanText.{builtText, listText, editedText, textWithin, planText, textMost, Written}
 
 -- ---- a list
-
--- a built file lies in the output
-abbrev Inside : List ℕ → Built → Type 0
-Inside output built = built .number ≡ 0 → built .value ≤ length output
-
-build-inside : (output : List ℕ) (list : EventList) → Inside output (build broadcast noPools list baseDay noIdentity output)
-build-inside output list =
-    build-is (Inside output) broadcast baseDay noIdentity output
-    (λ (number value : ℕ) (refused : number ≡ 0 → ⊥) (success : number ≡ 0). absurd (refused success))
-    (λ (ss : List Section) (fits : sectionSizes ss ≤ length output) (success : written baseDay ss output .number ≡ 0).
-    omega (arith, ap (λ (b : Built). b .value) (written-fits baseDay ss output fits)))
-    noPools
-    list
 
 module _ (output : List ℕ) (list : EventList) (built : Built)
     (is : build broadcast noPools list baseDay noIdentity output ≡ built) where
@@ -49,11 +34,6 @@ module _ (output : List ℕ) (list : EventList) (built : Built)
       ap builtText is
       ∙ rw (builtText, eq-eqb (built .number) 0 (sym says ∙ success))
       (ap (λ (n : ℕ). listing (take n (built .output))) (sym value))
-
-  pub list-inside : {number size : ℕ} → number ≡ built .number → size ≡ built .value → number ≡ 0 → size ≤ length output
-  list-inside {number} {size} says value success =
-      let inside : Inside output built = subst (Inside output) is (build-inside output list) in
-      omega (arith, inside (sym says ∙ success))
 
 -- ---- a script
 

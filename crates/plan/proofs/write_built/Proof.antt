@@ -8,9 +8,13 @@ use borrow.Author.Needs.{needs}
 use lib.ListN.{length, take}
 use lib.Seq.{length-take-le}
 use Rattle.eit.proofs.Fields.{bytes-all, bytes-take}
+use Rattle.eit.specs.Sizes.{broadcast}
 use Rattle.eit.specs.Records.{lentList}
+use Rattle.sections.specs.Read.{noIdentity}
+use Rattle.build_answer.proofs.Inside.{built-inside}
 use Rattle.listing.proofs.SizeLaws.{refused-length, listing-length}
-use Rattle.plan.proofs.PlanLaws.{list-refused, list-built, list-inside, written-as}
+use Rattle.plan.specs.PlanText.{noPools, baseDay}
+use Rattle.plan.proofs.PlanLaws.{list-refused, list-built, written-as}
 use Rattle.plan.proofs.write_built.Statement.{statement}
 use Rattle.plan.proofs.write_built.Tie as tie
 
@@ -61,7 +65,8 @@ inside : (c : tie.After-value-of) → c .value-of .result ≤ length (now (start
 inside c =
     let numbered = c .before .before in
     let a = start numbered .args in
-    list-inside (now (a .output)) (lentList (now (a .list)) (a .count)) _ (builds numbered .build .ensures)
+    built-inside broadcast noPools (lentList (now (a .list)) (a .count)) baseDay noIdentity (now (a .output)) _
+    (builds numbered .build .ensures)
     (numbered .number-of .ensures) (c .value-of .ensures) (c .before .if1 .left)
 
 slice-reshare-prefix-write-listing : tie.Need-slice-reshare-prefix-write-listing
