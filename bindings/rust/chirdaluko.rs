@@ -1,5 +1,5 @@
 //! Chirdaluko from Rust: safe functions on slices over the library's C face (include/chirdaluko.h), with an enum for the answers of
-//! each call. One file, standard library only; it allocates nothing. Make it a module, and link the static library:
+//! each call. One file, Rust 2021, standard library only; it allocates nothing. Make it a module, and link the static library:
 //! README.md, "How to link", has the commands, and docs/MANUAL.md shows every call at work.
 //!
 //! What each call returns and leaves is proved. Slices keep all that the C face asks of its caller: pointers that are not null,
