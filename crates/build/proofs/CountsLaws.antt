@@ -14,7 +14,7 @@ use Rattle.eit.specs.Events.{Event}
 use Rattle.eit.specs.declared.Identity.{Identity}
 use Rattle.eit.proofs.Test.{test-or}
 use Rattle.schedule.specs.Extent.{lastTable, lastSegment, isInside}
-use Rattle.schedule.specs.SectionsOf.{partsOf, tableLast}
+use Rattle.schedule.specs.SectionsOf.{packedSegment, tableLast}
 use Rattle.schedule.specs.Plan.{sectionCount}
 use Rattle.schedule.proofs.Each.{each-length, each-at}
 use Rattle.schedule.proofs.Extent.{segment-in-table, is-inside, inside-is}
@@ -42,7 +42,7 @@ module _ {sizes : Sizes} {identity : Identity} {es : List Event} {counts d : Lis
           ∙ ap (sectionCount sizes es) place
 
       -- inside the range a segment has its parts, outside none
-      pub count-parts : T (isInside es index) → getD counts index 0 ≡ length (partsOf sizes es index)
+      pub count-parts : T (isInside es index) → getD counts index 0 ≡ length (packedSegment sizes es index)
       count-parts inside = count-is ∙ count-inside sizes es index inside (ready .packs index)
 
       count-none : T (not (isInside es index)) → getD counts index 0 ≡ 0
@@ -87,7 +87,7 @@ module _ {sizes : Sizes} {identity : Identity} {es : List Event} {counts d : Lis
           let early : table ≤ lastTable es = inside-is es index (counted-inside index few some) .0 in
           let place : index + s ≡ last = omega arith in
           let ends : T (isInside es last) = is-inside es last (omega arith) (rw own (omega arith)) in
-          let here : getD (drop index counts) s 0 ≡ length (partsOf sizes es last) =
+          let here : getD (drop index counts) s 0 ≡ length (packedSegment sizes es last) =
           row-at s ∙ ap (λ (k : ℕ). getD counts k 0) place ∙ count-parts last (omega arith) ends in
           let behind : (j : ℕ) → s < j → j ≤ 31 → getD (drop index counts) j 0 ≡ 0 =
           λ j later most.
@@ -97,7 +97,7 @@ module _ {sizes : Sizes} {identity : Identity} {es : List Event} {counts d : Lis
           let within : index + j ≤ last = rw same at (inside-is es (index + j) inside .1) in
           omega arith) in
           row-at j ∙ count-none (index + j) (omega arith) outside in
-          let found : 0 < length (partsOf sizes es last) = parts-some sizes es last in
+          let found : 0 < length (packedSegment sizes es last) = parts-some sizes es last in
           last-is (drop index counts) s
           (counted-is 31 s (drop index counts) (omega arith) (inr (λ none. omega arith)) behind)
           ∙ ap (λ (n : ℕ). 8 * s + (n - 1)) here

@@ -24,7 +24,7 @@ use Rattle.section_counts.specs.Between.{eventsBetween, leading}
 use Rattle.section_counts.proofs.WalkLaws.{SegmentWalk, heldEvents, walk-start, walk-past, walk-events, walk-on}
 use Rattle.schedule.specs.Each.{each}
 use Rattle.schedule.specs.Extent.{lastTable, lastTableIdOf, lastSegment, isInside}
-use Rattle.schedule.specs.SectionsOf.{partsOf, tableLast, headerOf, sectionsOf}
+use Rattle.schedule.specs.SectionsOf.{packedSegment, tableLast, headerOf, sectionsOf}
 use Rattle.schedule.proofs.Each.{joined-more, joined-none}
 use Rattle.schedule.proofs.Extent.{tables-few, is-inside, inside-is}
 use Rattle.schedule.proofs.ByIndex.{insidePart, part-inside, part-outside, file-by-index}
@@ -161,7 +161,7 @@ module _ (pools : Pools) (numbers : List ℕ) (count : ℕ) {sizes : Sizes} {ide
                   written-is : sections ≡ insidePart sizes identity es index
                   written-is =
                       let n : ℕ = getD counts index 0 in
-                      let parts : n ≡ length (partsOf sizes es index) = count-parts ready index few inside-range in
+                      let parts : n ≡ length (packedSegment sizes es index) = count-parts ready index few inside-range in
                       let held : Header = headerOf sizes identity es index (firstSection index) in
                       ap₂ (λ (r : ℕ) (h : Header). sectionsFrom r h n (eventsBetween pools numbers from end)) is-room
                       (ap heldHeader is-header ∙ header-is sizes identity es index parts is-last is-id)

@@ -13,7 +13,7 @@ use Rattle.sections.specs.Section.{Header, Section, eventSize}
 use Rattle.sections.specs.Count.{segmentEvents}
 use Rattle.section_codec.specs.HeaderRead.{heldHeader}
 use Rattle.schedule.specs.Extent.{lastTableIdOf}
-use Rattle.schedule.specs.SectionsOf.{packed, partsOf, segmentLast, tableLast, headerOf, numberedFrom, segmentPart}
+use Rattle.schedule.specs.SectionsOf.{packed, packedSegment, segmentLast, tableLast, headerOf, numberedFrom, sectionsOfSegment}
 use Rattle.schedule.proofs.Numbers.{segment-last-is}
 use Rattle.build.specs.Sections.{firstHeader, sectionsFrom}
 
@@ -21,7 +21,7 @@ use Rattle.build.specs.Sections.{firstHeader, sectionsFrom}
 
 module _ (sizes : Sizes) (identity : Identity) (es : List Event) (index : ℕ) where
   pub header-is : {sections last lastId : ℕ}
-      → sections ≡ length (partsOf sizes es index)
+      → sections ≡ length (packedSegment sizes es index)
       → last ≡ tableLast sizes es (index / 32)
       → lastId ≡ lastTableIdOf es
       → heldHeader (firstHeader index sections last lastId identity) ≡ headerOf sizes identity es index (firstSection index)
@@ -63,8 +63,8 @@ module _ (sizes : Sizes) (identity : Identity) (es : List Event) (index : ℕ) w
   packed-from S [] = refl
   packed-from S (x ∷ xs) = greedy-from S 8 (x ∷ xs)
 
-  pub segment-is : segmentPart sizes identity es index
-      ≡ sectionsFrom (room sizes) (headerOf sizes identity es index (firstSection index)) (length (partsOf sizes es index))
+  pub segment-is : sectionsOfSegment sizes identity es index
+      ≡ sectionsFrom (room sizes) (headerOf sizes identity es index (firstSection index)) (length (packedSegment sizes es index))
       (segmentEvents index es)
-  unfolding segmentPart partsOf
+  unfolding sectionsOfSegment packedSegment
   segment-is = packed-from (firstSection index) (segmentEvents index es)

@@ -11,8 +11,8 @@ use Rattle.chirdaluko.specs.declared.EitEdited.{EitEdited}
 use Rattle.chirdaluko.specs.declared.EitBuilt.{EitBuilt}
 use Rattle.chirdaluko.specs.declared.EitReading.{EitReading}
 
-abbrev pub identityOf : ℕ → ℕ → ℕ → ℕ → Identity
-identityOf service stream network version =
+abbrev pub givenIdentity : ℕ → ℕ → ℕ → ℕ → Identity
+givenIdentity service stream network version =
     record { «service_id» = service; «transport_stream_id» = stream; «original_network_id» = network; version = version }
 
 abbrev pub editedOf : EitEdited → List ℕ → Edited
@@ -26,7 +26,7 @@ answerOf r =
     record {
       number = r .number;
       value = r .value;
-      identity = identityOf (r .«service_id») (r .«transport_stream_id») (r .«original_network_id») (r .version);
+      identity = givenIdentity (r .«service_id») (r .«transport_stream_id») (r .«original_network_id») (r .version);
       count = r .count;
     }
 

@@ -13,7 +13,7 @@ ghost use Rattle.sections.specs.Read.{checkFile, read};
 ghost use Rattle.schedule.specs.Plan.{plan};
 ghost use Rattle.schedule.specs.Build.{build};
 ghost use Rattle.read_answer.specs.Told.{told};
-ghost use Rattle.chirdaluko.specs.Face.{editedOf, builtOf, identityOf, answerOf, readingOf};
+ghost use Rattle.chirdaluko.specs.Face.{editedOf, builtOf, givenIdentity, answerOf, readingOf};
 
 // What Edit returns: document 01's number and value, and the count then held.
 #[repr(C)]
@@ -83,7 +83,7 @@ pub extern "C" fn eit_build<'a>(
 ) -> EitBuilt
     ensures { λ r. ⌜
         build broadcast (lentPools (now (day .entry)) (now (series .entry))) (lentList (now (list .entry)) count) «base_day»
-        (identityOf «service_id» «transport_stream_id» «original_network_id» version) (now (out .entry))
+        (givenIdentity «service_id» «transport_stream_id» «original_network_id» version) (now (out .entry))
         ≡ builtOf r (now (out .exit)) ⌝ }
 {
     let identity = Identity {

@@ -7,7 +7,7 @@ use Rattle.eit.specs.Records.{recordSize}
 
 -- section_length, the bytes after its field, is 15 to 4,093; events have 4,078 bytes in a section; the records of the largest list
 -- are 12,288 numbers
-pub broadcast-sizes : (sectionOverhead - 3 ≡ 15) × (broadcast .sectionBytes - 3 ≡ 4_093) × (room broadcast ≡ 4_078)
+pub broadcast-sizes : (sectionOverhead - 3 ≡ 15) × (broadcast .sectionLimit - 3 ≡ 4_093) × (room broadcast ≡ 4_078)
     × (broadcast .eventLimit * recordSize ≡ 12_288)
 broadcast-sizes = (refl, refl, refl, refl)
 

@@ -2,23 +2,23 @@
 -- Assumes nothing.
 use Prim.Native.Nat.{ℕ, _-_}
 
--- `sectionBytes`: the most bytes of a whole section; `eventLimit`: the most events of a list or a file
+-- `sectionLimit`: the most bytes of a whole section; `eventLimit`: the most events of a list or a file
 pub record Sizes : Type 0 where
-  pub sectionBytes : ℕ
+  pub sectionLimit : ℕ
   pub eventLimit : ℕ
 
 -- 01, "The file of sections": section_length, the bytes after its field, is at most 4,093, so a section has at most 4,096;
 -- "Event record and sound list": the count is at most 2,048
 abbrev pub broadcast : Sizes
-broadcast = record { sectionBytes = 4096; eventLimit = 2048 }
+broadcast = record { sectionLimit = 4096; eventLimit = 2048 }
 
 -- sizes that the code is given as numbers
 abbrev pub sized : ℕ → ℕ → Sizes
-sized bytes limit = record { sectionBytes = bytes; eventLimit = limit }
+sized bytes limit = record { sectionLimit = bytes; eventLimit = limit }
 
 -- a list does not see the section's size: sizes with another limit of events
 abbrev pub limitedTo : ℕ → Sizes
-limitedTo limit = sized (broadcast .sectionBytes) limit
+limitedTo limit = sized (broadcast .sectionLimit) limit
 
 -- a section does not see the limit of events: sizes with other bytes of a section
 abbrev pub sectionsUpTo : ℕ → Sizes
@@ -30,4 +30,4 @@ sectionOverhead = 18
 
 -- 01, "The file of sections": events have 4,078 bytes in a section
 abbrev pub room : Sizes → ℕ
-room sizes = sizes .sectionBytes - sectionOverhead
+room sizes = sizes .sectionLimit - sectionOverhead

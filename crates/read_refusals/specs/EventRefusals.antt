@@ -39,12 +39,12 @@ pub record EventRefusals : Type 0 where
       says (section 0x50 0 8 0 0x50 (event 1 0x00 0x00) ++ section 0x50 8 8 8 0x50 (event 1 0x03 0x00))
       ≡ refusal 24 30
   -- 26, behind 24 and before 25
-  pub limit-held : checkFile (record { sectionBytes = 4_096; eventLimit = 1 }) 49_273 (withEvent one hour bare) .number ≡ 0
-  pub above-limit-early : checkFile (record { sectionBytes = 4_096; eventLimit = 1 }) 49_273
+  pub limit-held : checkFile (record { sectionLimit = 4_096; eventLimit = 1 }) 49_273 (withEvent one hour bare) .number ≡ 0
+  pub above-limit-early : checkFile (record { sectionLimit = 4_096; eventLimit = 1 }) 49_273
       (section 0x50 0 8 0 0x50 (event 1 0x00 0x00 ++ event 2 0x00 0x30)) ≡ refusal 26 0
-  pub broken-behind-limit : checkFile (record { sectionBytes = 4_096; eventLimit = 1 }) 49_273
+  pub broken-behind-limit : checkFile (record { sectionLimit = 4_096; eventLimit = 1 }) 49_273
       (section 0x50 0 8 0 0x50 (event 1 0x00 0x00 ++ event 2 0x00 0x30 ++ event 1 0x00 0x59)) ≡ refusal 24 0
-  pub above-limit-next : checkFile (record { sectionBytes = 4_096; eventLimit = 1 }) 49_273
+  pub above-limit-next : checkFile (record { sectionLimit = 4_096; eventLimit = 1 }) 49_273
       (section 0x50 0 8 0 0x50 (event 1 0x00 0x00) ++ section 0x50 8 8 8 0x50 (event 2 0x03 0x00)) ≡ refusal 26 30
   -- 25, with the file's length, and 27 behind it
   pub empty-file : says [] ≡ refusal 25 0

@@ -17,12 +17,12 @@ use Rattle.eit.proofs.Test.{test-or, le-or-lt}
 use Rattle.packing.specs.Greedy.{joined, held, greedy, Packing}
 use Rattle.packing.proofs.Greedy.{greedy-fewest, greedy-dominates, greedy-held, reach-length}
 use Rattle.sections.specs.Segment.{firstSection}
-use Rattle.sections.specs.Section.{Section, partsIn, sectionEvents, eventSize}
+use Rattle.sections.specs.Section.{Section, eventsBySection, sectionEvents, eventSize}
 use Rattle.sections.specs.Rules.{IdentityRules, Rules}
 use Rattle.sections.specs.Count.{firstSections, segmentEvents, segmentSections}
 use Rattle.sections.proofs.SegmentBetween.{segment-begins, segment-between}
 use Rattle.schedule.specs.Extent.{lastIndex, lastSegment, isInside}
-use Rattle.schedule.specs.SectionsOf.{isUnpackable, packed, partsOf, numberedFrom, segmentPart, sectionsOf}
+use Rattle.schedule.specs.SectionsOf.{isUnpackable, packed, packedSegment, numberedFrom, sectionsOfSegment, sectionsOf}
 use Rattle.schedule.proofs.SoundEvents.{SoundEvents}
 use Rattle.schedule.proofs.Extent.{segment-in-table, segment-held, table-held, inside-is, held-inside}
 use Rattle.schedule.proofs.Parts.{parts-few}
@@ -46,16 +46,16 @@ module _ (sizes : Sizes) where
   packed-held k (e ∷ es) = omega arith
 
 module _ (sizes : Sizes) (identity : Identity) (es : List Event) where
-  numbered-parts : (index S : ℕ) (ps : List (List Event)) → partsIn (numberedFrom sizes identity es index S ps) ≡ ps
+  numbered-parts : (index S : ℕ) (ps : List (List Event)) → eventsBySection (numberedFrom sizes identity es index S ps) ≡ ps
   numbered-parts index S [] = refl
   numbered-parts index S (p ∷ ps) = ap (λ (qs : List (List Event)). p ∷ qs) (numbered-parts index (suc S) ps)
 
-  pub part-parts : (index : ℕ) → partsIn (segmentPart sizes identity es index) ≡ partsOf sizes es index
-  unfolding segmentPart
-  part-parts index = numbered-parts index (firstSection index) (partsOf sizes es index)
+  pub part-parts : (index : ℕ) → eventsBySection (sectionsOfSegment sizes identity es index) ≡ packedSegment sizes es index
+  unfolding sectionsOfSegment
+  part-parts index = numbered-parts index (firstSection index) (packedSegment sizes es index)
 
-pub parts-are : (sizes : Sizes) (es : List Event) (index : ℕ) → partsOf sizes es index ≡ packed (room sizes) (segmentEvents index es)
-unfolding partsOf
+pub parts-are : (sizes : Sizes) (es : List Event) (index : ℕ) → packedSegment sizes es index ≡ packed (room sizes) (segmentEvents index es)
+unfolding packedSegment
 parts-are sizes es index = refl
 
 some-sections : (ss : List Section) → 0 < length (sectionEvents ss) → 0 < length ss
@@ -67,9 +67,9 @@ some-sections (s ∷ ss) some = omega arith
 
 module _ (sizes : Sizes) (es : List Event) (facts : SoundEvents sizes es)
     (other : Identity) (ss : List Section) (rules : Rules sizes other ss) (same : sectionEvents ss ≡ es) where
-  rival-packing : (index : ℕ) → Packing eventSize (room sizes) (segmentEvents index es) (partsIn (segmentSections index ss))
+  rival-packing : (index : ℕ) → Packing eventSize (room sizes) (segmentEvents index es) (eventsBySection (segmentSections index ss))
   rival-packing index =
-      subst (λ (fs : List Event). Packing eventSize (room sizes) (segmentEvents index fs) (partsIn (segmentSections index ss))) same
+      subst (λ (fs : List Event). Packing eventSize (room sizes) (segmentEvents index fs) (eventsBySection (segmentSections index ss))) same
       (segment-packing sizes other ss rules index)
 
   -- a segment with events has sections
@@ -103,20 +103,20 @@ module _ (sizes : Sizes) (es : List Event) (facts : SoundEvents sizes es)
         (λ inside.
         let built : length (segmentSections index (sectionsOf sizes identity es)) ≡ length (packed (room sizes) (segmentEvents index es)) =
         ap length (sections-inside sizes identity es index (parts-few sizes es) inside)
-        ∙ sym (length-map (segmentPart sizes identity es index) (λ (s : Section). s .events))
+        ∙ sym (length-map (sectionsOfSegment sizes identity es index) (λ (s : Section). s .events))
         ∙ ap length (part-parts sizes identity es index ∙ parts-are sizes es index) in
-        let rival : length (partsIn (segmentSections index ss)) ≡ length (segmentSections index ss) =
+        let rival : length (eventsBySection (segmentSections index ss)) ≡ length (segmentSections index ss) =
         length-map (segmentSections index ss) (λ (s : Section). s .events) in
         omega (
           arith,
-          packed-fewest sizes (segmentEvents index es) (partsIn (segmentSections index ss)) (rival-packing index)
+          packed-fewest sizes (segmentEvents index es) (eventsBySection (segmentSections index ss)) (rival-packing index)
               (omega (arith, rival-reaches index inside)),
         ))
         (λ outside. omega (arith, ap length (sections-outside sizes identity es index (parts-few sizes es) outside)))
         (test-or (isInside es index))
 
     -- its first k hold at most as many events
-    pub best-most : sectionOverhead ≤ sizes .sectionBytes → IdentityRules identity → ((i : ℕ) → T (not (isUnpackable sizes es i)))
+    pub best-most : sectionOverhead ≤ sizes .sectionLimit → IdentityRules identity → ((i : ℕ) → T (not (isUnpackable sizes es i)))
         → (k : ℕ) → k ≤ 8
         → length (sectionEvents (firstSections index k ss))
         ≤ length (sectionEvents (firstSections index k (sectionsOf sizes identity es)))
@@ -124,18 +124,18 @@ module _ (sizes : Sizes) (es : List Event) (facts : SoundEvents sizes es)
         let xs : List Event = segmentEvents index es in
         let ps : List (List Event) = greedy eventSize (room sizes) 8 xs in
         let B : List Section = sectionsOf sizes identity es in
-        let built : length (sectionEvents (firstSections index k B)) ≡ held k (partsIn (segmentSections index B)) =
+        let built : length (sectionEvents (firstSections index k B)) ≡ held k (eventsBySection (segmentSections index B)) =
         first-held sizes identity B (built-rules sizes identity es roomy legal facts fits) index k few in
         let rival : length (sectionEvents (firstSections index k ss)) ≤ held k ps =
         omega (
           arith,
           first-held sizes other ss rules index k few,
-          greedy-dominates eventSize (room sizes) k 8 xs (partsIn (segmentSections index ss)) (rival-packing index) few,
+          greedy-dominates eventSize (room sizes) k 8 xs (eventsBySection (segmentSections index ss)) (rival-packing index) few,
         ) in
         ⊎-elim
         (λ inside.
-        let parts : partsIn (segmentSections index B) ≡ packed (room sizes) xs =
-        ap partsIn (sections-inside sizes identity es index (parts-few sizes es) inside)
+        let parts : eventsBySection (segmentSections index B) ≡ packed (room sizes) xs =
+        ap eventsBySection (sections-inside sizes identity es index (parts-few sizes es) inside)
         ∙ part-parts sizes identity es index
         ∙ parts-are sizes es index in
         omega (arith, packed-held sizes k xs, ap (held k) parts))

@@ -26,7 +26,7 @@ all-four : (sizes : Sizes) (identity : Identity) (lastTableId : ℕ) (ss : List 
     → Every (λ (s : Section). HeaderRules identity lastTableId (s .header)) ss
     → Every (λ (s : Section). Every (EventRules (s .header)) (s .events)) ss
     → Every (λ (s : Section). s .events ≡ [] → Alone (s .header)) ss
-    → Every (λ (s : Section). sectionSize s ≤ sizes .sectionBytes) ss
+    → Every (λ (s : Section). sectionSize s ≤ sizes .sectionLimit) ss
     → Every (SectionRules sizes identity lastTableId) ss
 all-four sizes identity lastTableId [] headers events alone fit = tt
 all-four sizes identity lastTableId (s ∷ ss) headers events alone fit = (
@@ -34,7 +34,7 @@ all-four sizes identity lastTableId (s ∷ ss) headers events alone fit = (
   all-four sizes identity lastTableId ss (headers .1) (events .1) (alone .1) (fit .1),
 )
 
-pub built-rules : (sizes : Sizes) (identity : Identity) (es : List Event) → sectionOverhead ≤ sizes .sectionBytes
+pub built-rules : (sizes : Sizes) (identity : Identity) (es : List Event) → sectionOverhead ≤ sizes .sectionLimit
     → IdentityRules identity
     → SoundEvents sizes es
     → ((index : ℕ) → T (not (isUnpackable sizes es index)))

@@ -17,7 +17,7 @@ use Rattle.sections.specs.Section.{Section}
 use Rattle.sections.specs.Every.{Every}
 use Rattle.schedule.specs.Each.{each, lowest}
 use Rattle.schedule.specs.Extent.{lastTable, lastSegment, isInside}
-use Rattle.schedule.specs.SectionsOf.{isUnpackable, lowestUnpackable, segmentPart, tablePart, sectionsOf}
+use Rattle.schedule.specs.SectionsOf.{isUnpackable, lowestUnpackable, sectionsOfSegment, sectionsOfTable, sectionsOf}
 use Rattle.schedule.specs.Plan.{tabled}
 use Rattle.schedule.proofs.Each.{each-same, each-within, each-shift, each-rows}
 use Rattle.schedule.proofs.Each.{joined-none, joined-front, joined-rows, no-lowest, lowest-is}
@@ -28,7 +28,7 @@ use Rattle.schedule.proofs.Packable.{packable-or}
 
 -- the sections of a segment inside the range; outside none
 abbrev pub insidePart : Sizes → Identity → List Event → ℕ → List Section
-insidePart sizes identity es index = elim (isInside es index) [ true ↦ segmentPart sizes identity es index | false ↦ [] ]
+insidePart sizes identity es index = elim (isInside es index) [ true ↦ sectionsOfSegment sizes identity es index | false ↦ [] ]
 
 -- ---- Plan's counts
 
@@ -47,7 +47,7 @@ flat-plan count =
 
 module _ (sizes : Sizes) (identity : Identity) (es : List Event) where
   pub part-inside : (index : ℕ) → T (isInside es index)
-      → insidePart sizes identity es index ≡ segmentPart sizes identity es index
+      → insidePart sizes identity es index ≡ sectionsOfSegment sizes identity es index
   part-inside index inside = rw (insidePart, true-is (isInside es index) inside)
 
   pub part-outside : (index : ℕ) → T (not (isInside es index)) → insidePart sizes identity es index ≡ []
@@ -58,13 +58,13 @@ module _ (sizes : Sizes) (identity : Identity) (es : List Event) where
   rowOf table = flatten (each (insidePart sizes identity es) (table * 32) 32)
 
   -- a table up to the last: its segments up to its last one are inside, those behind it are not
-  table-row : (table : ℕ) → table ≤ lastTable es → tablePart sizes identity es table ≡ rowOf table
+  table-row : (table : ℕ) → table ≤ lastTable es → sectionsOfTable sizes identity es table ≡ rowOf table
   table-row table early =
       let first : ℕ = table * 32 in
       let last : ℕ = lastSegment es table in
       let n : ℕ = suc (last - first) in
       let own : last / 32 ≡ table = segment-in-table es table in
-      let within : (k : ℕ) → first ≤ k → k < first + n → insidePart sizes identity es k ≡ segmentPart sizes identity es k =
+      let within : (k : ℕ) → first ≤ k → k < first + n → insidePart sizes identity es k ≡ sectionsOfSegment sizes identity es k =
       λ k low high.
       let here : k / 32 ≡ table = omega arith in
       part-inside k (is-inside es k (omega arith) (rw here (omega arith))) in
@@ -75,7 +75,7 @@ module _ (sizes : Sizes) (identity : Identity) (es : List Event) where
       let most : k ≤ last = rw here at (inside-is es k inside .1) in
       omega arith)) in
       table-is sizes identity es table
-      ∙ ap flatten (sym (each-within (insidePart sizes identity es) (segmentPart sizes identity es) first n within))
+      ∙ ap flatten (sym (each-within (insidePart sizes identity es) (sectionsOfSegment sizes identity es) first n within))
       ∙ joined-front (insidePart sizes identity es) first n 32 (omega arith) behind
 
   -- a table behind the last: none is inside
@@ -91,7 +91,7 @@ module _ (sizes : Sizes) (identity : Identity) (es : List Event) where
       let n : ℕ = suc (lastTable es) in
       let few : n ≤ 16 = tables-few es starts in
       file-is sizes identity es
-      ∙ ap flatten (each-within (tablePart sizes identity es) rowOf 0 n (λ table low high. table-row table (omega arith)))
+      ∙ ap flatten (each-within (sectionsOfTable sizes identity es) rowOf 0 n (λ table low high. table-row table (omega arith)))
       ∙ joined-front rowOf 0 n 16 (omega arith) (λ table low high. table-beyond table (omega arith))
       ∙ joined-rows (insidePart sizes identity es) 32 0 16
 

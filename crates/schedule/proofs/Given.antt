@@ -103,8 +103,8 @@ module _ {sizes : Sizes} (g : Given sizes) where
 
 -- section sizes for which the demands hold: a section without events fits, and 12 bits of section_length reach
 pub record LegalSizes (sizes : Sizes) : Type 0 where
-  pub least : sectionOverhead ≤ sizes .sectionBytes
-  pub most : sizes .sectionBytes ≤ 4_096
+  pub least : sectionOverhead ≤ sizes .sectionLimit
+  pub most : sizes .sectionLimit ≤ 4_096
 
 module _ {sizes : Sizes} (legal : LegalSizes sizes) (g : Given sizes) where
   pub own-rules : Fits g → Rules sizes (g .identity) (ownSections g)

@@ -13,7 +13,7 @@ use Rattle.sections.specs.Section.{Section, sectionEvents}
 use Rattle.sections.specs.Count.{segmentEvents}
 use Rattle.schedule.specs.Each.{each}
 use Rattle.schedule.specs.Extent.{tableSegments, lastTable, lastSegment}
-use Rattle.schedule.specs.SectionsOf.{isUnpackable, partsOf, numberedFrom, segmentPart, tablePart, sectionsOf}
+use Rattle.schedule.specs.SectionsOf.{isUnpackable, packedSegment, numberedFrom, sectionsOfSegment, sectionsOfTable, sectionsOf}
 use Rattle.schedule.proofs.Each.{each-same, joined-map}
 use Rattle.schedule.proofs.EventsFrom.{segmentHeld, tableHeld, all-held}
 use Rattle.schedule.proofs.Parts.{parts-events}
@@ -31,12 +31,12 @@ held-append (s ∷ ss) ts =
 
 module _ (sizes : Sizes) (identity : Identity) (es : List Event) where
   -- the sections of a table and of the file
-  pub table-is : (table : ℕ) → tablePart sizes identity es table
-      ≡ flatten (each (segmentPart sizes identity es) (table * tableSegments) (suc (lastSegment es table - table * tableSegments)))
-  unfolding tablePart
+  pub table-is : (table : ℕ) → sectionsOfTable sizes identity es table
+      ≡ flatten (each (sectionsOfSegment sizes identity es) (table * tableSegments) (suc (lastSegment es table - table * tableSegments)))
+  unfolding sectionsOfTable
   table-is table = refl
 
-  pub file-is : sectionsOf sizes identity es ≡ flatten (each (tablePart sizes identity es) 0 (suc (lastTable es)))
+  pub file-is : sectionsOf sizes identity es ≡ flatten (each (sectionsOfTable sizes identity es) 0 (suc (lastTable es)))
   unfolding sectionsOf
   file-is = refl
 
@@ -47,23 +47,23 @@ module _ (sizes : Sizes) (identity : Identity) (es : List Event) where
 
   -- the sections of a segment that is not unpackable hold its events
   part-events : (index : ℕ) → T (not (isUnpackable sizes es index))
-      → sectionEvents (segmentPart sizes identity es index) ≡ segmentEvents index es
-  unfolding segmentPart
+      → sectionEvents (sectionsOfSegment sizes identity es index) ≡ segmentEvents index es
+  unfolding sectionsOfSegment
   part-events index fits =
-      numbered-events index (firstSection index) (partsOf sizes es index) ∙ parts-events sizes es index fits
+      numbered-events index (firstSection index) (packedSegment sizes es index) ∙ parts-events sizes es index fits
 
   -- the sections of the file hold the list's events
   pub sections-events : T (rising es) → ((index : ℕ) → T (not (isUnpackable sizes es index)))
       → sectionEvents (sectionsOf sizes identity es) ≡ es
   sections-events rises fits =
-      let held : (table : ℕ) → sectionEvents (tablePart sizes identity es table) ≡ tableHeld es rises table =
+      let held : (table : ℕ) → sectionEvents (sectionsOfTable sizes identity es table) ≡ tableHeld es rises table =
       λ table.
       let first : ℕ = table * tableSegments in
       let n : ℕ = suc (lastSegment es table - first) in
       ap sectionEvents (table-is table)
-      ∙ joined-map sectionEvents no-events held-append (segmentPart sizes identity es) first n
+      ∙ joined-map sectionEvents no-events held-append (sectionsOfSegment sizes identity es) first n
       ∙ ap flatten (each-same _ (segmentHeld es rises) first n (λ index. part-events index (fits index))) in
       ap sectionEvents file-is
-      ∙ joined-map sectionEvents no-events held-append (tablePart sizes identity es) 0 (suc (lastTable es))
+      ∙ joined-map sectionEvents no-events held-append (sectionsOfTable sizes identity es) 0 (suc (lastTable es))
       ∙ ap flatten (each-same _ (tableHeld es rises) 0 (suc (lastTable es)) held)
       ∙ all-held es rises

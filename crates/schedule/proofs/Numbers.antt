@@ -16,7 +16,7 @@ use Rattle.sections.specs.Section.{Header, Section, headersOf}
 use Rattle.sections.specs.Every.{Every}
 use Rattle.sections.specs.Rules.{HeaderRules, Alone, Next, Ordered}
 use Rattle.schedule.specs.Extent.{lastTable, lastTableIdOf, lastSegment}
-use Rattle.schedule.specs.SectionsOf.{partsOf, segmentLast, tableLast, headerOf, numberedFrom, segmentPart, tablePart}
+use Rattle.schedule.specs.SectionsOf.{packedSegment, segmentLast, tableLast, headerOf, numberedFrom, sectionsOfSegment, sectionsOfTable}
 use Rattle.schedule.specs.SectionsOf.{sectionsOf}
 use Rattle.schedule.proofs.Each.{joined-every}
 use Rattle.schedule.proofs.Extent.{segment-in-table}
@@ -26,7 +26,7 @@ use Rattle.schedule.proofs.Linked.{Linked, one, more, linked-ordered, r
 -- ---- G and L
 
 module _ (sizes : Sizes) (es : List Event) where
-  pub segment-last-is : (index : ℕ) → segmentLast sizes es index ≡ firstSection index + (length (partsOf sizes es index) - 1)
+  pub segment-last-is : (index : ℕ) → segmentLast sizes es index ≡ firstSection index + (length (packedSegment sizes es index) - 1)
   unfolding segmentLast
   segment-last-is index = refl
 
@@ -74,18 +74,18 @@ module _ (sizes : Sizes) (identity : Identity) (es : List Event) where
   -- what holds of every section of every segment inside the range holds of every section of the file
   pub sections-every : (P : Section → Type 0)
       → ((index : ℕ) → index / 32 ≤ lastTable es → index ≤ lastSegment es (index / 32)
-      → Every P (segmentPart sizes identity es index))
+      → Every P (sectionsOfSegment sizes identity es index))
       → Every P (sectionsOf sizes identity es)
   unfolding sectionsOf
   sections-every P all =
-      joined-every P (tablePart sizes identity es) 0 (suc (lastTable es))
+      joined-every P (sectionsOfTable sizes identity es) 0 (suc (lastTable es))
       (λ table low high. table-every table (omega arith))
     where
-      table-every : (table : ℕ) → table ≤ lastTable es → Every P (tablePart sizes identity es table)
+      table-every : (table : ℕ) → table ≤ lastTable es → Every P (sectionsOfTable sizes identity es table)
       table-every table few =
           let l : ℕ = lastSegment es table in
           let last : l / 32 ≡ table = segment-in-table es table in
-          joined-every P (segmentPart sizes identity es) (table * 32) (suc (l - table * 32))
+          joined-every P (sectionsOfSegment sizes identity es) (table * 32) (suc (l - table * 32))
           (λ index low high.
           let here : index / 32 ≡ table = omega arith in
           all index (omega arith) (rw here (omega arith)))
@@ -132,12 +132,12 @@ module _ (sizes : Sizes) (identity : Identity) (es : List Event) where
 
   -- numbers and table of every section are in their ranges
   pub headers-keep : Every (λ (s : Section). HeaderRules identity (lastTableIdOf es) (s .header)) (sectionsOf sizes identity es)
-  unfolding segmentPart
+  unfolding sectionsOfSegment
   headers-keep =
       let Keeps : Section → Type 0 = λ (s : Section). HeaderRules identity (lastTableIdOf es) (s .header) in
       sections-every Keeps
       (λ index table inside.
-      numbered-every Keeps index (firstSection index) (partsOf sizes es index)
+      numbered-every Keeps index (firstSection index) (packedSegment sizes es index)
       (λ S p least most. header-keeps index S table inside least (omega (arith, segment-last-is sizes es index))))
 
   -- no section has no events
@@ -150,19 +150,19 @@ module _ (sizes : Sizes) (identity : Identity) (es : List Event) where
   )
 
   -- one section alone
-  one-alone : (index : ℕ) → length (partsOf sizes es index) ≡ 1 → Alone (headerOf sizes identity es index (firstSection index))
+  one-alone : (index : ℕ) → length (packedSegment sizes es index) ≡ 1 → Alone (headerOf sizes identity es index (firstSection index))
   one-alone index single = record { number = omega arith; last = omega (arith, segment-last-is sizes es index) }
 
   -- a section without events is alone in its segment
-  pub empty-alone : ((index : ℕ) → OneOrFilled (partsOf sizes es index))
+  pub empty-alone : ((index : ℕ) → OneOrFilled (packedSegment sizes es index))
       → Every (λ (s : Section). s .events ≡ [] → Alone (s .header)) (sectionsOf sizes identity es)
-  unfolding segmentPart
+  unfolding sectionsOfSegment
   empty-alone parts =
       sections-every (λ (s : Section). s .events ≡ [] → Alone (s .header))
       (λ index table inside.
       ⊎-elim
       (λ single. rw single (λ empty. one-alone index (ap (λ (ps : List (List Event)). length ps) single), tt))
-      (λ full. none-empty index (firstSection index) (partsOf sizes es index) full)
+      (λ full. none-empty index (firstSection index) (packedSegment sizes es index) full)
       (parts index))
 
   -- ---- order
@@ -223,23 +223,23 @@ module _ (sizes : Sizes) (identity : Identity) (es : List Event) where
       (parts-linked index (suc S) (q ∷ ps) inside (omega arith) (omega arith))
 
   segment-linked : (index : ℕ) → index ≤ lastSegment es (index / 32)
-      → Linked (firstHeader index) (lastHeader index) (headersOf (segmentPart sizes identity es index))
-  unfolding segmentPart
+      → Linked (firstHeader index) (lastHeader index) (headersOf (sectionsOfSegment sizes identity es index))
+  unfolding sectionsOfSegment
   segment-linked index inside =
-      parts-linked index (firstSection index) (partsOf sizes es index) inside (parts-some sizes es index)
+      parts-linked index (firstSection index) (packedSegment sizes es index) inside (parts-some sizes es index)
       (omega (arith, segment-last-is sizes es index, parts-some sizes es index))
 
   table-linked : (table : ℕ)
-      → Linked (firstHeader (table * 32)) (lastHeader (lastSegment es table)) (headersOf (tablePart sizes identity es table))
-  unfolding tablePart
+      → Linked (firstHeader (table * 32)) (lastHeader (lastSegment es table)) (headersOf (sectionsOfTable sizes identity es table))
+  unfolding sectionsOfTable
   table-linked table =
       let l : ℕ = lastSegment es table in
       let last : l / 32 ≡ table = segment-in-table es table in
       let end : table * 32 + (l - table * 32) ≡ l = omega arith in
       subst
-      (λ (n : ℕ). Linked (firstHeader (table * 32)) (lastHeader n) (headersOf (tablePart sizes identity es table)))
+      (λ (n : ℕ). Linked (firstHeader (table * 32)) (lastHeader n) (headersOf (sectionsOfTable sizes identity es table)))
       end
-      (row-linked (segmentPart sizes identity es) firstHeader lastHeader (table * 32) (l - table * 32)
+      (row-linked (sectionsOfSegment sizes identity es) firstHeader lastHeader (table * 32) (l - table * 32)
       (λ index low high.
       let here : index / 32 ≡ table = omega arith in
       segment-linked index (rw here (omega arith)))
@@ -252,7 +252,7 @@ module _ (sizes : Sizes) (identity : Identity) (es : List Event) where
   unfolding sectionsOf
   headers-ordered =
       linked-ordered
-      (row-linked (tablePart sizes identity es) (λ (table : ℕ). firstHeader (table * 32))
+      (row-linked (sectionsOfTable sizes identity es) (λ (table : ℕ). firstHeader (table * 32))
       (λ (table : ℕ). lastHeader (lastSegment es table)) 0 (lastTable es) (λ table low high. table-linked table)
       (λ table low high. next-table table))
       (record { table = refl; section = refl })

@@ -9,7 +9,7 @@ use Rattle.eit.specs.Sizes.{Sizes}
 use Rattle.eit.specs.declared.Identity.{Identity}
 use Rattle.packing.specs.Greedy.{held}
 use Rattle.packing.proofs.Joined.{parts-only}
-use Rattle.sections.specs.Section.{Section, partsIn, sectionEvents}
+use Rattle.sections.specs.Section.{Section, eventsBySection, sectionEvents}
 use Rattle.sections.specs.Encode.{fileBytes}
 use Rattle.sections.specs.Rules.{Rules}
 use Rattle.sections.specs.Decode.{cutSections}
@@ -30,10 +30,10 @@ module _ (sizes : Sizes) (identity : Identity) (ss ts : List Section)
     (ours : Rules sizes identity ss) (theirs : Rules sizes identity ts) (same : sectionEvents ss ≡ sectionEvents ts) where
   -- counts tell the parts of a segment
   counts-only : (index : ℕ) → length (segmentSections index ss) ≡ length (segmentSections index ts)
-      → ((k : ℕ) → k ≤ 8 → held k (partsIn (segmentSections index ss)) ≡ held k (partsIn (segmentSections index ts)))
-      → partsIn (segmentSections index ss) ≡ partsIn (segmentSections index ts)
+      → ((k : ℕ) → k ≤ 8 → held k (eventsBySection (segmentSections index ss)) ≡ held k (eventsBySection (segmentSections index ts)))
+      → eventsBySection (segmentSections index ss) ≡ eventsBySection (segmentSections index ts)
   counts-only index many held-same =
-      parts-only (partsIn (segmentSections index ss)) (partsIn (segmentSections index ts))
+      parts-only (eventsBySection (segmentSections index ss)) (eventsBySection (segmentSections index ts))
       (segment-packing sizes identity ss ours index .ordered
       ∙ ap (segmentEvents index) same
       ∙ sym (segment-packing sizes identity ts theirs index .ordered))

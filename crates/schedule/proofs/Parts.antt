@@ -21,7 +21,7 @@ use Rattle.sections.specs.Rules.{EventRules}
 use Rattle.sections.specs.Count.{segmentEvents}
 use Rattle.sections.proofs.Every.{every-map, every-parts}
 use Rattle.sections.proofs.Count.{events-cases}
-use Rattle.schedule.specs.SectionsOf.{isUnpackable, packed, partsOf, headerOf, numberedFrom, segmentPart}
+use Rattle.schedule.specs.SectionsOf.{isUnpackable, packed, packedSegment, headerOf, numberedFrom, sectionsOfSegment}
 use Rattle.schedule.proofs.SoundEvents.{EventFacts}
 use Rattle.schedule.proofs.Extent.{startIndex}
 
@@ -87,22 +87,22 @@ module _ (sizes : Sizes) where
 
 -- a segment has one to eight sections
 module _ (sizes : Sizes) (es : List Event) (index : ℕ) where
-  pub parts-some : 0 < length (partsOf sizes es index)
-  unfolding partsOf
+  pub parts-some : 0 < length (packedSegment sizes es index)
+  unfolding packedSegment
   parts-some = packed-some sizes (segmentEvents index es)
 
-  pub parts-few : length (partsOf sizes es index) ≤ 8
-  unfolding partsOf
+  pub parts-few : length (packedSegment sizes es index) ≤ 8
+  unfolding packedSegment
   parts-few = packed-few sizes (segmentEvents index es)
 
   -- together they hold the segment's events, if it is not unpackable
-  pub parts-events : T (not (isUnpackable sizes es index)) → flatten (partsOf sizes es index) ≡ segmentEvents index es
-  unfolding partsOf isUnpackable
+  pub parts-events : T (not (isUnpackable sizes es index)) → flatten (packedSegment sizes es index) ≡ segmentEvents index es
+  unfolding packedSegment isUnpackable
   parts-events fits = packed-all sizes (segmentEvents index es) fits
 
   -- there is one, without events, or each has events
-  pub parts-filled : T (not (isUnpackable sizes es index)) → OneOrFilled (partsOf sizes es index)
-  unfolding partsOf isUnpackable
+  pub parts-filled : T (not (isUnpackable sizes es index)) → OneOrFilled (packedSegment sizes es index)
+  unfolding packedSegment isUnpackable
   parts-filled fits = packed-nonempty sizes (segmentEvents index es) fits
 
 module _ (sizes : Sizes) (identity : Identity) (es : List Event) (index : ℕ) where
@@ -126,21 +126,21 @@ module _ (sizes : Sizes) (identity : Identity) (es : List Event) (index : ℕ) w
 
   -- events keep their rules
   pub part-rules : Every EventFacts es → T (not (isUnpackable sizes es index))
-      → Every (λ (s : Section). Every (EventRules (s .header)) (s .events)) (segmentPart sizes identity es index)
-  unfolding segmentPart
+      → Every (λ (s : Section). Every (EventRules (s .header)) (s .events)) (sectionsOfSegment sizes identity es index)
+  unfolding sectionsOfSegment
   part-rules facts fits =
-      numbered-rules (firstSection index) (partsOf sizes es index)
-      (every-joined (StartsIn index) (partsOf sizes es index)
+      numbered-rules (firstSection index) (packedSegment sizes es index)
+      (every-joined (StartsIn index) (packedSegment sizes es index)
       (rw (parts-events sizes es index fits) (segment-starts index es facts)))
       (omega arith) (omega (arith, parts-few sizes es index))
 
-  numbered-sizes : sectionOverhead ≤ sizes .sectionBytes → (S : ℕ) (ps : List (List Event)) → AllFit eventSize (room sizes) ps
-      → Every (λ (s : Section). sectionSize s ≤ sizes .sectionBytes) (numberedFrom sizes identity es index S ps)
+  numbered-sizes : sectionOverhead ≤ sizes .sectionLimit → (S : ℕ) (ps : List (List Event)) → AllFit eventSize (room sizes) ps
+      → Every (λ (s : Section). sectionSize s ≤ sizes .sectionLimit) (numberedFrom sizes identity es index S ps)
   numbered-sizes roomy S [] fit = tt
   numbered-sizes roomy S (p ∷ ps) fit = (omega (arith, fit .0, sizes-same p), numbered-sizes roomy (suc S) ps (fit .1))
 
   -- and so do sizes
-  pub part-sizes : sectionOverhead ≤ sizes .sectionBytes
-      → Every (λ (s : Section). sectionSize s ≤ sizes .sectionBytes) (segmentPart sizes identity es index)
-  unfolding segmentPart partsOf
-  part-sizes roomy = numbered-sizes roomy (firstSection index) (partsOf sizes es index) (packed-fits sizes (segmentEvents index es))
+  pub part-sizes : sectionOverhead ≤ sizes .sectionLimit
+      → Every (λ (s : Section). sectionSize s ≤ sizes .sectionLimit) (sectionsOfSegment sizes identity es index)
+  unfolding sectionsOfSegment packedSegment
+  part-sizes roomy = numbered-sizes roomy (firstSection index) (packedSegment sizes es index) (packed-fits sizes (segmentEvents index es))

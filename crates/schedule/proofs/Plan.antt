@@ -20,7 +20,7 @@ use Rattle.sections.specs.Section.{Section, eventSize}
 use Rattle.sections.specs.Count.{segmentEvents, segmentSections}
 use Rattle.schedule.specs.Each.{each}
 use Rattle.schedule.specs.Extent.{tables, tableSegments, isInside}
-use Rattle.schedule.specs.SectionsOf.{isUnpackable, partsOf, segmentPart, sectionsOf}
+use Rattle.schedule.specs.SectionsOf.{isUnpackable, packedSegment, sectionsOfSegment, sectionsOf}
 use Rattle.schedule.specs.Plan.{sectionCount, tabled, plan, planned}
 use Rattle.schedule.proofs.Each.{each-length, each-at}
 use Rattle.schedule.proofs.Extent.{held-inside}
@@ -90,7 +90,7 @@ module _ (sizes : Sizes) (es : List Event) (index : ℕ) where
 
   -- else the number of its sections
   pub count-inside : T (isInside es index) → T (not (isUnpackable sizes es index))
-      → sectionCount sizes es index ≡ length (partsOf sizes es index)
+      → sectionCount sizes es index ≡ length (packedSegment sizes es index)
   unfolding sectionCount
   count-inside inside fits = rw (sectionCount, true-is (isInside es index) inside, false-is (isUnpackable sizes es index) fits)
 
@@ -102,7 +102,7 @@ module _ (sizes : Sizes) (es : List Event) (index : ℕ) where
       (λ inside.
       count-inside inside fits
       ∙ sym (ap length (part-parts sizes identity es index))
-      ∙ length-map (segmentPart sizes identity es index) (λ (s : Section). s .events)
+      ∙ length-map (sectionsOfSegment sizes identity es index) (λ (s : Section). s .events)
       ∙ sym (ap length (sections-inside sizes identity es index (parts-few sizes es) inside)))
       (λ outside. count-outside outside ∙ sym (ap length (sections-outside sizes identity es index (parts-few sizes es) outside)))
       (test-or (isInside es index))

@@ -12,7 +12,7 @@ use Rattle.eit.specs.declared.Identity.{Identity}
 use Rattle.eit.proofs.Test.{test-or}
 use Rattle.packing.specs.Greedy.{joined, held, AllFit, Packing}
 use Rattle.packing.proofs.Joined.{joined-flatten}
-use Rattle.sections.specs.Section.{Section, partsIn, sectionEvents, eventSize, sectionSize}
+use Rattle.sections.specs.Section.{Section, eventsBySection, sectionEvents, eventSize, sectionSize}
 use Rattle.sections.specs.Every.{Every}
 use Rattle.sections.specs.Rules.{Rules}
 use Rattle.sections.specs.Count.{isInFirst, firstSections, segmentEvents, segmentSections}
@@ -22,11 +22,11 @@ use Rattle.sections.proofs.SegmentOrder.{first-take, segment-eight}
 use Rattle.schedule.specs.Given.{EightHold}
 use Rattle.schedule.proofs.Parts.{sizes-same}
 
-pub joined-parts : (ss : List Section) → joined (partsIn ss) ≡ sectionEvents ss
+pub joined-parts : (ss : List Section) → joined (eventsBySection ss) ≡ sectionEvents ss
 unfolding sectionEvents
-joined-parts ss = joined-flatten (partsIn ss)
+joined-parts ss = joined-flatten (eventsBySection ss)
 
-take-parts : (k : ℕ) (ss : List Section) → partsIn (take k ss) ≡ take k (partsIn ss)
+take-parts : (k : ℕ) (ss : List Section) → eventsBySection (take k ss) ≡ take k (eventsBySection ss)
 take-parts zero ss = refl
 take-parts (suc k) [] = refl
 take-parts (suc k) (s ∷ ss) = ap (λ (ps : List (List Event)). s .events ∷ ps) (take-parts k ss)
@@ -39,14 +39,14 @@ first-every P index k (s ∷ ss) all =
     ⊎-elim (λ inside. rw (first-more index k s ss inside) (all .0, rest)) (λ outside. rw (first-same index k s ss outside) rest)
     (test-or (isInFirst index k (s .header)))
 
-parts-fit : (sizes : Sizes) (ss : List Section) → Every (λ (s : Section). sectionSize s ≤ sizes .sectionBytes) ss
-    → AllFit eventSize (room sizes) (partsIn ss)
+parts-fit : (sizes : Sizes) (ss : List Section) → Every (λ (s : Section). sectionSize s ≤ sizes .sectionLimit) ss
+    → AllFit eventSize (room sizes) (eventsBySection ss)
 parts-fit sizes [] fit = tt
 parts-fit sizes (s ∷ ss) fit = (omega (arith, fit .0, sizes-same (s .events)), parts-fit sizes ss (fit .1))
 
 module _ (sizes : Sizes) (identity : Identity) (ss : List Section) (rules : Rules sizes identity ss) (index : ℕ) where
   -- the sections in a segment pack the events that start there
-  pub segment-packing : Packing eventSize (room sizes) (segmentEvents index (sectionEvents ss)) (partsIn (segmentSections index ss))
+  pub segment-packing : Packing eventSize (room sizes) (segmentEvents index (sectionEvents ss)) (eventsBySection (segmentSections index ss))
   segment-packing =
       record {
         ordered = joined-parts (segmentSections index ss) ∙ segment-holds index ss (every-map (λ s r. r .eventRules) ss (rules .sections));
@@ -55,16 +55,16 @@ module _ (sizes : Sizes) (identity : Identity) (ss : List Section) (rules : Rule
       }
 
   -- there are at most eight
-  pub segment-parts : length (partsIn (segmentSections index ss)) ≤ 8
+  pub segment-parts : length (eventsBySection (segmentSections index ss)) ≤ 8
   segment-parts = omega (arith, length-map (segmentSections index ss) (λ (s : Section). s .events), segment-eight sizes identity ss rules index)
 
   -- so eight sections hold its events
   pub segment-eight-hold : EightHold sizes (sectionEvents ss) index
-  segment-eight-hold = (partsIn (segmentSections index ss), segment-packing, segment-parts)
+  segment-eight-hold = (eventsBySection (segmentSections index ss), segment-packing, segment-parts)
 
   -- the first k sections hold what the first k parts hold
   pub first-held : (k : ℕ) → k ≤ 8
-      → length (sectionEvents (firstSections index k ss)) ≡ held k (partsIn (segmentSections index ss))
+      → length (sectionEvents (firstSections index k ss)) ≡ held k (eventsBySection (segmentSections index ss))
   first-held k few =
       ap (λ (ts : List Section). length (sectionEvents ts)) (first-take sizes identity ss rules index k few)
       ∙ ap length (sym (joined-parts (take k (segmentSections index ss))))

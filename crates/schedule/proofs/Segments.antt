@@ -16,7 +16,7 @@ use Rattle.sections.specs.Count.{isInFirst, segmentSections}
 use Rattle.sections.proofs.Count.{in-first, first-in, first-more, first-same, first-append}
 use Rattle.schedule.specs.Each.{each}
 use Rattle.schedule.specs.Extent.{tableSegments, lastTable, lastSegment, isInside}
-use Rattle.schedule.specs.SectionsOf.{partsOf, headerOf, numberedFrom, segmentPart, tablePart, sectionsOf}
+use Rattle.schedule.specs.SectionsOf.{packedSegment, headerOf, numberedFrom, sectionsOfSegment, sectionsOfTable, sectionsOf}
 use Rattle.schedule.proofs.Each.{joined-map, joined-none, joined-only}
 use Rattle.schedule.proofs.Extent.{segment-in-table, is-inside, inside-is}
 use Rattle.schedule.proofs.Held.{table-is, file-is}
@@ -45,69 +45,69 @@ module _ (sizes : Sizes) (identity : Identity) (es : List Event) (index : ℕ) w
       (λ inside. let (table, low, high) = in-first index 8 (s .header) inside in apart (omega arith)) in
       first-same index 8 s rest outside ∙ none-inside other (suc S) ps apart (omega arith) (omega arith)
 
-  module _ (few : (other : ℕ) → length (partsOf sizes es other) ≤ 8) where
+  module _ (few : (other : ℕ) → length (packedSegment sizes es other) ≤ 8) where
     abbrev inSegment : List Section → List Section
     inSegment ss = segmentSections index ss
 
-    part-inside : inSegment (segmentPart sizes identity es index) ≡ segmentPart sizes identity es index
-    unfolding segmentPart
-    part-inside = all-inside (firstSection index) (partsOf sizes es index) (omega arith) (omega (arith, few index))
+    part-inside : inSegment (sectionsOfSegment sizes identity es index) ≡ sectionsOfSegment sizes identity es index
+    unfolding sectionsOfSegment
+    part-inside = all-inside (firstSection index) (packedSegment sizes es index) (omega arith) (omega (arith, few index))
 
-    part-outside : (other : ℕ) → (other ≡ index → ⊥) → inSegment (segmentPart sizes identity es other) ≡ []
-    unfolding segmentPart
+    part-outside : (other : ℕ) → (other ≡ index → ⊥) → inSegment (sectionsOfSegment sizes identity es other) ≡ []
+    unfolding sectionsOfSegment
     part-outside other apart =
-        none-inside other (firstSection other) (partsOf sizes es other) apart (omega arith) (omega (arith, few other))
+        none-inside other (firstSection other) (packedSegment sizes es other) apart (omega arith) (omega (arith, few other))
 
     -- of a table
-    table-parts : (table : ℕ) → inSegment (tablePart sizes identity es table)
-        ≡ flatten (each (λ (k : ℕ). inSegment (segmentPart sizes identity es k)) (table * tableSegments)
+    table-parts : (table : ℕ) → inSegment (sectionsOfTable sizes identity es table)
+        ≡ flatten (each (λ (k : ℕ). inSegment (sectionsOfSegment sizes identity es k)) (table * tableSegments)
         (suc (lastSegment es table - table * tableSegments)))
     table-parts table =
         ap inSegment (table-is sizes identity es table)
-        ∙ joined-map inSegment refl (first-append index 8) (segmentPart sizes identity es) (table * tableSegments)
+        ∙ joined-map inSegment refl (first-append index 8) (sectionsOfSegment sizes identity es) (table * tableSegments)
         (suc (lastSegment es table - table * tableSegments))
 
     table-inside : index ≤ lastSegment es (index / 32)
-        → inSegment (tablePart sizes identity es (index / 32)) ≡ segmentPart sizes identity es index
+        → inSegment (sectionsOfTable sizes identity es (index / 32)) ≡ sectionsOfSegment sizes identity es index
     table-inside early =
         let first : ℕ = index / 32 * 32 in
         table-parts (index / 32)
-        ∙ joined-only (λ (k : ℕ). inSegment (segmentPart sizes identity es k)) index first
+        ∙ joined-only (λ (k : ℕ). inSegment (sectionsOfSegment sizes identity es k)) index first
         (suc (lastSegment es (index / 32) - first)) (λ k apart. part-outside k apart) (omega arith) (omega arith)
         ∙ part-inside
 
     table-outside : (table : ℕ) → (table * 32 ≤ index → index ≤ lastSegment es table → ⊥)
-        → inSegment (tablePart sizes identity es table) ≡ []
+        → inSegment (sectionsOfTable sizes identity es table) ≡ []
     table-outside table outside =
         let inside : lastSegment es table / 32 ≡ table = segment-in-table es table in
         table-parts table
-        ∙ joined-none (λ (k : ℕ). inSegment (segmentPart sizes identity es k)) (table * 32) (suc (lastSegment es table - table * 32))
+        ∙ joined-none (λ (k : ℕ). inSegment (sectionsOfSegment sizes identity es k)) (table * 32) (suc (lastSegment es table - table * 32))
         (λ k low high. part-outside k (λ same. outside (omega arith) (omega arith)))
 
     -- of the file
     file-parts : inSegment (sectionsOf sizes identity es)
-        ≡ flatten (each (λ (k : ℕ). inSegment (tablePart sizes identity es k)) 0 (suc (lastTable es)))
+        ≡ flatten (each (λ (k : ℕ). inSegment (sectionsOfTable sizes identity es k)) 0 (suc (lastTable es)))
     file-parts =
         ap inSegment (file-is sizes identity es)
-        ∙ joined-map inSegment refl (first-append index 8) (tablePart sizes identity es) 0 (suc (lastTable es))
+        ∙ joined-map inSegment refl (first-append index 8) (sectionsOfTable sizes identity es) 0 (suc (lastTable es))
 
     -- a table has the segment only if it is the segment's table
     own-table : (table : ℕ) → table * 32 ≤ index → index ≤ lastSegment es table → table ≡ index / 32
     own-table table low high = omega (arith, segment-in-table es table)
 
     pub sections-inside : T (isInside es index)
-        → segmentSections index (sectionsOf sizes identity es) ≡ segmentPart sizes identity es index
+        → segmentSections index (sectionsOf sizes identity es) ≡ sectionsOfSegment sizes identity es index
     sections-inside inside =
         let (table, segment) = inside-is es index inside in
         file-parts
-        ∙ joined-only (λ (k : ℕ). inSegment (tablePart sizes identity es k)) (index / 32) 0 (suc (lastTable es))
+        ∙ joined-only (λ (k : ℕ). inSegment (sectionsOfTable sizes identity es k)) (index / 32) 0 (suc (lastTable es))
         (λ k apart. table-outside k (λ low high. apart (own-table k low high))) (omega arith) (omega arith)
         ∙ table-inside segment
 
     pub sections-outside : T (not (isInside es index)) → segmentSections index (sectionsOf sizes identity es) ≡ []
     sections-outside outside =
         file-parts
-        ∙ joined-none (λ (k : ℕ). inSegment (tablePart sizes identity es k)) 0 (suc (lastTable es))
+        ∙ joined-none (λ (k : ℕ). inSegment (sectionsOfTable sizes identity es k)) 0 (suc (lastTable es))
         (λ k low most. table-outside k (λ first last.
         let own : k ≡ index / 32 = own-table k first last in
         T-not (isInside es index) outside

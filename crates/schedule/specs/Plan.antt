@@ -11,15 +11,15 @@ use Rattle.eit.specs.Events.{Event}
 use Rattle.eit.specs.Sound.{sound, eventsOf}
 use Rattle.schedule.specs.Each.{each}
 use Rattle.schedule.specs.Extent.{tables, tableSegments, isInside}
-use Rattle.schedule.specs.SectionsOf.{isUnpackable, partsOf}
+use Rattle.schedule.specs.SectionsOf.{isUnpackable, packedSegment}
 
 -- 0 outside a table's range, 255 for an unpackable segment (which is inside: `count-unpackable`); else the number of its sections
 unfoldable pub sectionCount : Sizes → List Event → ℕ → ℕ
-unfolding isUnpackable partsOf
+unfolding isUnpackable packedSegment
 sectionCount sizes es index =
     elim (isInside es index) [
       | false ↦ 0
-      | true ↦ elim (isUnpackable sizes es index) [ true ↦ 255 | false ↦ length (partsOf sizes es index) ]
+      | true ↦ elim (isUnpackable sizes es index) [ true ↦ 255 | false ↦ length (packedSegment sizes es index) ]
     ]
 
 -- sixteen tables of thirty-two counts, each that of a segment index

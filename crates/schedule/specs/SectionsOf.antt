@@ -38,14 +38,14 @@ packed bytes (e ∷ es) = greedy eventSize bytes segmentMost (e ∷ es)
 
 module _ (sizes : Sizes) (es : List Event) where
   -- the events of each section of a segment
-  unfoldable pub partsOf : ℕ → List (List Event)
+  unfoldable pub packedSegment : ℕ → List (List Event)
   unfolding packed
-  partsOf index = packed (room sizes) (segmentEvents index es)
+  packedSegment index = packed (room sizes) (segmentEvents index es)
 
   -- G: the number of a segment's last section
   unfoldable pub segmentLast : ℕ → ℕ
-  unfolding partsOf
-  segmentLast index = firstSection index + (length (partsOf index) - 1)
+  unfolding packedSegment
+  segmentLast index = firstSection index + (length (packedSegment index) - 1)
 
   -- L: the number of a table's last section, which is the last of its last segment
   unfoldable pub tableLast : ℕ → ℕ
@@ -71,18 +71,18 @@ module _ (sizes : Sizes) (identity : Identity) (es : List Event) where
   numberedFrom index S (p ∷ ps) = record { header = headerOf index S; events = p } ∷ numberedFrom index (suc S) ps
 
   -- the sections of a segment: from s0 on
-  unfoldable pub segmentPart : ℕ → List Section
+  unfoldable pub sectionsOfSegment : ℕ → List Section
   unfolding tableLast
-  segmentPart index = numberedFrom index (firstSection index) (partsOf sizes es index)
+  sectionsOfSegment index = numberedFrom index (firstSection index) (packedSegment sizes es index)
 
   -- the sections of a table: from its first segment to its last one, empty segments between them too
-  unfoldable pub tablePart : ℕ → List Section
-  unfolding flatten each segmentPart
-  tablePart table =
+  unfoldable pub sectionsOfTable : ℕ → List Section
+  unfolding flatten each sectionsOfSegment
+  sectionsOfTable table =
       let first = table * tableSegments in
-      flatten (each segmentPart first (suc (lastSegment es table - first)))
+      flatten (each sectionsOfSegment first (suc (lastSegment es table - first)))
 
   -- the sections of the file: tables 0x50 to last_table_id
   unfoldable pub sectionsOf : List Section
-  unfolding flatten each tablePart
-  sectionsOf = flatten (each tablePart 0 (suc (lastTable es)))
+  unfolding flatten each sectionsOfTable
+  sectionsOf = flatten (each sectionsOfTable 0 (suc (lastTable es)))

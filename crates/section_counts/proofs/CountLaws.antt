@@ -19,7 +19,7 @@ use Rattle.sections.specs.Count.{segmentEvents}
 use Rattle.sections.proofs.Lengths.{sizes-append}
 use Rattle.schedule.specs.Each.{each}
 use Rattle.schedule.specs.Extent.{isInside}
-use Rattle.schedule.specs.SectionsOf.{isUnpackable, packed, segmentPart}
+use Rattle.schedule.specs.SectionsOf.{isUnpackable, packed, sectionsOfSegment}
 use Rattle.schedule.specs.Plan.{sectionCount}
 use Rattle.schedule.proofs.Each.{joined-more}
 use Rattle.schedule.proofs.Parts.{sizes-same, parts-few}
@@ -27,7 +27,7 @@ use Rattle.schedule.proofs.Packable.{test-is}
 use Rattle.schedule.proofs.Best.{part-parts, parts-are}
 use Rattle.schedule.proofs.Plan.{count-outside, count-inside, count-unpackable}
 use Rattle.schedule.proofs.ByIndex.{insidePart, part-inside, part-outside}
-use Rattle.section_counts.specs.Counting.{partSizes, packedOf, zeroIdentity}
+use Rattle.section_counts.specs.Counting.{packedSizes, packedOf, zeroIdentity}
 use Rattle.section_counts.proofs.NeedLaws.{parts-sizes}
 
 -- ---- one segment
@@ -56,11 +56,11 @@ bytes-end sizes es index ends = rw (bytesFrom, ends)
 
 -- a segment has at most eight sections of at most 18 bytes around the room
 parts-small : (bytes : ℕ) (ps : List (List Event)) → bytes < 0x1_0000 → AllFit eventSize bytes ps
-    → partSizes ps ≤ length ps * (sectionOverhead + 0xFFFF)
+    → packedSizes ps ≤ length ps * (sectionOverhead + 0xFFFF)
 parts-small bytes [] narrow fit = omega arith
 parts-small bytes (p ∷ ps) narrow fit = omega (arith, fit .0, sizes-same p, parts-small bytes ps narrow (fit .1))
 
-pub packed-small : (bytes : ℕ) (es : List Event) → bytes < 0x1_0000 → partSizes (packed bytes es) ≤ 8 * (sectionOverhead + 0xFFFF)
+pub packed-small : (bytes : ℕ) (es : List Event) → bytes < 0x1_0000 → packedSizes (packed bytes es) ≤ 8 * (sectionOverhead + 0xFFFF)
 unfolding packed
 packed-small bytes [] narrow = omega arith
 packed-small bytes (e ∷ es) narrow =
@@ -98,8 +98,8 @@ module _ (sizes : Sizes) (es : List Event) (rises : T (rising es)) (index : ℕ)
   packed-bytes =
       sym
       (ap sectionSizes (part-inside sizes zeroIdentity es index inside)
-      ∙ parts-sizes (segmentPart sizes zeroIdentity es index)
-      ∙ ap partSizes (part-parts sizes zeroIdentity es index ∙ parts-are sizes es index))
+      ∙ parts-sizes (sectionsOfSegment sizes zeroIdentity es index)
+      ∙ ap packedSizes (part-parts sizes zeroIdentity es index ∙ parts-are sizes es index))
 
 -- outside the range there is nothing to count
 module _ (sizes : Sizes) (es : List Event) (rises : T (rising es)) (index : ℕ) (outside : T (not (isInside es index))) where

@@ -19,7 +19,7 @@ use Rattle.schedule.specs.SectionsOf.{packed}
 use Rattle.schedule.proofs.Parts.{sizes-same}
 use Rattle.section_counts.specs.Between.{eventsBetween}
 use Rattle.section_counts.specs.Cutting.{cutOf}
-use Rattle.section_counts.specs.Counting.{partSizes, packedOf}
+use Rattle.section_counts.specs.Counting.{packedSizes, packedOf}
 use Rattle.section_counts.specs.declared.cut.Cut.{Cut}
 use Rattle.section_counts.specs.declared.count.Packed.{Packed}
 use Rattle.section_counts.proofs.BetweenLaws.{between-end, between-drop, between-length}
@@ -42,8 +42,8 @@ pub record PackedSoFar (pools : Pools) (numbers : List ℕ) (from end room n byt
   pub small : bytes ≤ n * (sectionOverhead + 0xFFFF)
   pub count : length (greedy eventSize room 8 (eventsBetween pools numbers from end))
       ≡ n + length (greedy eventSize room (8 - n) (eventsBetween pools numbers at end))
-  pub sizes : partSizes (greedy eventSize room 8 (eventsBetween pools numbers from end))
-      ≡ bytes + partSizes (greedy eventSize room (8 - n) (eventsBetween pools numbers at end))
+  pub sizes : packedSizes (greedy eventSize room 8 (eventsBetween pools numbers from end))
+      ≡ bytes + packedSizes (greedy eventSize room (8 - n) (eventsBetween pools numbers at end))
   pub reached : from + reach eventSize room 8 (eventsBetween pools numbers from end)
       ≡ at + reach eventSize room (8 - n) (eventsBetween pools numbers at end)
 
@@ -94,7 +94,7 @@ module _ {pools : Pools} {numbers : List ℕ} {from end room n bytes at : ℕ}
         narrow = so-far .narrow;
         small = omega (arith, so-far .small, so-far .narrow);
         count = omega (arith, so-far .count, ap (λ (ps : List (List Event)). length ps) parts);
-        sizes = omega (arith, so-far .sizes, ap partSizes parts);
+        sizes = omega (arith, so-far .sizes, ap packedSizes parts);
         reached = omega (arith, so-far .reached);
       }
 
@@ -128,11 +128,11 @@ module _ {pools : Pools} {numbers : List ℕ} {from end room n bytes at : ℕ}
         ∙ so-far .count
         ∙ omega (arith, ap (λ (ps : List (List Event)). length ps) none-more)
 
-    sizes-are : partSizes (packed room all) ≡ bytes
+    sizes-are : packedSizes (packed room all) ≡ bytes
     sizes-are =
-        ap partSizes (packed-greedy room all (omega (arith, so-far .some, between-length pools numbers from end)))
+        ap packedSizes (packed-greedy room all (omega (arith, so-far .some, between-length pools numbers from end)))
         ∙ so-far .sizes
-        ∙ omega (arith, ap partSizes none-more)
+        ∙ omega (arith, ap packedSizes none-more)
 
     pub pack-short : at < end → record { sections = 255; bytes = bytes } ≡ packedOf room all
     pack-short short =

@@ -19,16 +19,16 @@ use Rattle.section_counts.specs.declared.count.Packed.{Packed}
 use Rattle.section_counts.specs.declared.count.Counted.{Counted}
 
 -- the bytes of sections with these events
-abbrev pub partSizes : List (List Event) → ℕ
-partSizes [] = 0
-partSizes (p ∷ ps) = sectionOverhead + eventSizes p + partSizes ps
+abbrev pub packedSizes : List (List Event) → ℕ
+packedSizes [] = 0
+packedSizes (p ∷ ps) = sectionOverhead + eventSizes p + packedSizes ps
 
 -- the sections of a segment with these events, 255 if it is unpackable, and the bytes of its sections, of the first eight if it is
 abbrev pub packedOf : ℕ → List Event → Packed
 packedOf room es =
     record {
       sections = elim (unpackable eventSize room segmentMost es) [ true ↦ 255 | false ↦ length (packed room es) ];
-      bytes = partSizes (packed room es);
+      bytes = packedSizes (packed room es);
     }
 
 -- an identity: a file's length is the same under every other (`need-is`)

@@ -40,7 +40,7 @@ accepted-check sizes base file = (
 )
 
 -- demand 2: Read accepts exactly the files that follow the rules
-pub accepted-exactly : (sizes : Sizes) (base : ℕ) (file : List ℕ) → sizes .sectionBytes ≤ 4_096 → base ≤ baseMost → Bytes file
+pub accepted-exactly : (sizes : Sizes) (base : ℕ) (file : List ℕ) → sizes .sectionLimit ≤ 4_096 → base ≤ baseMost → Bytes file
     → Accepted sizes base file ↔
     ((identity : Identity) × (ss : List Section) × Rules sizes identity ss × (fileBytes base ss ≡ file))
 accepted-exactly sizes base file lengthFits legal bytes = (

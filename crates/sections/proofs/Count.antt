@@ -75,7 +75,7 @@ module _ (base : ℕ) (file : List ℕ) (index : ℕ) where
 
 -- and of the joined bytes of sections that keep the rules, these sections
 
-module _ (sizes : Sizes) (base : ℕ) (lengthFits : sizes .sectionBytes ≤ 4_096) (legal : base ≤ baseMost)
+module _ (sizes : Sizes) (base : ℕ) (lengthFits : sizes .sectionLimit ≤ 4_096) (legal : base ≤ baseMost)
     (identity : Identity) (ss : List Section) (rules : Rules sizes identity ss) where
   pub sections-counted : (index : ℕ) → sectionsCounted base (fileBytes base ss) index ≡ length (segmentSections index ss)
   sections-counted index =

@@ -14,7 +14,7 @@ use Rattle.eit.specs.declared.Identity.{Identity}
 use Rattle.eit.proofs.Test.{test-or, le-or-lt}
 use Rattle.sections.specs.Every.{Every}
 use Rattle.sections.specs.Segment.{tableLeast}
-use Rattle.sections.specs.Section.{Header, Section, headersOf, partsIn}
+use Rattle.sections.specs.Section.{Header, Section, headersOf, eventsBySection}
 use Rattle.sections.specs.Rules.{Numbered, Next, Succeeding, SectionRules, Rules}
 use Rattle.sections.specs.Count.{isInFirst, segmentSections}
 use Rattle.sections.proofs.FileSize.{sectionPlace, next-later}
@@ -23,7 +23,7 @@ use Rattle.sections.proofs.SegmentOrder.{segmentPlace, next-place, byte
 
 -- in each segment the sections hold the same events
 abbrev Agree : List Section → List Section → Type 0
-Agree ss ts = (index : ℕ) → partsIn (segmentSections index ss) ≡ partsIn (segmentSections index ts)
+Agree ss ts = (index : ℕ) → eventsBySection (segmentSections index ss) ≡ eventsBySection (segmentSections index ts)
 
 -- two sections at the same place
 abbrev Level : Header → Header → Type 0
@@ -63,11 +63,11 @@ module _ (s t : Section) (ss ts : List Section) (level : Level (s .header) (t .h
 
   -- where both are the first of a segment
   heads-agree : (index : ℕ) → T (isInFirst index 8 (s .header))
-      → (s .events ∷ partsIn (segmentSections index ss)) ≡ (t .events ∷ partsIn (segmentSections index ts))
+      → (s .events ∷ eventsBySection (segmentSections index ss)) ≡ (t .events ∷ eventsBySection (segmentSections index ts))
   heads-agree index inside =
-      sym (ap partsIn (first-more index 8 s ss inside))
+      sym (ap eventsBySection (first-more index 8 s ss inside))
       ∙ agree index
-      ∙ ap partsIn (first-more index 8 t ts (level-inside index inside))
+      ∙ ap eventsBySection (first-more index 8 t ts (level-inside index inside))
 
   -- so the rests agree
   rests-agree : Agree ss ts
@@ -75,9 +75,9 @@ module _ (s t : Section) (ss ts : List Section) (level : Level (s .header) (t .h
       ⊎-elim
       (λ inside. let both = heads-agree index inside in cc)
       (λ outside.
-      sym (ap partsIn (first-same index 8 s ss outside))
+      sym (ap eventsBySection (first-same index 8 s ss outside))
       ∙ agree index
-      ∙ ap partsIn (first-same index 8 t ts (level-outside index outside)))
+      ∙ ap eventsBySection (first-same index 8 t ts (level-outside index outside)))
       (test-or (isInFirst index 8 (s .header)))
 
   -- and the first two hold the same events
@@ -159,12 +159,12 @@ same-section s t (table, section) segmentLast last lastTable identity events = �
 module _ (sizes : Sizes) (identity : Identity) where
   -- the segment of a first section has sections
   first-there : (m : ℕ) (t : Section) (ts : List Section) → SectionRules sizes identity m t
-      → 0 < length (partsIn (segmentSections (headerIndex (t .header)) (t ∷ ts)))
+      → 0 < length (eventsBySection (segmentSections (headerIndex (t .header)) (t ∷ ts)))
   first-there m t ts rule =
       let index : ℕ = headerIndex (t .header) in
       let inside : T (isInFirst index 8 (t .header)) =
       index-inside (t .header) (rule .headerRules .least) (byte-number sizes identity m index t rule) in
-      omega (arith, ap (λ (us : List Section). length (partsIn us)) (first-more index 8 t ts inside))
+      omega (arith, ap (λ (us : List Section). length (eventsBySection us)) (first-more index 8 t ts inside))
 
   -- where the one has a section next, the other's next is in no later segment
   not-behind : (l m : ℕ) (s t : Section) (ss ts : List Section)
@@ -181,7 +181,7 @@ module _ (sizes : Sizes) (identity : Identity) where
       (λ behind.
       let nothing : segmentSections index (s ∷ ss) ≡ [] =
       behind-none sizes identity l index 8 (omega arith) s ss rules succeeding behind in
-      absurd (omega (arith, first-there m t ts rule, ap length (sym (ap partsIn nothing) ∙ agree index))))
+      absurd (omega (arith, first-there m t ts rule, ap length (sym (ap eventsBySection nothing) ∙ agree index))))
       (λ near. omega arith)
       (le-or-lt (segmentPlace index + 8) (sectionPlace (s .header)))
 
@@ -268,7 +268,7 @@ module _ (sizes : Sizes) (identity : Identity) where
 -- sections that keep the rules under the same identity, and whose sections in each segment hold the same events, are the same
 pub sections-only : (sizes : Sizes) (identity : Identity) (ss ts : List Section)
     → Rules sizes identity ss → Rules sizes identity ts
-    → ((index : ℕ) → partsIn (segmentSections index ss) ≡ partsIn (segmentSections index ts))
+    → ((index : ℕ) → eventsBySection (segmentSections index ss) ≡ eventsBySection (segmentSections index ts))
     → ss ≡ ts
 sections-only sizes identity [] ts ours theirs agree = absurd (ours .ordered)
 sections-only sizes identity (s ∷ ss) [] ours theirs agree = absurd (theirs .ordered)

@@ -79,7 +79,7 @@ alone-back base h (e ∷ es) alone = tt
 -- what holds of a file before its sections: 12 bits reach the section size, the base day is legal, and identity and last_table_id keep
 -- the rules
 pub record Legal (sizes : Sizes) (base : ℕ) (identity : Identity) (lastTableId : ℕ) : Type 0 where
-  pub lengthFits : sizes .sectionBytes ≤ 4_096
+  pub lengthFits : sizes .sectionLimit ≤ 4_096
   pub day : base ≤ baseMost
   pub identityRules : IdentityRules identity
   pub lastTable : lastTableId ≤ tableMost
@@ -145,8 +145,8 @@ module _ (sizes : Sizes) (base : ℕ) (identity : Identity) (lastTableId : ℕ) 
         let table : headerIn bs .tableId ≡ s .header .tableId = ap (λ (h : Header). h .tableId) section-header in
         let whole : T (eqb (length bs) (statedSectionSize bs)) = eq-test _ _ (sym stated) in
         let least : T (leb sectionOverhead (length bs)) = le→leb sectionOverhead (length bs) (omega arith) in
-        let most-bytes : T (leb (length bs) (sizes .sectionBytes)) =
-        le→leb (length bs) (sizes .sectionBytes) (omega (arith, legal .lengthFits, rules .size)) in
+        let most-bytes : T (leb (length bs) (sizes .sectionLimit)) =
+        le→leb (length bs) (sizes .sectionLimit) (omega (arith, legal .lengthFits, rules .size)) in
         let low : T (leb tableLeast (headerIn bs .tableId)) =
         le→leb tableLeast (headerIn bs .tableId) (omega (arith, rules .headerRules .least)) in
         let high : T (leb (headerIn bs .tableId) tableMost) =

@@ -57,7 +57,7 @@ section-joined bs =
 
 module _ (sizes : Sizes) (base : ℕ) (p : Progress) (bs : List ℕ) (bytes : Bytes bs) (passes : Passes sizes base p bs) where
   -- 20, part by part
-  framed-parts : (length bs ≡ statedSectionSize bs) × (sectionOverhead ≤ length bs) × (length bs ≤ sizes .sectionBytes)
+  framed-parts : (length bs ≡ statedSectionSize bs) × (sectionOverhead ≤ length bs) × (length bs ≤ sizes .sectionLimit)
       × (tableLeast ≤ headerIn bs .tableId)
   unfolding isFramed
   framed-parts =

@@ -23,7 +23,7 @@ isTable table = leb tableLeast table && leb table tableMost
 unfoldable pub isFramed : Sizes → List ℕ → Bool
 isFramed sizes bs =
     eqb (length bs) (statedSectionSize bs)
-    && (leb sectionOverhead (length bs) && (leb (length bs) (sizes .sectionBytes) && isTable (field 0 1 bs)))
+    && (leb sectionOverhead (length bs) && (leb (length bs) (sizes .sectionLimit) && isTable (field 0 1 bs)))
 
 -- 21: over the whole section CRC_32 leaves 0
 unfoldable pub isClosed : List ℕ → Bool

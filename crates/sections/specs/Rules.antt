@@ -102,7 +102,7 @@ pub record SectionRules (sizes : Sizes) (identity : Identity) (lastTableId : ℕ
   pub headerRules : HeaderRules identity lastTableId (s .header)
   pub eventRules : Every (EventRules (s .header)) (s .events)
   pub alone : s .events ≡ [] → Alone (s .header)
-  pub size : sectionSize s ≤ sizes .sectionBytes
+  pub size : sectionSize s ≤ sizes .sectionLimit
 
 -- ---- the file
 

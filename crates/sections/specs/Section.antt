@@ -49,12 +49,12 @@ sectionSizes (s ∷ ss) = sectionSize s + sectionSizes ss
 abbrev pub headersOf : List Section → List Header
 headersOf ss = map (λ (s : Section). s .header) ss
 
-abbrev pub partsIn : List Section → List (List Event)
-partsIn ss = map (λ (s : Section). s .events) ss
+abbrev pub eventsBySection : List Section → List (List Event)
+eventsBySection ss = map (λ (s : Section). s .events) ss
 
 unfoldable pub sectionEvents : List Section → List Event
 unfolding flatten
-sectionEvents ss = flatten (partsIn ss)
+sectionEvents ss = flatten (eventsBySection ss)
 
 -- the ids of some events
 abbrev pub eventIds : List Event → List ℕ
