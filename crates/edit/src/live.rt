@@ -27,7 +27,8 @@ pub fn undos_in(script: &[u8], at: usize, k: usize, undo_places: &mut [u64])
     }
 }
 
-// The places of the live edits among k commands, from the last to the first: an UNDO is pending until an edit before it is struck.
+// The places of the live edits among k commands, from the last to the first: an UNDO is pending until an edit before it is struck. It
+// counts as 1 and an edit as 0, so that the processor has no branch to guess.
 pub fn live_in(undo_places: &[u64], k: usize, undos: usize, live_places: &mut [u64])
     requires { ⌜ (k ≤ 64 * length (now «live_places»)) × (k ≤ 65_536) × (undos ≤ 65_536) × NoPlaces (now «live_places») ⌝ }
     ensures { λ _. ⌜
@@ -38,12 +39,11 @@ pub fn live_in(undo_places: &[u64], k: usize, undos: usize, live_places: &mut [u
     let mut place = k;
     while 0 < place {
         place -= 1;
-        if seen::is_seen(undo_places, place as u32) {
-            pending += 1;
-        } else if 0 < pending {
-            pending -= 1;
-        } else {
+        let undo = seen::is_seen(undo_places, place as u32) as usize;
+        if pending + undo == 0 {
             seen::add_seen(live_places, place as u32);
+        } else {
+            pending = pending + 2 * undo - 1;
         }
     }
 }
