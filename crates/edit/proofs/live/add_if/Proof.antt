@@ -1,6 +1,5 @@
 -- `live::add_if` meets its contract: a bit that is not set has room in its word. Assumes nothing.
 use Prim.Native.Nat.{_/_}
-use native.Mathlib.Omega.{arith}
 use borrow.Author.Needs.{needs}
 use Rattle.edit.proofs.PlaceLaws.{added-room, added-is}
 use Rattle.edit.proofs.live.add_if.Statement.{statement}
