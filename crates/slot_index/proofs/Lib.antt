@@ -1,0 +1,9 @@
+-- Laws of this crate's definitions, and the proofs of its functions.
+-- the order with a slot put in or taken out
+pub mod OrderLaws
+-- the slots of records, and the slot of an id
+pub mod SlotLaws
+-- an index with a record put in or taken out
+pub mod IndexLaws
+-- places by starts that rise
+pub mod RiseLaws
