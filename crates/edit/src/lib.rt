@@ -7,6 +7,8 @@ ghost use Rattle.eit.specs.Records.{lentList};
 ghost use Rattle.script.specs.Edit.{edit};
 ghost use Rattle.edit_answer.specs.Told.{told};
 
+mod index;
+mod indexed;
 mod machine;
 
 // Events in a list at most (01, "Event record and sound list").

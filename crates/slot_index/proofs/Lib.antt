@@ -7,3 +7,7 @@ pub mod SlotLaws
 pub mod IndexLaws
 -- places by starts that rise
 pub mod RiseLaws
+-- the place of a start by halving
+pub mod SearchLaws
+-- an index made from a list, and written back to it
+pub mod LoadLaws

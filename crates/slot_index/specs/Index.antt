@@ -4,11 +4,12 @@ use mathlib.Core.Path.{_≡_}
 use Prim.Native.Nat.{ℕ, suc, _*_, _/_, _≤_, _<_}
 use mathlib.Core.Bool.{true, false}
 use mathlib.Core.List.{List, [], _∷_, map}
-use lib.Dec.{eqb}
+use lib.Dec.{T, eqb}
 use lib.ListN.{length, getD, take, drop}
 use Rattle.eit.specs.Overwrite.{overwrite}
-use Rattle.eit.specs.Records.{EventList, lentList, recordSize, frontRecord, numbersOfAll}
-use Rattle.eit.specs.Sound.{startsOf}
+use Rattle.eit.specs.Among.{allDiffer}
+use Rattle.eit.specs.Records.{EventList, lentList, recordSize, frontRecord, recordsIn, numbersOfAll}
+use Rattle.eit.specs.Sound.{idsOf, startsOf}
 use Rattle.eit.specs.declared.Record.{Record}
 
 -- how many slots there are, how many of them a list may have, and how many ids there are
@@ -57,6 +58,17 @@ pub record Index (slots order ids : List ℕ) (count used : ℕ) : Type 0 where
   pub fewSlots : used ≤ slotLimit
   pub below : AllBelow used (take count order)
   pub found : (id : ℕ) → id < idLimit → getD ids id 0 ≡ slotOf (slotRecord slots) id (take count order)
+
+-- a list whose records an index can hold: few enough, with ids that differ
+pub record Loadable (list : List ℕ) (count : ℕ) : Type 0 where
+  pub few : count ≤ orderLimit
+  pub small : (i : ℕ) → i < count → slotRecord list i .id < idLimit
+  pub differ : T (allDiffer (idsOf (recordsIn count list)))
+
+-- an index of the first n of a list's records, record i in slot i
+pub record Loaded (list : List ℕ) (count n : ℕ) (slots order ids : List ℕ) : Type 0 where
+  pub index : Index slots order ids n n
+  pub records : recordsAt slots (take n order) ≡ take n (recordsIn count list)
 
 -- the numbers of the list that an index stands for, and the list. Those of its records in the lent list are stale; those behind them
 -- are the list's
