@@ -11,3 +11,9 @@ pub mod HalfLaws
 pub mod CarryLaws
 -- Edit by the answers of the code's passes
 pub mod EditLaws
+-- what an edit on an index leaves, and WITHDRAW
+pub mod IndexedLaws
+-- PUT on an index
+pub mod PutLaws
+-- MOVE on an index
+pub mod MoveLaws

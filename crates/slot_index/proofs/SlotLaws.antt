@@ -38,19 +38,22 @@ module _ (n : ℕ) where
   below-leave (suc p) [] all = tt
   below-leave (suc p) (e ∷ es) all = (all .0, below-leave p es (all .1))
 
-module _ (f : ℕ → Record) where
-  -- ---- records
+-- ---- any values, mapped, with one put in or taken out
 
-  pub map-insert : (s p : ℕ) (es : List ℕ) → map f (take p es ++ s ∷ drop p es) ≡ take p (map f es) ++ f s ∷ drop p (map f es)
+module _ {A B : Type 0} (f : A → B) where
+  pub map-insert : (s : A) (p : ℕ) (es : List A) → map f (take p es ++ s ∷ drop p es) ≡ take p (map f es) ++ f s ∷ drop p (map f es)
   map-insert s zero es = refl
   map-insert s (suc p) [] = refl
-  map-insert s (suc p) (e ∷ es) = ap (λ (rs : List Record). f e ∷ rs) (map-insert s p es)
+  map-insert s (suc p) (e ∷ es) = ap (λ (rs : List B). f e ∷ rs) (map-insert s p es)
 
-  pub map-leave : (p : ℕ) (es : List ℕ) → map f (take p es ++ drop (suc p) es) ≡ take p (map f es) ++ drop (suc p) (map f es)
+  pub map-leave : (p : ℕ) (es : List A) → map f (take p es ++ drop (suc p) es) ≡ take p (map f es) ++ drop (suc p) (map f es)
   map-leave zero [] = refl
   map-leave zero (e ∷ es) = refl
   map-leave (suc p) [] = refl
-  map-leave (suc p) (e ∷ es) = ap (λ (rs : List Record). f e ∷ rs) (map-leave p es)
+  map-leave (suc p) (e ∷ es) = ap (λ (rs : List B). f e ∷ rs) (map-leave p es)
+
+module _ (f : ℕ → Record) where
+  -- ---- records
 
   pub map-at : (es : List ℕ) (k : ℕ) (d : Record) → k < length es → getD (map f es) k d ≡ f (getD es k 0)
   map-at [] k d h = absurd (omega arith)
