@@ -1,22 +1,24 @@
 -- Edit by the answers of the code's passes: one law for each return. By the four cases of the definition. Assumes nothing.
-use mathlib.Core.Path.{_≡_, subst}
+use mathlib.Core.Path.{_≡_, sym, ap, _∙_, subst}
 use mathlib.Core.Bool.{Bool, true, false, not}
 use Prim.Native.Nat.{ℕ}
 use mathlib.Core.List.{List}
+use native.Mathlib.Omega.{arith}
 use lib.Dec.{T}
+use lib.Seq.{take-all}
 use Rattle.eit.specs.Sizes.{limitedTo}
 use Rattle.eit.specs.Pools.{lentPools}
 use Rattle.eit.specs.Records.{EventList}
 use Rattle.eit.specs.Sound.{sound}
-use Rattle.script.specs.Form.{formOf}
+use Rattle.script.specs.Form.{Command, formOf}
 use Rattle.script.specs.Struck.{unstruckIn, live}
-use Rattle.script.specs.Edit.{edit, refusal}
+use Rattle.script.specs.Edit.{edit, run, refusal}
 use Rattle.script.proofs.Edit.{edit-unsound, edit-broken, edit-nothing, edit-runs}
 use Rattle.script_scan.specs.Commands.{formTold, strikesTold, commandsAt}
 use Rattle.script_scan.specs.declared.scan.Form.the-variants.{Whole, Broken}
 use Rattle.script_scan.specs.declared.scan.Strikes.the-variants.{Enough, NothingAt}
-use Rattle.script_scan.proofs.ScanLaws.{form-whole-is, form-broken-is, strikes-enough-is, strikes-nothing-is}
-use Rattle.edit.specs.Run.{runFrom}
+use Rattle.script_scan.proofs.ScanLaws.{form-whole-is, form-count-is, form-broken-is, strikes-enough-is, strikes-nothing-is}
+use Rattle.edit.specs.Run.{runPart}
 
 module _ (limit : ℕ) (day series : List ℕ) (list : EventList) (script : List ℕ) where
   -- b is what the soundness pass says
@@ -34,15 +36,18 @@ module _ (limit : ℕ) (day series : List ℕ) (list : EventList) (script : List
         → edit (limitedTo limit) (lentPools day series) list script ≡ refusal 3 at list
     edit-3 at f = edit-broken (limitedTo limit) (lentPools day series) list script its-sound at (form-broken-is script at f)
 
-    module _ (whole : formTold (formOf script) ≡ Whole) where
+    module _ (k : ℕ) (whole : formTold (formOf script) ≡ Whole k) where
       pub edit-4 : (at : ℕ) → strikesTold (unstruckIn (commandsAt 0 script)) ≡ NothingAt at
           → edit (limitedTo limit) (lentPools day series) list script ≡ refusal 4 at list
       edit-4 at u =
           edit-nothing (limitedTo limit) (lentPools day series) list script its-sound (commandsAt 0 script) at
-          (form-whole-is script whole) (strikes-nothing-is (commandsAt 0 script) at u)
+          (form-whole-is script k whole) (strikes-nothing-is (commandsAt 0 script) at u)
 
+      -- the part that has all commands, with no UNDO behind it
       pub edit-goes-on : strikesTold (unstruckIn (commandsAt 0 script)) ≡ Enough
-          → edit (limitedTo limit) (lentPools day series) list script ≡ runFrom limit day series list 0 script
+          → edit (limitedTo limit) (lentPools day series) list script ≡ runPart limit day series list 0 k 0 script
       edit-goes-on u =
           edit-runs (limitedTo limit) (lentPools day series) list script its-sound (commandsAt 0 script)
-          (live 0 (commandsAt 0 script)) (form-whole-is script whole) (strikes-enough-is (commandsAt 0 script) u)
+          (live 0 (commandsAt 0 script)) (form-whole-is script k whole) (strikes-enough-is (commandsAt 0 script) u)
+          ∙ ap (λ (cs : List Command). run (limitedTo limit) (lentPools day series) list (live 0 cs))
+          (sym (take-all k (commandsAt 0 script) (omega (arith, form-count-is script k whole))))

@@ -1,35 +1,28 @@
--- The live edits of a part of a script: none if all is struck, one command, or those of the first half and then those of the second,
--- with the UNDOs pending behind the first that pass the second. By the laws of `run` and `live`. Assumes nothing.
-use mathlib.Core.Path.{_≡_, refl, sym, ap, _∙_, subst}
-use Prim.Native.Nat.{ℕ, suc, _+_, _-_, _*_, _≤_, _<_}
+-- The live edits of a part of a script: none if all is struck, or those of the first half and then those of the second, with the UNDOs
+-- pending behind the first that pass the second. By the laws of `run` and `live`. Assumes nothing.
+use mathlib.Core.Path.{_≡_, sym, ap, _∙_, subst}
+use Prim.Native.Nat.{ℕ, _+_, _-_, _≤_}
 use native.Mathlib.Omega.{arith}
-use mathlib.Core.List.{List, [], _∷_, _++_}
+use mathlib.Core.List.{List, _++_}
 use lib.Dec.{T}
-use lib.ListN.{length, getD, drop, take, length-take, length-drop}
-use lib.Seq.{take-all, take-add}
+use lib.ListN.{length, drop, take, length-take, length-drop}
+use lib.Seq.{take-add}
 use Rattle.eit.specs.Sizes.{limitedTo}
 use Rattle.eit.specs.Pools.{lentPools}
-use Rattle.eit.specs.Records.{EventList, lentList, recordSize}
+use Rattle.eit.specs.Records.{EventList}
 use Rattle.eit.specs.Sound.{sound}
-use Rattle.eit.proofs.Sound.{sound-list}
-use Rattle.script.specs.Form.{Command, doEdit, undo, operandBytes, commandOf}
+use Rattle.script.specs.Form.{Command}
 use Rattle.script.specs.Struck.{live, passed}
 use Rattle.script.specs.Edit.{Edited, run}
 use Rattle.script.proofs.Struck.{live-append}
 use Rattle.script.proofs.Edit.{run-append, run-sound}
 use Rattle.script_scan.specs.Commands.{commandsAt, offsetBehind}
-use Rattle.script_scan.proofs.CommandLaws.{commands-next}
-use Rattle.script_scan.proofs.PartLaws.{part-whole, behind-drops}
-use Rattle.edit.specs.Run.{editsOf, runOne, runFrom, runPart}
+use Rattle.script_scan.proofs.PartLaws.{behind-drops}
+use Rattle.edit.specs.Run.{runPart}
 use Rattle.edit.proofs.PendingLaws.{live-none}
 use Rattle.edit.proofs.RunLaws.{none-done, run-ends}
 
 -- ---- the commands of a part
-
--- with no UNDO behind it, a single command is carried out
-live-one : (c : Command) → live 0 (c ∷ []) ≡ editsOf c
-live-one (doEdit e) = refl
-live-one (undo at) = refl
 
 -- the second part begins behind the first h of k commands
 module _ (script : List ℕ) (k at h mid : ℕ) (fits : h ≤ k) (there : mid ≡ offsetBehind h at script) where
@@ -55,13 +48,6 @@ module _ (script : List ℕ) (k at h mid : ℕ) (fits : h ≤ k) (there : mid �
 -- ---- what is carried out
 
 module _ (limit : ℕ) (day series : List ℕ) (list : EventList) (script : List ℕ) where
-  -- all commands, with no UNDO behind them
-  pub part-all : (k : ℕ) → k ≡ length (commandsAt 0 script)
-      → runFrom limit day series list 0 script ≡ runPart limit day series list 0 k 0 script
-  part-all k all =
-      ap (λ (cs : List Command). run (limitedTo limit) (lentPools day series) list (live 0 cs))
-      (sym (take-all k (commandsAt 0 script) (omega arith)))
-
   module _ (p k at : ℕ) where
     -- as many UNDOs as commands strike all
     pub part-struck : k ≤ p → runPart limit day series list p k at script ≡ record { number = 0; value = list .count; list = list }
@@ -69,18 +55,6 @@ module _ (limit : ℕ) (day series : List ℕ) (list : EventList) (script : List
         ap (run (limitedTo limit) (lentPools day series) list)
         (live-none p (take k (commandsAt at script)) (omega (arith, length-take k (commandsAt at script))))
         ∙ none-done (limitedTo limit) (lentPools day series) list
-
-    -- a single command
-    pub part-one : k ≤ length (commandsAt at script) → p < k → k ≡ 1
-        → (c : Command) → c ≡ commandOf (getD script at 0) at (drop (suc at) script)
-        → runPart limit day series list p k at script ≡ runOne limit day series list c
-    part-one within few one c is =
-        let next : ℕ = at + (1 + operandBytes (getD script at 0)) in
-        let here : commandsAt at script ≡ c ∷ commandsAt next script =
-        commands-next at script next refl (part-whole script at (omega arith)) ∙ ap (λ (h : Command). h ∷ commandsAt next script) (sym is) in
-        let none : p ≡ 0 = omega arith in
-        let single : take k (commandsAt at script) ≡ c ∷ [] = rw (here, one) in
-        ap (run (limitedTo limit) (lentPools day series) list) (rw (single, none) (live-one c))
 
     -- o is what the first half comes to
     module _ (h mid : ℕ) (fits : h ≤ k) (there : mid ≡ offsetBehind h at script)
@@ -114,8 +88,3 @@ module _ (limit : ℕ) (day series : List ℕ) (list : EventList) (script : List
     part-sound o does t =
         subst (λ (x : Edited). T (sound (limitedTo limit) (lentPools day series) (x .list))) does
         (run-sound (limitedTo limit) (lentPools day series) list (live p (take k (commandsAt at script))) t)
-
--- the buffer of a sound list has room for its records
-pub sound-held : (limit : ℕ) (day series d : List ℕ) (n : ℕ) → T (sound (limitedTo limit) (lentPools day series) (lentList d n))
-    → n * recordSize ≤ length d
-sound-held limit day series d n t = sound-list (limitedTo limit) (lentPools day series) (lentList d n) t .held

@@ -17,3 +17,9 @@ pub mod IndexedLaws
 pub mod PutLaws
 -- MOVE on an index
 pub mod MoveLaws
+-- commands by their places, and the pass that notes UNDOs
+pub mod PlaceLaws
+-- live edits by their places, and the pass that finds them
+pub mod LiveLaws
+-- the pass that carries out the live edits
+pub mod ForwardLaws

@@ -1,5 +1,5 @@
--- What the machine's functions carry out, in the words of `run` of script: one command, and the live edits of a script and of a part
--- of it. Laws: proofs/RunLaws.antt, HalfLaws.antt. Assumes nothing.
+-- What the machine's functions carry out, in the words of `run` of script: one command, and the live edits of a part of a script.
+-- Laws: proofs/RunLaws.antt, HalfLaws.antt. Assumes nothing.
 use Prim.Native.Nat.{ℕ}
 use mathlib.Core.List.{List, [], _∷_}
 use lib.ListN.{take}
@@ -20,11 +20,7 @@ editsOf (undo at) = []
 abbrev pub runOne : ℕ → List ℕ → List ℕ → EventList → Command → Edited
 runOne limit day series list c = run (limitedTo limit) (lentPools day series) list (editsOf c)
 
--- and after the live edits among the commands from the offset `at` on
-abbrev pub runFrom : ℕ → List ℕ → List ℕ → EventList → ℕ → List ℕ → Edited
-runFrom limit day series list at script = run (limitedTo limit) (lentPools day series) list (live 0 (commandsAt at script))
-
--- and among k of them, with so many UNDOs pending behind these
+-- and after the live edits among k commands from the offset `at` on, with so many UNDOs pending behind these
 abbrev pub runPart : ℕ → List ℕ → List ℕ → EventList → ℕ → ℕ → ℕ → List ℕ → Edited
 runPart limit day series list undos k at script =
     run (limitedTo limit) (lentPools day series) list (live undos (take k (commandsAt at script)))

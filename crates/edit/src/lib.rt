@@ -1,18 +1,84 @@
 // Edit (01, "Edit"): the script's form, UNDO, and the plain machine on the lent list.
+use edit_answer::EditAnswer;
 use edit_answer::Edited;
+use script_scan::scan;
+use script_scan::scan::Form;
+use script_scan::scan::Strikes;
 ghost use mathlib.Core.Path.{_≡_};
-ghost use Rattle.eit.specs.Sizes.{broadcast};
+ghost use lib.Dec.{T};
+ghost use Rattle.eit.specs.Sizes.{broadcast, limitedTo};
 ghost use Rattle.eit.specs.Pools.{lentPools};
 ghost use Rattle.eit.specs.Records.{lentList};
+ghost use Rattle.eit.specs.Sound.{sound};
+ghost use Rattle.script.specs.Form.{formOf};
 ghost use Rattle.script.specs.Edit.{edit};
+ghost use Rattle.script_scan.specs.Commands.{formTold};
 ghost use Rattle.edit_answer.specs.Told.{told};
 
 mod index;
 mod indexed;
+mod live;
 mod machine;
+mod part;
 
 // Events in a list at most (01, "Event record and sound list").
 const EVENT_LIMIT: usize = 2_048;
+
+// 4, then the unstruck edits of a whole script of k commands, on a list that is sound.
+fn edit_whole<'a>(
+    list: &mut [u32],
+    count: usize,
+    day: &'a [u8],
+    series: &'a [u8],
+    script: &[u8],
+    event_limit: usize,
+    k: usize,
+) -> Edited
+    requires { ⌜
+        T (sound (limitedTo «event_limit») (lentPools (now day) (now series)) (lentList (now list) count))
+        × (formTold (formOf (now script)) ≡ Form.Whole k) ⌝ }
+    ensures { λ r. ⌜
+        edit (limitedTo «event_limit») (lentPools (now (day .entry)) (now (series .entry))) (lentList (now (list .entry)) count)
+        (now (script .entry))
+        ≡ told r (now (list .exit)) ⌝ }
+{
+    if let Strikes::NothingAt(at) = scan::strikes_in(script) {
+        return Edited {
+            answer: EditAnswer::NothingToStrike(at),
+            count,
+        };
+    }
+    part::run_part(list, count, day, series, event_limit, script, 0, k, 0)
+}
+
+// Edit with another limit of events than broadcast's.
+fn edit_within<'a>(
+    list: &mut [u32],
+    count: usize,
+    day: &'a [u8],
+    series: &'a [u8],
+    script: &[u8],
+    event_limit: usize,
+) -> Edited
+    ensures { λ r. ⌜
+        edit (limitedTo «event_limit») (lentPools (now (day .entry)) (now (series .entry))) (lentList (now (list .entry)) count)
+        (now (script .entry))
+        ≡ told r (now (list .exit)) ⌝ }
+{
+    if !sound_list::is_sound(list, count, day, series, event_limit) {
+        return Edited {
+            answer: EditAnswer::Unsound,
+            count,
+        };
+    }
+    match scan::form_of(script) {
+        Form::Broken(at) => Edited {
+            answer: EditAnswer::Broken(at),
+            count,
+        },
+        Form::Whole(k) => edit_whole(list, count, day, series, script, event_limit, k),
+    }
+}
 
 // 01's Edit: number, value, count and every number of the list are those of the definition.
 pub fn edit<'a>(
@@ -26,5 +92,5 @@ pub fn edit<'a>(
         edit broadcast (lentPools (now (day .entry)) (now (series .entry))) (lentList (now (list .entry)) count) (now (script .entry))
         ≡ told r (now (list .exit)) ⌝ }
 {
-    machine::edit_within(list, count, day, series, script, EVENT_LIMIT)
+    edit_within(list, count, day, series, script, EVENT_LIMIT)
 }

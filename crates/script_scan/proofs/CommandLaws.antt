@@ -7,7 +7,7 @@ use mathlib.Core.Path.{_≡_, refl, sym, ap, _∙_}
 use mathlib.Core.Bool.{Bool, true, false, not}
 use mathlib.Core.Logic.{⊎-elim}
 use mathlib.Core.List.{List, [], _∷_}
-use Prim.Native.Nat.{ℕ, zero, suc, _+_, _-_, _≤_, _<_}
+use Prim.Native.Nat.{ℕ, zero, suc, _+_, _-_, _*_, _/_, _%_, _^_, _≤_, _<_}
 use native.Mathlib.Nat.{zero-add}
 use native.Mathlib.Omega.{arith}
 use lib.Dec.{T, ltb, leb, ltb→lt}
@@ -19,6 +19,8 @@ use Rattle.script.specs.Form.{Edit, Command, doEdit, undo, isCommand, operandBy
 use Rattle.script.specs.Form.{Form, commands, broken, before, formFrom, formOf}
 use Rattle.script.proofs.Form.{whole-room, form-whole, form-broken, by-code, before-only}
 use Rattle.script_scan.specs.Commands.{formTold, isWholeAt, wholeFrom, commandsAt}
+use Rattle.script_scan.specs.declared.scan.Form as scanned
+use Rattle.script_scan.specs.declared.scan.Form.the-variants.{Whole, Broken}
 
 -- ---- the commands of a script with a form
 
@@ -66,10 +68,20 @@ whole-first code at bs whole =
 whole-none : (code at : ℕ) (bs : List ℕ) → T (not (isWhole code bs)) → wholeFrom 0 at (code ∷ bs) ≡ []
 whole-none code at bs t = rw (wholeFrom, false-is (isWhole code bs) t)
 
--- a command in front changes only the commands
-told-before : (c : Command) (form : Form) → formTold (before c form) ≡ formTold form
-told-before c (commands cs) = refl
-told-before c (broken at) = refl
+-- the form of the rest of a script that has n commands in front
+abbrev pub formAfter : ℕ → Form → scanned.Form
+formAfter n (commands cs) = Whole (n + length cs)
+formAfter n (broken at) = Broken at
+
+pub after-none : (form : Form) → formTold form ≡ formAfter 0 form
+after-none (commands cs) = rw zero-add
+after-none (broken at) = refl
+
+after-more : (n : ℕ) (c : Command) (form : Form) → formAfter n (before c form) ≡ formAfter (n + 1) form
+after-more n c (commands cs) =
+    let one : n + suc (length cs) ≡ n + 1 + length cs = omega arith in
+    ap Whole one
+after-more n c (broken at) = refl
 
 module _ (at : ℕ) (script : List ℕ) where
   -- the command's byte lies in the script, and so do its operands
@@ -143,14 +155,15 @@ module _ (at : ℕ) (script : List ℕ) where
   pub form-next : (next : ℕ)
       → next ≡ at + (1 + operandBytes (getD script at 0))
       → T (isWholeAt at script)
-      → formTold (formFrom 0 at (drop at script)) ≡ formTold (formFrom 0 next (drop next script))
-  form-next next e whole =
+      → (n : ℕ)
+      → formAfter n (formFrom 0 at (drop at script)) ≡ formAfter (n + 1) (formFrom 0 next (drop next script))
+  form-next next e whole n =
       let code : ℕ = getD script at 0 in
       let same : at + 1 + operandBytes code ≡ next = omega arith in
       rw (
         drop-cons script at 0 (whole-here whole),
         form-whole code at (drop (suc at) script) (whole-is whole),
-        told-before (commandOf code at (drop (suc at) script)),
+        after-more n (commandOf code at (drop (suc at) script)),
         behind,
         same,
       )
@@ -191,3 +204,12 @@ module _ (code : ℕ) (p : code ≡ 0x01 → ⊥) (w : code ≡ 0x02 → ⊥) (m
 
   pub other-command : (at : ℕ) (bs : List ℕ) → commandOf code at bs ≡ undo at
   other-command at bs = rw (commandOf, ne-eqb code 0x01 p, ne-eqb code 0x02 w, ne-eqb code 0x03 m)
+
+-- each code's operand bytes, packed in one number of eight bits for each
+pub packed-operands : (code : ℕ) → code ≤ 0x04 → 0x00_06_02_11_00 / 2 ^ (8 * code) % 256 ≡ operandBytes code
+packed-operands zero h = refl
+packed-operands (suc zero) h = refl
+packed-operands (suc (suc zero)) h = refl
+packed-operands (suc (suc (suc zero))) h = refl
+packed-operands (suc (suc (suc (suc zero)))) h = refl
+packed-operands (suc (suc (suc (suc (suc code))))) h = absurd (omega arith)

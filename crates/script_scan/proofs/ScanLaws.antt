@@ -2,6 +2,7 @@
 use mathlib.Core.Path.{_≡_, refl, sym, ap, _∙_}
 use mathlib.Core.List.{List}
 use Prim.Native.Nat.{ℕ}
+use lib.ListN.{length}
 use native.Mathlib.Omega.{arith}
 use Rattle.script.specs.Form.{Edit, Command, Form, commands, broken, formOf}
 use Rattle.script.specs.Struck.{Unstruck, unstruck, nothingAt, unstruckIn, live}
@@ -13,14 +14,20 @@ use Rattle.script_scan.proofs.CommandLaws.{commands-are}
 
 -- ---- 3 over the script
 
-told-whole : (form : Form) → formTold form ≡ Whole → (cs : List Command) × (form ≡ commands cs)
-told-whole (commands cs) e = (cs, refl)
-told-whole (broken at) e = let never : _≡_ {A = ℕ} 0 1 = cc in absurd (omega arith)
+told-whole : (form : Form) (k : ℕ) → formTold form ≡ Whole k → (cs : List Command) × (form ≡ commands cs) × (k ≡ length cs)
+told-whole (commands cs) k e = (cs, refl, cc)
+told-whole (broken at) k e = let never : _≡_ {A = ℕ} 0 1 = cc in absurd (omega arith)
 
-pub form-whole-is : (script : List ℕ) → formTold (formOf script) ≡ Whole → formOf script ≡ commands (commandsAt 0 script)
-form-whole-is script e =
-    let (cs, is) = told-whole (formOf script) e in
-    is ∙ ap commands (sym (commands-are script cs is))
+module _ (script : List ℕ) (k : ℕ) (e : formTold (formOf script) ≡ Whole k) where
+  pub form-whole-is : formOf script ≡ commands (commandsAt 0 script)
+  form-whole-is =
+      let (cs, is, _) = told-whole (formOf script) k e in
+      is ∙ ap commands (sym (commands-are script cs is))
+
+  pub form-count-is : k ≡ length (commandsAt 0 script)
+  form-count-is =
+      let (cs, is, count) = told-whole (formOf script) k e in
+      count ∙ ap length (sym (commands-are script cs is))
 
 told-broken : (form : Form) (at : ℕ) → formTold form ≡ Broken at → form ≡ broken at
 told-broken (commands cs) at e = cc

@@ -15,9 +15,9 @@ use Rattle.script_scan.specs.declared.scan.Form.the-variants.{Whole, Bro
 use Rattle.script_scan.specs.declared.scan.Strikes.{Strikes}
 use Rattle.script_scan.specs.declared.scan.Strikes.the-variants.{Enough, NothingAt}
 
--- 3 over the script: its form, without the commands
+-- 3 over the script: its form, and of the commands how many they are
 abbrev pub formTold : model.Form → Form
-formTold (commands cs) = Whole
+formTold (commands cs) = Whole (length cs)
 formTold (broken at) = Broken at
 
 -- 4 over the script: whether each UNDO has something to strike, without the edits that are left

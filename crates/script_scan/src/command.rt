@@ -15,6 +15,9 @@ pub const MOVE: u8 = 0x03;
 
 pub const UNDO: u8 = 0x04;
 
+// The operand bytes of each code from 0 on, eight bits each: PUT 17, WITHDRAW 2, MOVE 6.
+const OPERAND_BYTES: u64 = 0x00_06_02_11_00;
+
 // A command with its operands.
 pub enum Command {
     Put(Record),
@@ -31,20 +34,14 @@ pub fn is_command(code: u8) -> bool
     PUT <= code && code <= UNDO
 }
 
-// How many operand bytes a command has.
+// How many operand bytes a command has: byte `code` of a number that holds them all, so that the processor has no branch to guess.
 pub fn operand_bytes(code: u8) -> usize
     ensures { λ r. ⌜ r ≡ operandBytes code ⌝ }
 {
-    if code == PUT {
-        return 17;
+    if UNDO < code {
+        return 0;
     }
-    if code == WITHDRAW {
-        return 2;
-    }
-    if code == MOVE {
-        return 6;
-    }
-    0
+    ((OPERAND_BYTES >> (8 * code)) % 256) as usize
 }
 
 // The record of PUT's operands, as far as there are bytes.

@@ -1,15 +1,15 @@
-// The passes over a script that come before any edit (01, "When a call says no": 3 over the script, 4 over the script), and its
-// commands, counted and skipped.
+// The passes over a script that come before any edit (01, "When a call says no": 3 over the script, 4 over the script), and a pass
+// that skips commands.
 use crate::command;
 ghost use mathlib.Core.Path.{_≡_};
-ghost use lib.ListN.{length};
 ghost use Rattle.script.specs.Form.{formOf};
 ghost use Rattle.script.specs.Struck.{unstruckIn};
 ghost use Rattle.script_scan.specs.Commands.{formTold, strikesTold, isWholeAt, commandsAt, offsetBehind};
 
 // The form of a script.
 pub enum Form {
-    Whole,
+    // How many commands it has.
+    Whole(usize),
     // The offset of the first unknown command or cut operand.
     Broken(usize),
 }
@@ -36,14 +36,16 @@ pub fn is_whole_at(script: &[u8], at: usize) -> bool
 pub fn form_of(script: &[u8]) -> Form
     ensures { λ r. ⌜ r ≡ formTold (formOf (now (script .entry))) ⌝ }
 {
+    let mut count: usize = 0;
     let mut at = 0;
     while is_whole_at(script, at) {
+        count += 1;
         at += 1 + command::operand_bytes(script[at]);
     }
     if at < script.len() {
         return Form::Broken(at);
     }
-    Form::Whole
+    Form::Whole(count)
 }
 
 // Whether each UNDO has something to strike: `kept` counts the edits that are not yet struck.
@@ -63,19 +65,6 @@ pub fn strikes_in(script: &[u8]) -> Strikes
         at += 1 + command::operand_bytes(script[at]);
     }
     Strikes::Enough
-}
-
-// How many whole commands there are.
-pub fn count_commands(script: &[u8]) -> usize
-    ensures { λ r. ⌜ r ≡ length (commandsAt 0 (now (script .entry))) ⌝ }
-{
-    let mut count: usize = 0;
-    let mut at = 0;
-    while is_whole_at(script, at) {
-        count += 1;
-        at += 1 + command::operand_bytes(script[at]);
-    }
-    count
 }
 
 // The offset behind k whole commands from `at` on, or behind as many as there are.

@@ -1,4 +1,4 @@
--- `machine::pending_before` meets its contract. The loop's invariant: as many UNDOs are pending before all k commands as come from those
+-- `part::pending_before` meets its contract. The loop's invariant: as many UNDOs are pending before all k commands as come from those
 -- that are left with `kept` edits and `over` UNDOs before them, and each of these is one of the commands passed. The measure is how many
 -- are left. Assumes nothing.
 use mathlib.Core.Path.{_≡_, sym, ap, ap₂, _∙_}
@@ -15,8 +15,8 @@ use Rattle.script_scan.specs.Commands.{isWholeAt, commandsAt}
 use Rattle.script_scan.proofs.CommandLaws.{whole-here, whole-inside}
 use Rattle.script_scan.proofs.PartLaws.{commands-fit, part-whole, count-next}
 use Rattle.edit.proofs.PendingLaws.{pendingAfter, pending-edit, pending-undo, pending-over}
-use Rattle.edit.proofs.machine.pending_before.Statement.{statement}
-use Rattle.edit.proofs.machine.pending_before.Tie as tie
+use Rattle.edit.proofs.part.pending_before.Statement.{statement}
+use Rattle.edit.proofs.part.pending_before.Tie as tie
 
 abbrev Inv-loop : tie.InvT-loop
 Inv-loop script at k undos over₀ kept₀ i₀ left₀ over kept i left =

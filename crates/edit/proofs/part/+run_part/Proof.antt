@@ -1,5 +1,5 @@
--- `machine::run_part` meets its contract: nothing is left to carry out, or one command, or the two halves one after the other. The
--- measure is how many commands there are. Assumes nothing.
+-- `part::run_part` meets its contract: nothing is left to carry out, or the part is short, or there are two halves, one after the other.
+-- The measure is how many commands there are. Assumes nothing.
 use mathlib.Core.Path.{sym, _∙_}
 use Prim.Native.Nat.{ℕ, _-_, _/_, _<_, _≤_}
 use native.Mathlib.Omega.{arith}
@@ -9,19 +9,18 @@ use borrow.Author.Needs.{needs}
 use borrow.Fn.Kinds.{In}
 use borrow.Fn.PlainCycle.{Measures, is, falls, and}
 use Rattle.eit.specs.Records.{lentList}
-use Rattle.script_scan.specs.Commands.{commandTold, commandsAt}
+use Rattle.script_scan.specs.Commands.{commandsAt}
 use Rattle.script_scan.proofs.PartLaws.{commands-fit}
-use Rattle.edit.proofs.HalfLaws.{sound-held, part-struck, part-one, part-sound, half-within, half-ends, half-goes-on}
-use Rattle.edit.proofs.machine.run_part.Reads as run-part
-use Rattle.edit.proofs.machine.run_part.Kinds as run-part-kinds
-use Rattle.edit.proofs.machine.+run_part.Lts-run_part as run-part-lts
+use Rattle.edit.proofs.HalfLaws.{part-struck, part-sound, half-within, half-ends, half-goes-on}
+use Rattle.edit.proofs.part.run_part.Reads as run-part
+use Rattle.edit.proofs.part.run_part.Kinds as run-part-kinds
+use Rattle.edit.proofs.part.+run_part.Lts-run_part as run-part-lts
 use Rattle.edit_answer.proofs.number_of.Reads as number-of-reads
-use Rattle.edit.proofs.machine.carry_out.Reads as carry-out-reads
-use Rattle.edit.proofs.machine.pending_before.Reads as pending-before-reads
-use Rattle.script_scan.proofs.command.command_at.Reads as command-at-reads
+use Rattle.edit.proofs.part.run_short.Reads as run-short-reads
+use Rattle.edit.proofs.part.pending_before.Reads as pending-before-reads
 use Rattle.script_scan.proofs.scan.skip_commands.Reads as skip-commands-reads
-use Rattle.edit.proofs.machine.+run_part.{statement}
-use Rattle.edit.proofs.machine.+run_part.Tie.{close}
+use Rattle.edit.proofs.part.+run_part.{statement}
+use Rattle.edit.proofs.part.+run_part.Tie.{close}
 
 abbrev μ-run-part : Measures 3 run-part-kinds.ps ℕ
 μ-run-part κs a = a .1 .1 .1 .1 .1 .1 .1 .0
@@ -35,10 +34,8 @@ run-part-below t = and 3 run-part-kinds.ps (falls 3 run-part-kinds.ps _<_ μ-run
 
 abbrev claims : ℕ → run-part-lts.Claims
 claims t = (
-  command-at-reads.Asked,
-  command-at-reads.Learnt,
-  carry-out-reads.Asked,
-  carry-out-reads.Learnt,
+  run-short-reads.Asked,
+  run-short-reads.Learnt,
   skip-commands-reads.Asked,
   skip-commands-reads.Learnt,
   pending-before-reads.Asked,
@@ -55,28 +52,17 @@ run-part-returns t c =
     part-struck (start .event-limit) (now (start .day)) (now (start .series)) (lentList (now (start .list)) (start .count)) (now (start .script))
     (start .undos) (start .k) (start .at) (c .if1 .taken)
 
-run-part-command-at-requires : (t : ℕ) → run-part-lts.Need-command-at-requires (claims t) (run-part-at t) run-part.Post
-run-part-command-at-requires t c κs = search needs
-
-run-part-carry-out-requires : (t : ℕ) → run-part-lts.Need-carry-out-requires (claims t) (run-part-at t) run-part.Post
-run-part-carry-out-requires t c κs =
-    let entry = c .before .before .before .before .before .before .before .before in
-    let start = entry .args in
-    sound-held (start .event-limit) (now (start .day)) (now (start .series)) (now (start .list)) (start .count) (entry .pre .1 .0)
+run-part-run-short-requires : (t : ℕ) → run-part-lts.Need-run-short-requires (claims t) (run-part-at t) run-part.Post
+run-part-run-short-requires t c κs =
+    let short = c .before in
+    let entry = short .before .before .before .before .before .before in
+    (entry .pre .1 .0, entry .pre .1 .1, short .if2 .taken, omega (arith, short .if2 .taken, short .before .if1 .left))
 
 run-part-same-length : (t : ℕ) → run-part-lts.Need-same-length (claims t) (run-part-at t) run-part.Post
 run-part-same-length t c = search needs
 
 run-part-returns-2 : (t : ℕ) → run-part-lts.Need-returns-2 (claims t) (run-part-at t) run-part.Post
-run-part-returns-2 t c =
-    let reads = c .before .before .before .before in
-    let few = reads .before .before in
-    let entry = few .before .before .before .before .before in
-    let start = entry .args in
-    part-one (start .event-limit) (now (start .day)) (now (start .series)) (lentList (now (start .list)) (start .count)) (now (start .script))
-    (start .undos) (start .k) (start .at) (entry .pre .1 .1) (few .if1 .left) (reads .before .if2 .taken)
-    (commandTold (start .at) (reads .command-at .result)) (reads .command-at .ensures)
-    ∙ c .before .before .carry-out .ensures
+run-part-returns-2 t c = c .before .before .run-short .ensures
 
 run-part-sub-rest : (t : ℕ) → run-part-lts.Need-sub-rest (claims t) (run-part-at t) run-part.Post
 run-part-sub-rest t c = omega arith
@@ -167,8 +153,7 @@ pub +run-part-spec : {M : Type 1} → statement M
     (run-part-at t)
     run-part.Post
     (run-part-returns t)
-    (run-part-command-at-requires t)
-    (run-part-carry-out-requires t)
+    (run-part-run-short-requires t)
     (run-part-same-length t)
     (run-part-returns-2 t)
     (run-part-sub-rest t)

@@ -1,0 +1,177 @@
+// The unstruck edits of a part of a script are carried out in order (01, "Edit"); a refusal leaves the list as the earlier edits made it.
+use crate::live;
+use crate::machine;
+use codec::seen;
+use edit_answer::EditAnswer;
+use edit_answer::Edited;
+use script_scan::command;
+use script_scan::scan;
+ghost use mathlib.Core.Path.{_≡_};
+ghost use Prim.Native.Nat.{ℕ, _≤_};
+ghost use lib.Dec.{T};
+ghost use lib.ListN.{length, take};
+ghost use Rattle.eit.specs.Sizes.{limitedTo};
+ghost use Rattle.eit.specs.Pools.{lentPools};
+ghost use Rattle.eit.specs.Records.{lentList};
+ghost use Rattle.eit.specs.Sound.{sound};
+ghost use Rattle.script.specs.Struck.{passed};
+ghost use Rattle.script_scan.specs.Commands.{commandsAt};
+ghost use Rattle.edit.specs.Run.{runPart};
+ghost use Rattle.edit.specs.Live.{LivePlaces};
+ghost use Rattle.edit_answer.specs.Told.{told};
+
+// Places that a set has room for, and so the most commands of a part that is not halved; and its words of 64.
+const PLACES: usize = 65_536;
+
+const PLACE_WORDS: usize = 1_024;
+
+// How many UNDOs are pending before k commands from `at` on, with so many behind them: `kept` counts the edits that are not
+// yet struck, `over` the UNDOs that find nothing among them to strike.
+fn pending_before(script: &[u8], at: usize, k: usize, undos: usize) -> usize
+    requires { ⌜ (k ≤ length (commandsAt at (now script))) × (undos ≤ length (now script)) ⌝ }
+    ensures { λ r. ⌜ r ≡ passed undos (take k (commandsAt at (now (script .entry)))) ⌝ }
+{
+    let mut over: usize = 0;
+    let mut kept: usize = 0;
+    let mut i = at;
+    let mut left = k;
+    while 0 < left {
+        if script[i] != command::UNDO {
+            kept += 1;
+        } else if kept == 0 {
+            over += 1;
+        } else {
+            kept -= 1;
+        }
+        i += 1 + command::operand_bytes(script[i]);
+        left -= 1;
+    }
+    if undos <= kept {
+        return over;
+    }
+    over + (undos - kept)
+}
+
+// The live edits among k commands from `at` on, by their places, on a list that is sound; it ends where one is refused.
+fn run_live<'a>(
+    list: &mut [u32],
+    count: usize,
+    day: &'a [u8],
+    series: &'a [u8],
+    event_limit: usize,
+    script: &[u8],
+    at: usize,
+    k: usize,
+    live_places: &[u64],
+) -> Edited
+    requires { ⌜
+        T (sound (limitedTo «event_limit») (lentPools (now day) (now series)) (lentList (now list) count))
+        × (k ≤ length (commandsAt at (now script))) × (k ≤ 65_536) ⌝ }
+    ensures { λ r. ⌜
+        ((undos : ℕ) → LivePlaces (now («live_places» .entry)) undos (take k (commandsAt at (now (script .entry))))
+        → runPart «event_limit» (now (day .entry)) (now (series .entry)) (lentList (now (list .entry)) count) undos k at
+        (now (script .entry))
+        ≡ told r (now (list .exit))) ⌝ }
+{
+    let mut held = count;
+    let mut i = at;
+    let mut place = 0;
+    while place < k {
+        if seen::is_seen(live_places, place as u32) {
+            let command = command::command_at(script, i);
+            let r = machine::carry_out(list, held, day, series, event_limit, i, command);
+            let said = r.answer;
+            if edit_answer::number_of(said) != 0 {
+                return r;
+            }
+            held = r.count;
+        }
+        i += 1 + command::operand_bytes(script[i]);
+        place += 1;
+    }
+    Edited {
+        answer: EditAnswer::Done,
+        count: held,
+    }
+}
+
+// The live edits of a part that is not halved: a pass forward that notes the UNDOs, one back that finds the live edits, and one forward
+// that carries them out.
+fn run_short<'a>(
+    list: &mut [u32],
+    count: usize,
+    day: &'a [u8],
+    series: &'a [u8],
+    event_limit: usize,
+    script: &[u8],
+    at: usize,
+    k: usize,
+    undos: usize,
+) -> Edited
+    requires { ⌜
+        T (sound (limitedTo «event_limit») (lentPools (now day) (now series)) (lentList (now list) count))
+        × (k ≤ length (commandsAt at (now script))) × (k ≤ 65_536) × (undos ≤ 65_536) ⌝ }
+    ensures { λ r. ⌜
+        runPart «event_limit» (now (day .entry)) (now (series .entry)) (lentList (now (list .entry)) count) undos k at
+        (now (script .entry))
+        ≡ told r (now (list .exit)) ⌝ }
+{
+    let mut undo_places = [0u64; PLACE_WORDS];
+    live::undos_in(script, at, k, &mut undo_places);
+    let mut live_places = [0u64; PLACE_WORDS];
+    live::live_in(&undo_places, k, undos, &mut live_places);
+    run_live(
+        list,
+        count,
+        day,
+        series,
+        event_limit,
+        script,
+        at,
+        k,
+        &live_places,
+    )
+}
+
+// The live edits among k commands from `at` on, with so many UNDOs pending behind them, on a list that is sound: those of the
+// first half, then those of the second, until a half is short. What strikes in the first is counted by a pass over the second.
+pub fn run_part<'a>(
+    list: &mut [u32],
+    count: usize,
+    day: &'a [u8],
+    series: &'a [u8],
+    event_limit: usize,
+    script: &[u8],
+    at: usize,
+    k: usize,
+    undos: usize,
+) -> Edited
+    requires { ⌜
+        T (sound (limitedTo «event_limit») (lentPools (now day) (now series)) (lentList (now list) count))
+        × (k ≤ length (commandsAt at (now script))) ⌝ }
+    ensures { λ r. ⌜
+        runPart «event_limit» (now (day .entry)) (now (series .entry)) (lentList (now (list .entry)) count) undos k at
+        (now (script .entry))
+        ≡ told r (now (list .exit)) ⌝ }
+{
+    if k <= undos {
+        return Edited {
+            answer: EditAnswer::Done,
+            count,
+        };
+    }
+    if k <= PLACES {
+        return run_short(list, count, day, series, event_limit, script, at, k, undos);
+    }
+    let h = k / 2;
+    let rest = k - h;
+    let mid = scan::skip_commands(script, at, h);
+    let before = pending_before(script, mid, rest, undos);
+    let r = run_part(list, count, day, series, event_limit, script, at, h, before);
+    let said = r.answer;
+    if edit_answer::number_of(said) != 0 {
+        return r;
+    }
+    let n = r.count;
+    run_part(list, n, day, series, event_limit, script, mid, rest, undos)
+}
