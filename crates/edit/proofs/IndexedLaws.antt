@@ -38,8 +38,13 @@ use Rattle.slot_index.proofs.SlotLaws.{below-more}
 use Rattle.slot_index.proofs.RiseLaws.{own-place}
 use Rattle.edit.specs.Run.{runOne}
 use Rattle.edit.specs.Indexed.{TakenOut, Kept, Leaves}
-use Rattle.edit.specs.declared.indexed.Carried.{Carried}
+use Rattle.edit.specs.declared.indexed.Reached.{Reached}
 use Rattle.edit.proofs.RunLaws.{one-done, one-refused}
+
+-- the same outcome in other words
+pub leaves-same : {o p : model.Edited} {r : Reached} {list slots order ids : List ℕ} → o ≡ p → Leaves o r list slots order ids
+    → Leaves p r list slots order ids
+leaves-same e l = record { says = sym e ∙ l .says; index = l .index; fits = l .fits }
 
 -- what the code looks places up in
 pub kept-ordered : (list slots order ids : List ℕ) (count used : ℕ) → Kept list slots order ids count used → Ordered slots order count

@@ -13,6 +13,8 @@ pub mod CarryLaws
 pub mod EditLaws
 -- what an edit on an index leaves, and WITHDRAW
 pub mod IndexedLaws
+-- what an index is made from, and made anew
+pub mod RenewLaws
 -- PUT on an index
 pub mod PutLaws
 -- MOVE on an index
@@ -23,3 +25,5 @@ pub mod PlaceLaws
 pub mod LiveLaws
 -- the pass that carries out the live edits
 pub mod ForwardLaws
+-- the same pass on an index
+pub mod IndexRunLaws

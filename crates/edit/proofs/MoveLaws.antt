@@ -30,7 +30,7 @@ use Rattle.slot_index.proofs.RiseLaws.{without-starts, without-rises, own-start
 use Rattle.slot_index.proofs.SlotLaws.{below-more}
 use Rattle.edit.specs.Indexed.{placeIn, Added, TakenOut, Kept, Leaves}
 use Rattle.edit.specs.declared.index.Place.{Place}
-use Rattle.edit.specs.declared.indexed.Carried.{Carried}
+use Rattle.edit.specs.declared.indexed.Reached.{Reached}
 use Rattle.edit.proofs.IndexedLaws.{does, stands-records, records-length, refuses, stays, passes, written-over, absent, id-small, present}
 use Rattle.edit.proofs.IndexedLaws.{its-record, out-records, out-index}
 use Rattle.edit.proofs.PutLaws.{holds, fails}

@@ -31,7 +31,7 @@ use Rattle.slot_index.specs.Index.{slotLimit, orderLimit, idLimit, recordsAt, i
 use Rattle.slot_index.proofs.IndexLaws.{add-records, add-index}
 use Rattle.edit.specs.Indexed.{placeIn, Added, Kept, Leaves}
 use Rattle.edit.specs.declared.index.Place.{Place}
-use Rattle.edit.specs.declared.indexed.Carried.{Carried}
+use Rattle.edit.specs.declared.indexed.Reached.{Reached}
 use Rattle.edit.proofs.IndexedLaws.{does, stands-records, records-length, refuses, stays, passes, written-over, absent, present}
 
 -- a test that came out true, and one that came out false

@@ -8,15 +8,15 @@ use lib.ListN.{length, take, set}
 use Rattle.eit.specs.Among.{isAmong, allDiffer}
 use Rattle.eit.specs.Find.{placeOf}
 use Rattle.eit.specs.Overwrite.{overwrite}
-use Rattle.eit.specs.Records.{recordSize, numbersOf}
+use Rattle.eit.specs.Records.{EventList, recordSize, numbersOf}
 use Rattle.eit.specs.Sound.{idsOf, startsOf}
 use Rattle.eit.specs.declared.Record.{Record}
 use Rattle.script.specs.Edit as model
 use Rattle.edit_answer.specs.Told.{told}
 use Rattle.slot_index.specs.Order.{withSlot, withoutSlot}
-use Rattle.slot_index.specs.Index.{idLimit, recordsAt, Rises, Index, indexedNumbers}
+use Rattle.slot_index.specs.Index.{slotLimit, idLimit, recordsAt, Rises, Index, indexedNumbers, indexedList}
 use Rattle.edit.specs.declared.index.Place.{Place}
-use Rattle.edit.specs.declared.indexed.Carried.{Carried}
+use Rattle.edit.specs.declared.indexed.Reached.{Reached}
 
 -- where a start has its place among some records, and whether one of them has it
 abbrev pub placeIn : ℕ → List Record → Place
@@ -42,7 +42,14 @@ pub record Kept (list slots order ids : List ℕ) (count used : ℕ) : Type 0 wh
   pub small : (id : ℕ) → T (isAmong id (idsOf (recordsAt slots (take count order)))) → id < idLimit
 
 -- after it: o is what the plain machine comes to
-pub record Leaves (o : model.Edited) (r : Carried) (list slots order ids : List ℕ) : Type 0 where
+pub record Leaves (o : model.Edited) (r : Reached) (list slots order ids : List ℕ) : Type 0 where
   pub says : o ≡ told (record { answer = r .answer; count = r .count }) (indexedNumbers list slots order (r .count))
   pub index : Index slots order ids (r .count) (r .used)
   pub fits : r .count * recordSize ≤ length list
+
+-- an index made anew: it stands for the same list, and has a slot that is free
+pub record Renewed (before : EventList) (list slots order ids : List ℕ) (count used : ℕ) : Type 0 where
+  pub same : indexedList list slots order count ≡ before
+  pub index : Index slots order ids count used
+  pub free : used < slotLimit
+  pub fits : count * recordSize ≤ length list

@@ -7,11 +7,14 @@ use event_list::records::RECORD_SIZE;
 ghost use mathlib.Core.Path.{_≡_};
 ghost use Prim.Native.Nat.{_+_, _*_, _/_, _≤_, _<_};
 ghost use mathlib.Core.List.{List};
-ghost use lib.ListN.{length, getD, take, set};
+ghost use lib.ListN.{length, getD, take, set, replicate};
 ghost use Rattle.eit.specs.Find.{placeOf};
 ghost use Rattle.eit.specs.Records.{recordSize};
-ghost use Rattle.slot_index.specs.Index.{slotRecord, recordsAt, Ordered, Index, Loadable, Loaded, indexedNumbers};
-ghost use Rattle.edit.specs.Indexed.{placeIn, Added, TakenOut};
+ghost use Rattle.slot_index.specs.Index.{slotRecord, recordsAt, Ordered, Index, Loadable, Loaded, indexedNumbers, indexedList};
+ghost use Rattle.edit.specs.Indexed.{placeIn, Added, TakenOut, Kept, Renewed};
+
+// Slots of an index: those of a full list, and at least as many for edits until it is made anew.
+pub const SLOT_LIMIT: usize = 4_096;
 
 // The place of a start by the records' starts, and whether a record has it.
 pub struct Place {
@@ -134,4 +137,38 @@ pub fn store(list: &mut [u32], slots: &[u32], order: &[u16], count: usize)
         place::insert_record(list, i, i, event);
         i += 1;
     }
+}
+
+// Sets all ids to 0.
+fn clear(ids: &mut [u16])
+    ensures { λ _. ⌜ now (ids .exit) ≡ replicate (length (now (ids .entry))) 0 ⌝ }
+{
+    let mut i = 0;
+    while i < ids.len() {
+        ids[i] = 0;
+        i += 1;
+    }
+}
+
+// Where all slots are used, writes the list back and makes the index anew from it. Returns the slots used then.
+pub fn renew(
+    list: &mut [u32],
+    slots: &mut [u32],
+    order: &mut [u16],
+    ids: &mut [u16],
+    count: usize,
+    used: usize,
+) -> usize
+    requires { ⌜ Kept (now list) (now slots) (now order) (now ids) count used ⌝ }
+    ensures { λ r. ⌜
+        Renewed (indexedList (now (list .entry)) (now (slots .entry)) (now (order .entry)) count)
+        (now (list .exit)) (now (slots .exit)) (now (order .exit)) (now (ids .exit)) count r ⌝ }
+{
+    if used < SLOT_LIMIT {
+        return used;
+    }
+    store(list, slots, order, count);
+    clear(ids);
+    load(list, count, slots, order, ids);
+    count
 }

@@ -18,7 +18,7 @@ ghost use Rattle.edit.specs.Run.{runOne};
 ghost use Rattle.edit.specs.Indexed.{Kept, Leaves};
 
 // The answer, the count then held, and the slots used so far.
-pub struct Carried {
+pub struct Reached {
     pub answer: EditAnswer,
     pub count: usize,
     pub used: usize,
@@ -37,7 +37,7 @@ fn put_indexed<'a>(
     event_limit: usize,
     at: usize,
     event: Record,
-) -> Carried
+) -> Reached
     requires { ⌜
         Kept (now list) (now slots) (now order) (now ids) count used × (used < slotLimit) × («event_limit» ≤ orderLimit) ⌝ }
     ensures { λ r. ⌜
@@ -47,21 +47,21 @@ fn put_indexed<'a>(
         r (now (list .entry)) (now (slots .exit)) (now (order .exit)) (now (ids .exit)) ⌝ }
 {
     if !sound_list::is_in_range(event) {
-        return Carried {
+        return Reached {
             answer: EditAnswer::OutOfRange(at),
             count,
             used,
         };
     }
     if !pools::has_chain(event, day, series) {
-        return Carried {
+        return Reached {
             answer: EditAnswer::NoChain(at),
             count,
             used,
         };
     }
     if index::slot_of(ids, event.id) != 0 {
-        return Carried {
+        return Reached {
             answer: EditAnswer::WrongId(at),
             count,
             used,
@@ -69,21 +69,21 @@ fn put_indexed<'a>(
     }
     let found = index::place_in(slots, order, count, event.start);
     if found.is_taken {
-        return Carried {
+        return Reached {
             answer: EditAnswer::StartTaken(at),
             count,
             used,
         };
     }
     if event_limit <= count || list.len() / RECORD_SIZE <= count {
-        return Carried {
+        return Reached {
             answer: EditAnswer::ListFull(at),
             count,
             used,
         };
     }
     index::add_record(slots, order, ids, count, used, found.place, event);
-    Carried {
+    Reached {
         answer: EditAnswer::Done,
         count: count + 1,
         used: used + 1,
@@ -100,7 +100,7 @@ fn withdraw_indexed(
     used: usize,
     at: usize,
     id: u32,
-) -> Carried
+) -> Reached
     requires { ⌜ Kept (now list) (now slots) (now order) (now ids) count used ⌝ }
     ensures { λ r. ⌜
         ((limit : ℕ) (day series : List ℕ) →
@@ -111,7 +111,7 @@ fn withdraw_indexed(
 {
     let number = index::slot_of(ids, id);
     if number == 0 {
-        return Carried {
+        return Reached {
             answer: EditAnswer::WrongId(at),
             count,
             used,
@@ -121,7 +121,7 @@ fn withdraw_indexed(
     let place = index::place_of(slots, order, count, event.start);
     index::take_out_record(order, ids, count, place - 1, id);
     place::remove_record(list, count, count - 1);
-    Carried {
+    Reached {
         answer: EditAnswer::Done,
         count: count - 1,
         used,
@@ -139,7 +139,7 @@ fn move_indexed(
     at: usize,
     id: u32,
     start: u32,
-) -> Carried
+) -> Reached
     requires { ⌜ Kept (now list) (now slots) (now order) (now ids) count used × (used < slotLimit) ⌝ }
     ensures { λ r. ⌜
         ((limit : ℕ) (day series : List ℕ) →
@@ -149,7 +149,7 @@ fn move_indexed(
         r (now (list .entry)) (now (slots .exit)) (now (order .exit)) (now (ids .exit))) ⌝ }
 {
     if !Time::is_start(start) {
-        return Carried {
+        return Reached {
             answer: EditAnswer::OutOfRange(at),
             count,
             used,
@@ -157,7 +157,7 @@ fn move_indexed(
     }
     let number = index::slot_of(ids, id);
     if number == 0 {
-        return Carried {
+        return Reached {
             answer: EditAnswer::WrongId(at),
             count,
             used,
@@ -166,7 +166,7 @@ fn move_indexed(
     let mut event = records::record_at(slots, number - 1);
     let found = index::place_in(slots, order, count, start);
     if start != event.start && found.is_taken {
-        return Carried {
+        return Reached {
             answer: EditAnswer::StartTaken(at),
             count,
             used,
@@ -177,15 +177,15 @@ fn move_indexed(
     index::take_out_record(order, ids, count, place - 1, id);
     let next = index::place_of(slots, order, count - 1, start);
     index::add_record(slots, order, ids, count - 1, used, next, event);
-    Carried {
+    Reached {
         answer: EditAnswer::Done,
         count,
         used: used + 1,
     }
 }
 
-// One command on the index; an UNDO changes nothing.
-pub fn carry_out_indexed<'a>(
+// One command on an index with a slot that is free; an UNDO changes nothing.
+fn carry_out_indexed<'a>(
     list: &mut [u32],
     slots: &mut [u32],
     order: &mut [u16],
@@ -197,7 +197,7 @@ pub fn carry_out_indexed<'a>(
     event_limit: usize,
     at: usize,
     command: Command,
-) -> Carried
+) -> Reached
     requires { ⌜
         Kept (now list) (now slots) (now order) (now ids) count used × (used < slotLimit) × («event_limit» ≤ orderLimit) ⌝ }
     ensures { λ r. ⌜
@@ -224,10 +224,47 @@ pub fn carry_out_indexed<'a>(
         Command::Move(id, start) => {
             move_indexed(list, slots, order, ids, count, used, at, id, start)
         }
-        Command::Undo => Carried {
+        Command::Undo => Reached {
             answer: EditAnswer::Done,
             count,
             used,
         },
     }
+}
+
+// One command on an index, which is made anew where all slots are used.
+pub fn carry_out<'a>(
+    list: &mut [u32],
+    slots: &mut [u32],
+    order: &mut [u16],
+    ids: &mut [u16],
+    count: usize,
+    used: usize,
+    day: &'a [u8],
+    series: &'a [u8],
+    event_limit: usize,
+    at: usize,
+    command: Command,
+) -> Reached
+    requires { ⌜ Kept (now list) (now slots) (now order) (now ids) count used × («event_limit» ≤ orderLimit) ⌝ }
+    ensures { λ r. ⌜
+        Leaves
+        (runOne «event_limit» (now (day .entry)) (now (series .entry))
+        (indexedList (now (list .entry)) (now (slots .entry)) (now (order .entry)) count) (commandTold at command))
+        r (now (list .exit)) (now (slots .exit)) (now (order .exit)) (now (ids .exit)) ⌝ }
+{
+    let free = index::renew(list, slots, order, ids, count, used);
+    carry_out_indexed(
+        list,
+        slots,
+        order,
+        ids,
+        count,
+        free,
+        day,
+        series,
+        event_limit,
+        at,
+        command,
+    )
 }
