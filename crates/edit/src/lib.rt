@@ -5,6 +5,7 @@ use script_scan::scan;
 use script_scan::scan::Form;
 use script_scan::scan::Strikes;
 ghost use mathlib.Core.Path.{_≡_};
+ghost use Prim.Native.Nat.{_≤_};
 ghost use lib.Dec.{T};
 ghost use Rattle.eit.specs.Sizes.{broadcast, limitedTo};
 ghost use Rattle.eit.specs.Pools.{lentPools};
@@ -14,7 +15,10 @@ ghost use Rattle.script.specs.Form.{formOf};
 ghost use Rattle.script.specs.Edit.{edit};
 ghost use Rattle.script_scan.specs.Commands.{formTold};
 ghost use Rattle.edit_answer.specs.Told.{told};
+ghost use Rattle.slot_index.specs.Index.{orderLimit};
 
+mod index;
+mod indexed;
 mod live;
 mod machine;
 mod part;
@@ -34,7 +38,7 @@ fn edit_whole<'a>(
 ) -> Edited
     requires { ⌜
         T (sound (limitedTo «event_limit») (lentPools (now day) (now series)) (lentList (now list) count))
-        × (formTold (formOf (now script)) ≡ Form.Whole k) ⌝ }
+        × (formTold (formOf (now script)) ≡ Form.Whole k) × («event_limit» ≤ orderLimit) ⌝ }
     ensures { λ r. ⌜
         edit (limitedTo «event_limit») (lentPools (now (day .entry)) (now (series .entry))) (lentList (now (list .entry)) count)
         (now (script .entry))
@@ -49,7 +53,7 @@ fn edit_whole<'a>(
     part::run_part(list, count, day, series, event_limit, script, 0, k, 0)
 }
 
-// Edit with another limit of events than broadcast's.
+// Edit with another limit of events than broadcast's, at most as many as an index has room for.
 fn edit_within<'a>(
     list: &mut [u32],
     count: usize,
@@ -58,6 +62,7 @@ fn edit_within<'a>(
     script: &[u8],
     event_limit: usize,
 ) -> Edited
+    requires { ⌜ «event_limit» ≤ orderLimit ⌝ }
     ensures { λ r. ⌜
         edit (limitedTo «event_limit») (lentPools (now (day .entry)) (now (series .entry))) (lentList (now (list .entry)) count)
         (now (script .entry))

@@ -1,29 +1,38 @@
 // The unstruck edits of a part of a script are carried out in order (01, "Edit"); a refusal leaves the list as the earlier edits made it.
+use crate::index;
+use crate::indexed;
 use crate::live;
-use crate::machine;
 use codec::seen;
 use edit_answer::EditAnswer;
 use edit_answer::Edited;
 use script_scan::command;
 use script_scan::scan;
 ghost use mathlib.Core.Path.{_≡_};
-ghost use Prim.Native.Nat.{ℕ, _≤_};
+ghost use Prim.Native.Nat.{ℕ, _*_, _≤_};
 ghost use lib.Dec.{T};
 ghost use lib.ListN.{length, take};
 ghost use Rattle.eit.specs.Sizes.{limitedTo};
 ghost use Rattle.eit.specs.Pools.{lentPools};
-ghost use Rattle.eit.specs.Records.{lentList};
+ghost use Rattle.eit.specs.Records.{lentList, recordSize};
 ghost use Rattle.eit.specs.Sound.{sound};
 ghost use Rattle.script.specs.Struck.{passed};
 ghost use Rattle.script_scan.specs.Commands.{commandsAt};
 ghost use Rattle.edit.specs.Run.{runPart};
 ghost use Rattle.edit.specs.Live.{LivePlaces};
 ghost use Rattle.edit_answer.specs.Told.{told};
+ghost use Rattle.slot_index.specs.Index.{orderLimit, Index, indexedNumbers, indexedList};
 
 // Places that a set has room for, and so the most commands of a part that is not halved; and its words of 64.
 const PLACES: usize = 65_536;
 
 const PLACE_WORDS: usize = 1_024;
+
+// Numbers in the slots of an index, slots in its order, and ids.
+const SLOT_NUMBERS: usize = 24_576;
+
+const ORDER_SLOTS: usize = 2_048;
+
+const IDS: usize = 65_536;
 
 // How many UNDOs are pending before k commands from `at` on, with so many behind them: `kept` counts the edits that are not
 // yet struck, `over` the UNDOs that find nothing among them to strike; with no branch that the processor would have to guess.
@@ -49,7 +58,73 @@ fn pending_before(script: &[u8], at: usize, k: usize, undos: usize) -> usize
     over + (undos - kept)
 }
 
-// The live edits among k commands from `at` on, by their places, on a list that is sound; it ends where one is refused.
+// The live edits among k commands from `at` on, by their places, on an index that stands for a sound list; it ends where one is
+// refused.
+fn run_indexed<'a>(
+    list: &mut [u32],
+    slots: &mut [u32],
+    order: &mut [u16],
+    ids: &mut [u16],
+    count: usize,
+    day: &'a [u8],
+    series: &'a [u8],
+    event_limit: usize,
+    script: &[u8],
+    at: usize,
+    k: usize,
+    live_places: &[u64],
+) -> Edited
+    requires { ⌜
+        T (sound (limitedTo «event_limit») (lentPools (now day) (now series)) (indexedList (now list) (now slots) (now order) count))
+        × (k ≤ length (commandsAt at (now script))) × (k ≤ 65_536) × («event_limit» ≤ orderLimit)
+        × Index (now slots) (now order) (now ids) count count × (count * recordSize ≤ length (now list)) ⌝ }
+    ensures { λ r. ⌜
+        ((undos : ℕ) → LivePlaces (now («live_places» .entry)) undos (take k (commandsAt at (now (script .entry))))
+        → runPart «event_limit» (now (day .entry)) (now (series .entry))
+        (indexedList (now (list .entry)) (now (slots .entry)) (now (order .entry)) count) undos k at (now (script .entry))
+        ≡ told r (indexedNumbers (now (list .exit)) (now (slots .exit)) (now (order .exit)) (r .count)))
+        × (r .count * recordSize ≤ length (now (list .exit))) × (r .count ≤ length (now (order .exit))) ⌝ }
+{
+    let mut held = count;
+    let mut used = count;
+    let mut i = at;
+    let mut place = 0;
+    while place < k {
+        if seen::is_seen(live_places, place as u32) {
+            let command = command::command_at(script, i);
+            let r = indexed::carry_out(
+                list,
+                slots,
+                order,
+                ids,
+                held,
+                used,
+                day,
+                series,
+                event_limit,
+                i,
+                command,
+            );
+            let said = r.answer;
+            if edit_answer::number_of(said) != 0 {
+                return Edited {
+                    answer: said,
+                    count: r.count,
+                };
+            }
+            held = r.count;
+            used = r.used;
+        }
+        i += 1 + command::operand_bytes(script[i]);
+        place += 1;
+    }
+    Edited {
+        answer: EditAnswer::Done,
+        count: held,
+    }
+}
+
+// The same on a list that is sound: an index is made from it, and written back in the end.
 fn run_live<'a>(
     list: &mut [u32],
     count: usize,
@@ -63,33 +138,34 @@ fn run_live<'a>(
 ) -> Edited
     requires { ⌜
         T (sound (limitedTo «event_limit») (lentPools (now day) (now series)) (lentList (now list) count))
-        × (k ≤ length (commandsAt at (now script))) × (k ≤ 65_536) ⌝ }
+        × (k ≤ length (commandsAt at (now script))) × (k ≤ 65_536) × («event_limit» ≤ orderLimit) ⌝ }
     ensures { λ r. ⌜
         ((undos : ℕ) → LivePlaces (now («live_places» .entry)) undos (take k (commandsAt at (now (script .entry))))
         → runPart «event_limit» (now (day .entry)) (now (series .entry)) (lentList (now (list .entry)) count) undos k at
         (now (script .entry))
         ≡ told r (now (list .exit))) ⌝ }
 {
-    let mut held = count;
-    let mut i = at;
-    let mut place = 0;
-    while place < k {
-        if seen::is_seen(live_places, place as u32) {
-            let command = command::command_at(script, i);
-            let r = machine::carry_out(list, held, day, series, event_limit, i, command);
-            let said = r.answer;
-            if edit_answer::number_of(said) != 0 {
-                return r;
-            }
-            held = r.count;
-        }
-        i += 1 + command::operand_bytes(script[i]);
-        place += 1;
-    }
-    Edited {
-        answer: EditAnswer::Done,
-        count: held,
-    }
+    let mut slots = [0u32; SLOT_NUMBERS];
+    let mut order = [0u16; ORDER_SLOTS];
+    let mut ids = [0u16; IDS];
+    index::load(list, count, &mut slots, &mut order, &mut ids);
+    let r = run_indexed(
+        list,
+        &mut slots,
+        &mut order,
+        &mut ids,
+        count,
+        day,
+        series,
+        event_limit,
+        script,
+        at,
+        k,
+        live_places,
+    );
+    let n = r.count;
+    index::store(list, &slots, &order, n);
+    r
 }
 
 // The live edits of a part that is not halved: a pass forward that notes the UNDOs, one back that finds the live edits, and one forward
@@ -107,7 +183,7 @@ fn run_short<'a>(
 ) -> Edited
     requires { ⌜
         T (sound (limitedTo «event_limit») (lentPools (now day) (now series)) (lentList (now list) count))
-        × (k ≤ length (commandsAt at (now script))) × (k ≤ 65_536) × (undos ≤ 65_536) ⌝ }
+        × (k ≤ length (commandsAt at (now script))) × (k ≤ 65_536) × (undos ≤ 65_536) × («event_limit» ≤ orderLimit) ⌝ }
     ensures { λ r. ⌜
         runPart «event_limit» (now (day .entry)) (now (series .entry)) (lentList (now (list .entry)) count) undos k at
         (now (script .entry))
@@ -145,7 +221,7 @@ pub fn run_part<'a>(
 ) -> Edited
     requires { ⌜
         T (sound (limitedTo «event_limit») (lentPools (now day) (now series)) (lentList (now list) count))
-        × (k ≤ length (commandsAt at (now script))) ⌝ }
+        × (k ≤ length (commandsAt at (now script))) × («event_limit» ≤ orderLimit) ⌝ }
     ensures { λ r. ⌜
         runPart «event_limit» (now (day .entry)) (now (series .entry)) (lentList (now (list .entry)) count) undos k at
         (now (script .entry))

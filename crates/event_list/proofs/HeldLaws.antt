@@ -80,6 +80,14 @@ module _ (d : List ℕ) (count place : ℕ) (r : Record) where
         ]
       ]
 
+-- behind the last record nothing moves
+pub append-is : (d : List ℕ) (count : ℕ) (r : Record) → count * recordSize + recordSize ≤ length d
+    → inserted d count count r ≡ overwrite d (count * recordSize) (numbersOf r)
+append-is d count r room =
+    let none : (count - count) * recordSize ≡ 0 = omega arith in
+    insert-is d count count r (omega arith) (omega arith)
+    ∙ ap (λ (k : ℕ). overwrite d (count * recordSize) (numbersOf r ++ take k (drop (count * recordSize) d))) none
+
 -- ---- a record taken out
 
 module _ (d : List ℕ) (count i : ℕ) where
@@ -112,3 +120,11 @@ module _ (d : List ℕ) (count i : ℕ) where
         ]
         | inr short ↦ ap length (remove-short short)
       ]
+
+-- the last record taken out: nothing moves
+pub remove-last : (d : List ℕ) (count last : ℕ) → count * recordSize ≤ length d → count ≡ suc last
+    → removed d count last ≡ overwrite d (last * recordSize) (replicate recordSize 0)
+remove-last d count last held is =
+    let none : (count - suc last) * recordSize ≡ 0 = omega arith in
+    remove-is d count last (omega arith) (omega arith)
+    ∙ ap (λ (k : ℕ). overwrite d (last * recordSize) (take k (drop (suc last * recordSize) d) ++ replicate recordSize 0)) none

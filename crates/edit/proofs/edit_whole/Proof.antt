@@ -29,7 +29,7 @@ enum-told c = search needs
 run-part-requires : tie.Need-run-part-requires
 run-part-requires c κs =
     let entry = c .before .before .before .before .before .before .before .before in
-    (entry .pre .0, omega (arith, form-count-is (now (entry .args .script)) (entry .args .k) (entry .pre .1)))
+    (entry .pre .0, omega (arith, form-count-is (now (entry .args .script)) (entry .args .k) (entry .pre .1)), entry .pre .2)
 
 same-length : tie.Need-same-length
 same-length c = search needs

@@ -35,10 +35,12 @@ edit-whole-requires c κs =
     let forms = c .before .before .before .before in
     let sound = forms .before in
     let asks = sound .before in
-    let start = asks .before .before .before .before .before .before .args in (
+    let entry = asks .before .before .before .before .before .before in
+    let start = entry .args in (
       is-sound (start .event-limit) (now (start .day)) (now (start .series)) (lentList (now (start .list)) (start .count)) (now (start .script))
           (asks .is-sound .result) (asks .is-sound .ensures) (not-false (asks .is-sound .result) (sound .if1 .left)),
       sym (forms .form-of .ensures) ∙ c .before .before .k .given .1,
+      entry .pre,
     )
 
 same-length-2 : tie.Need-same-length-2

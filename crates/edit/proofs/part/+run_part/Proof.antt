@@ -56,7 +56,7 @@ run-part-run-short-requires : (t : ℕ) → run-part-lts.Need-run-short-requires
 run-part-run-short-requires t c κs =
     let short = c .before in
     let entry = short .before .before .before .before .before .before in
-    (entry .pre .1 .0, entry .pre .1 .1, short .if2 .taken, omega (arith, short .if2 .taken, short .before .if1 .left))
+    (entry .pre .1 .0, entry .pre .1 .1, short .if2 .taken, omega (arith, short .if2 .taken, short .before .if1 .left), entry .pre .1 .2)
 
 run-part-same-length : (t : ℕ) → run-part-lts.Need-same-length (claims t) (run-part-at t) run-part.Post
 run-part-same-length t c = search needs
@@ -92,7 +92,7 @@ run-part-run-part-requires t c κs =
     let many = c .before .before .before in
     let few = many .before in
     let entry = few .before .before .before .before .before in
-    (omega (arith, entry .pre .0, few .if1 .left, many .if2 .left), (entry .pre .1 .0, omega (arith, entry .pre .1 .1)))
+    (omega (arith, entry .pre .0, few .if1 .left, many .if2 .left), (entry .pre .1 .0, omega (arith, entry .pre .1 .1), entry .pre .1 .2))
 
 run-part-number-of-requires : (t : ℕ) → run-part-lts.Need-number-of-requires (claims t) (run-part-at t) run-part.Post
 run-part-number-of-requires t c κs = search needs
@@ -126,6 +126,7 @@ run-part-run-part-requires-2 t c κs =
         part-sound (start .event-limit) (now (start .day)) (now (start .series)) (lentList (now (start .list)) (start .count)) (now (start .script))
             (before .pending-before .result) (start .k / 2) (start .at) _ (half .run-part .ensures) (entry .pre .1 .0),
         behind t skips,
+        entry .pre .1 .2,
       ),
     )
 

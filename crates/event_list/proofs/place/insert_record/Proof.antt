@@ -17,7 +17,7 @@ abbrev Inv-loop : tie.InvT-loop
 Inv-loop list₀ count place event at k₀ list k =
     (place * recordSize ≤ k)
     × (k ≤ count * recordSize)
-    × (list ≡ movedUp list₀ k (count * recordSize))
+    × (list ≡ movedUp recordSize list₀ k (count * recordSize))
     × (length list ≡ length list₀)
 
 abbrev μ-loop : tie.MeasureT-loop
@@ -43,7 +43,7 @@ mul-k c = omega arith
 loop-holds : tie.Need-loop-holds Inv-loop μ-loop
 loop-holds c =
     let args = c .before .before .before .args in
-    (omega (arith, ltb-false), omega arith, up-none (args .list .now) (args .count * recordSize) (omega arith), refl)
+    (omega (arith, ltb-false), omega arith, up-none recordSize (args .list .now) (args .count * recordSize) (omega arith), refl)
 
 sub-k : tie.Need-sub-k Inv-loop μ-loop
 sub-k c = omega arith
@@ -72,7 +72,7 @@ loop-again c =
     let args = c .before .before .before .before .before .before .args in
     let end = args .count * recordSize in
     let moved =
-    up-step (args .list .now) end (omega arith) (loop .list) (loop .k) (loop .k - 1) (loop .inv .2) (omega arith) (omega arith) in
+    up-step recordSize (args .list .now) end (omega arith) (loop .list) (loop .k) (loop .k - 1) (loop .inv .2) (omega arith) (omega arith) in
     (omega arith, omega arith, moved, simp length-set (loop .inv .3))
 
 write-record-requires : tie.Need-write-record-requires Inv-loop μ-loop

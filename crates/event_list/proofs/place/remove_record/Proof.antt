@@ -17,7 +17,7 @@ abbrev Inv-loop : tie.InvT-loop
 Inv-loop list₀ count index last k₀ list k =
     (index * recordSize ≤ k)
     × (k + recordSize ≤ count * recordSize)
-    × (list ≡ movedDown list₀ (index * recordSize) k)
+    × (list ≡ movedDown recordSize list₀ (index * recordSize) k)
     × (length list ≡ length list₀)
 
 abbrev μ-loop : tie.MeasureT-loop
@@ -46,7 +46,7 @@ mul-k c = omega (arith, leb-false)
 loop-holds : tie.Need-loop-holds Inv-loop μ-loop
 loop-holds c =
     let args = c .before .before .before .args in
-    (omega arith, omega (arith, leb-false), down-none (args .list .now) (args .index * recordSize), refl)
+    (omega arith, omega (arith, leb-false), down-none recordSize (args .list .now) (args .index * recordSize), refl)
 
 add-list : tie.Need-add-list Inv-loop μ-loop
 add-list c = omega arith
@@ -74,7 +74,7 @@ loop-again c =
     let loop = c .before .before .loop in
     let args = c .before .before .before .before .before .before .args in
     let at = args .index * recordSize in
-    let moved = down-step (args .list .now) at (loop .list) (loop .k) (loop .inv .2) (omega arith) (omega arith) in
+    let moved = down-step recordSize (args .list .now) at (loop .list) (loop .k) (loop .inv .2) (omega arith) (omega arith) in
     (omega arith, omega arith, moved, simp length-set (loop .inv .3))
 
 write-record-requires : tie.Need-write-record-requires Inv-loop μ-loop

@@ -1,0 +1,210 @@
+-- `part::run_indexed` meets its contract. The loop's invariant: the command at `place` stands at i, the live edits before it are carried
+-- out, and the index stands for the list then. The measure is how many places are left. Assumes nothing.
+use mathlib.Core.Path.{_≡_, refl, sym, ap, _∙_}
+use mathlib.Core.Logic.{⊎-elim}
+use mathlib.Core.List.{List}
+use Prim.Native.Nat.{ℕ, _+_, _-_, _*_, _≤_, _<_}
+use native.Mathlib.Omega.{arith}
+use lib.ListN.{length, getD, take, length-take}
+use denote.Ref.{now}
+use borrow.Author.Needs.{needs}
+use Rattle.eit.specs.Records.{EventList}
+use Rattle.script.specs.Form.{Command, operandBytes}
+use Rattle.script_scan.specs.Commands.{commandTold, commandsAt}
+use Rattle.slot_index.specs.Index.{indexedList}
+use Rattle.edit.proofs.PlaceLaws.{Stands, stands-first, stands-here, stands-inside, stands-next, stands-split}
+use Rattle.edit.proofs.ForwardLaws.{carried-all, carried-ends}
+use Rattle.edit.proofs.IndexRunLaws.{Running, running-first, running-same, running-kept, running-few, running-past, running-on}
+use Rattle.edit.proofs.part.run_indexed.Statement.{statement}
+use Rattle.edit.proofs.part.run_indexed.Tie as tie
+
+abbrev Inv-loop : tie.InvT-loop
+Inv-loop list₀ slots₀ order₀ ids₀ count day series event-limit script at k live-places held₀ used₀ i₀ place₀ list slots order ids held used i place =
+    Stands script at k place i
+    × Running event-limit day series (indexedList list₀ slots₀ order₀ count) live-places (take k (commandsAt at script)) (length list₀)
+    list slots order ids held used place
+
+abbrev μ-loop : tie.MeasureT-loop
+μ-loop list₀ slots₀ order₀ ids₀ count day series event-limit script at k live-places held₀ used₀ i₀ place₀ list slots order ids held used i place = k - place
+
+loop-holds : tie.Need-loop-holds Inv-loop μ-loop
+loop-holds c =
+    let entry = c .before .before .before .before .before .before .before .before in
+    let start = entry .args in (
+      stands-first (now (start .script)) (start .at) (start .k) (entry .pre .1),
+      running-first (start .event-limit) (now (start .day)) (now (start .series)) (now (start .live-places)) _ _ _ _ _ _ _ (entry .pre .4)
+          (entry .pre .5) (entry .pre .0),
+    )
+
+cast-is-seen : tie.Need-cast-is-seen Inv-loop μ-loop
+cast-is-seen c = omega (arith, c .loop-test .taken, c .before .before .before .before .before .before .before .before .before .before .pre .2)
+
+is-seen-requires : tie.Need-is-seen-requires Inv-loop μ-loop
+is-seen-requires c κs = search needs
+
+command-at-requires : tie.Need-command-at-requires Inv-loop μ-loop
+command-at-requires c κs = search needs
+
+carry-out-requires : tie.Need-carry-out-requires Inv-loop μ-loop
+carry-out-requires c κs =
+    let head = c .before .before .before .before .before .before .before .before in
+    let entry = head .before .before .before .before .before .before .before .before .before in
+    let start = entry .args in (
+      running-kept (start .event-limit) (now (start .day)) (now (start .series)) _ (now (start .live-places)) _ (head .loop .inv .1),
+      entry .pre .3,
+    )
+
+number-of-requires : tie.Need-number-of-requires Inv-loop μ-loop
+number-of-requires c κs = search needs
+
+same-length : tie.Need-same-length Inv-loop μ-loop
+same-length c = c .before .before .before .before .before .before .before .before .before .list .given ∙ c .before .before .before .before .before .before .before .before .before .before .before .before .before .before .before .before .before .before .before .loop .inv .1 .same-size
+
+same-length-2 : tie.Need-same-length-2 Inv-loop μ-loop
+same-length-2 c = c .before .before .before .before .before .before .before .before .before .before .carry-out .ensures .index .slotsSize ∙ sym (c .before .before .before .before .before .before .before .before .before .before .before .before .before .before .before .before .before .before .before .before .before .before .before .before .before .before .before .before .pre .4 .slotsSize)
+
+same-length-3 : tie.Need-same-length-3 Inv-loop μ-loop
+same-length-3 c = c .before .before .before .before .before .before .before .before .before .before .carry-out .ensures .index .orderSize ∙ sym (c .before .before .before .before .before .before .before .before .before .before .before .before .before .before .before .before .before .before .before .before .before .before .before .before .before .before .before .before .pre .4 .orderSize)
+
+same-length-4 : tie.Need-same-length-4 Inv-loop μ-loop
+same-length-4 c = c .before .before .before .before .before .before .before .before .before .before .carry-out .ensures .index .idsSize ∙ sym (c .before .before .before .before .before .before .before .before .before .before .before .before .before .before .before .before .before .before .before .before .before .before .before .before .before .before .before .before .pre .4 .idsSize)
+
+-- the place lies among the commands
+among : (c : tie.In-loop Inv-loop μ-loop)
+    → let start = c .before .before .before .before .before .before .before .before .before .before .args in
+    c .before .loop .place < length (take (start .k) (commandsAt (start .at) (now (start .script))))
+among c =
+    let entry = c .before .before .before .before .before .before .before .before .before .before in
+    let start = entry .args in
+    omega (arith, c .loop-test .taken, entry .pre .1, length-take (start .k) (commandsAt (start .at) (now (start .script))))
+
+returns : tie.Need-returns Inv-loop μ-loop
+returns c =
+    let carries = c .before .before .before .before .before .before .before .before .before .before in
+    let reads = carries .before .before .before .before .before in
+    let asked = reads .before .before in
+    let turn = asked .before in
+    let head = turn .before in
+    let start = head .before .before .before .before .before .before .before .before .before .args in
+    let leaves = carries .carry-out .ensures in (
+      carried-ends (start .event-limit) (now (start .day)) (now (start .series)) _
+          (now (start .live-places)) (take (start .k) (commandsAt (start .at) (now (start .script)))) (head .loop .inv .1 .carried) (among turn)
+          (commandTold (head .loop .i) (reads .command-at .result))
+          (stands-split (head .loop .inv .0) (turn .loop-test .taken) _ (reads .command-at .ensures))
+          (sym (asked .is-seen .ensures) ∙ reads .before .if1 .taken) _ (leaves .says)
+          (λ z. c .if2 .taken (c .before .number-of .ensures ∙ z)),
+      leaves .fits,
+      omega (arith, leaves .index .few, leaves .index .orderSize),
+    )
+
+shared-slice-read-operand-bytes : tie.Need-shared-slice-read-operand-bytes Inv-loop μ-loop
+shared-slice-read-operand-bytes c = stands-here (c .before .before .before .before .loop .inv .0) (c .before .before .before .loop-test .taken)
+
+operand-bytes-requires : tie.Need-operand-bytes-requires Inv-loop μ-loop
+operand-bytes-requires c κs = search needs
+
+-- the offset of the next command
+module _ (c : tie.After-operand-bytes Inv-loop μ-loop) where
+  abbrev turn : tie.In-loop Inv-loop μ-loop
+  turn = c .before .before .before .before
+
+  abbrev bytes : List ℕ
+  bytes = now (c .before .before .before .before .before .before .before .before .before .before .before .before .before .before .args .script)
+
+  abbrev next : ℕ
+  next = turn .before .loop .i + (1 + c .operand-bytes .result)
+
+  there : next ≡ turn .before .loop .i + (1 + operandBytes (getD bytes (turn .before .loop .i) 0))
+  there = ap (λ (n : ℕ). turn .before .loop .i + (1 + n)) (c .operand-bytes .ensures)
+
+  inside : next ≤ length bytes
+  inside = stands-inside (turn .before .loop .inv .0) (turn .loop-test .taken) next there
+
+add-i : tie.Need-add-i Inv-loop μ-loop
+add-i c = omega (arith, inside c)
+
+add-i-2 : tie.Need-add-i-2 Inv-loop μ-loop
+add-i-2 c = omega (arith, inside c)
+
+add-place : tie.Need-add-place Inv-loop μ-loop
+add-place c = omega (arith, turn c .loop-test .taken)
+
+loop-less : tie.Need-loop-less Inv-loop μ-loop
+loop-less c = omega (arith, turn c .loop-test .taken)
+
+loop-again : tie.Need-loop-again Inv-loop μ-loop
+loop-again c =
+    let asked = c .before .before .before in
+    let head = turn c .before in
+    let start = head .before .before .before .before .before .before .before .before .before .args in
+    let stands = head .loop .inv .0 in
+    let some = turn c .loop-test .taken in
+    let first : EventList = indexedList (now (start .list)) (now (start .slots)) (now (start .order)) (start .count) in
+    let places : List ℕ = now (start .live-places) in
+    let cs : List Command = take (start .k) (commandsAt (start .at) (now (start .script))) in (
+      stands-next stands some (next c) (there c),
+      ⊎-elim
+          (λ w.
+          running-same (start .event-limit) (now (start .day)) (now (start .series)) first places cs (w .17) (w .18) (w .19) (w .20) (w .21) (w .22)
+          (running-on (start .event-limit) (now (start .day)) (now (start .series)) first places cs (head .loop .inv .1) (among (turn c))
+          (commandTold (head .loop .i) (w .1 .result)) (stands-split stands some _ (w .1 .ensures)) (sym (asked .is-seen .ensures) ∙ w .0 .taken)
+          _ _ _ _ _ (w .6 .ensures) (w .7 .given) (sym (w .15 .ensures) ∙ w .16 .left)))
+          (λ w.
+          running-same (start .event-limit) (now (start .day)) (now (start .series)) first places cs (w .1) (w .2) (w .3) (w .4) (w .5) (w .6)
+          (running-past (start .event-limit) (now (start .day)) (now (start .series)) first places cs (head .loop .inv .1) (among (turn c)) _
+          (stands-split stands some _ refl) (sym (asked .is-seen .ensures) ∙ w .0 .left)))
+          (c .before .before .if1 .came),
+    )
+
+same-length-5 : tie.Need-same-length-5 Inv-loop μ-loop
+same-length-5 c = c .before .loop .inv .1 .same-size
+
+same-length-6 : tie.Need-same-length-6 Inv-loop μ-loop
+same-length-6 c = c .before .loop .inv .1 .index .slotsSize ∙ sym (c .before .before .before .before .before .before .before .before .before .before .pre .4 .slotsSize)
+
+same-length-7 : tie.Need-same-length-7 Inv-loop μ-loop
+same-length-7 c = c .before .loop .inv .1 .index .orderSize ∙ sym (c .before .before .before .before .before .before .before .before .before .before .pre .4 .orderSize)
+
+same-length-8 : tie.Need-same-length-8 Inv-loop μ-loop
+same-length-8 c = c .before .loop .inv .1 .index .idsSize ∙ sym (c .before .before .before .before .before .before .before .before .before .before .pre .4 .idsSize)
+
+returns-2 : tie.Need-returns-2 Inv-loop μ-loop
+returns-2 c =
+    let loop = c .before .loop in
+    let start = c .before .before .before .before .before .before .before .before .before .before .args in (
+      carried-all (start .event-limit) (now (start .day)) (now (start .series)) _
+          (now (start .live-places)) (take (start .k) (commandsAt (start .at) (now (start .script)))) (loop .inv .1 .carried)
+          (omega (arith, c .loop-test .left, length-take (start .k) (commandsAt (start .at) (now (start .script))))),
+      loop .inv .1 .fits,
+      running-few (start .event-limit) (now (start .day)) (now (start .series)) _ (now (start .live-places)) _ (loop .inv .1),
+    )
+
+pub run-indexed-spec : {M : Type 1} → statement M
+run-indexed-spec =
+    tie.close
+    (tie.spec
+    Inv-loop
+    μ-loop
+    loop-holds
+    cast-is-seen
+    is-seen-requires
+    command-at-requires
+    carry-out-requires
+    number-of-requires
+    same-length
+    same-length-2
+    same-length-3
+    same-length-4
+    returns
+    shared-slice-read-operand-bytes
+    operand-bytes-requires
+    add-i
+    add-i-2
+    add-place
+    loop-less
+    loop-again
+    same-length-5
+    same-length-6
+    same-length-7
+    same-length-8
+    returns-2)
