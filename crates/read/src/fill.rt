@@ -1,6 +1,6 @@
 // The records of a file that was accepted (01, "Build, Read": marks never have 2, offsets are into the file).
 use eit::Record;
-use event_list::place;
+use event_list::records;
 use section_codec::event;
 use section_codec::event::EVENT_OVERHEAD;
 use section_codec::event::EventRead;
@@ -50,7 +50,7 @@ fn fill_events(
             offset: (from + at + EVENT_OVERHEAD) as u32,
             chain_length: shown.chain_length,
         };
-        place::insert_record(records, n, n, event);
+        records::write_record(records, n, event);
         n += 1;
         at += EVENT_OVERHEAD + shown.chain_length as usize;
     }

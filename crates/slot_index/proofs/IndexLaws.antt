@@ -21,7 +21,7 @@ use Rattle.eit.proofs.Find.{index-length}
 use Rattle.eit.proofs.Overwrite.{over-length, over-self}
 use Rattle.eit.proofs.Records.{records-written, numbers-back}
 use Rattle.eit.proofs.Test.{eq-or-not, eq-test, ne-test}
-use Rattle.event_list.proofs.ShiftLaws.{read-before}
+use Rattle.event_list.proofs.WriteLaws.{read-before}
 use Rattle.script.specs.Machine.{find, without, zeroRecord}
 use Rattle.script.proofs.Placing.{without-gone, find-id}
 use Rattle.script.proofs.Places.{find-at, without-index}

@@ -16,7 +16,7 @@ use Rattle.eit.specs.declared.Record.{Record}
 use Rattle.eit.proofs.Among.{among-found, differ-at}
 use Rattle.eit.proofs.Overwrite.{over-nothing}
 use Rattle.eit.proofs.Records.{records-length, record-at, numbers-length, numbers-append}
-use Rattle.event_list.proofs.ShiftLaws.{over-behind}
+use Rattle.event_list.proofs.WriteLaws.{over-behind}
 use Rattle.script.specs.Machine.{zeroRecord}
 use Rattle.slot_index.specs.Order.{withSlot}
 use Rattle.slot_index.specs.Index.{orderLimit, slotRecord, recordsAt, Index, Loadable, Loaded, indexedNumbers}
