@@ -1,21 +1,21 @@
 -- What an edit on an index leaves, by the tests that the code makes: the steps of the plain machine on the list that the index stands
 -- for. A refusal changes nothing; an edit that is done changes the index, and of the lent list only what lies behind the records. By
 -- the laws of `step` and of the index. Assumes nothing.
-use mathlib.Core.Path.{_≡_, refl, sym, ap, subst, _∙_}
+use mathlib.Core.Path.{_≡_, sym, ap, _∙_}
 use mathlib.Core.Logic.{⊎-elim}
-use mathlib.Core.Bool.{Bool, true, false, not}
+use mathlib.Core.Bool.{not}
 use mathlib.Core.List.{List, [], _∷_, _++_}
 use Prim.Native.Nat.{ℕ, suc, _+_, _-_, _*_, _≤_, _<_}
 use native.Mathlib.Omega.{arith}
 use lib.Dec.{T, not-T}
-use lib.ListN.{length, getD, take, set, replicate, length-append, List·getD-eq-default}
+use lib.ListN.{length, getD, take, replicate, length-append, List·getD-eq-default}
 use Rattle.eit.specs.Sizes.{limitedTo}
 use Rattle.eit.specs.Pools.{lentPools}
 use Rattle.eit.specs.Overwrite.{overwrite}
 use Rattle.eit.specs.Among.{isAmong}
 use Rattle.eit.specs.Find.{indexOf, placeOf}
 use Rattle.eit.specs.Records.{EventList, lentList, recordSize, recordsOf, numbersOfAll}
-use Rattle.eit.specs.Sound.{idsOf, startsOf}
+use Rattle.eit.specs.Sound.{idsOf}
 use Rattle.eit.specs.declared.Record.{Record}
 use Rattle.eit.proofs.Find.{index-length}
 use Rattle.eit.proofs.Overwrite.{over-again, over-length}

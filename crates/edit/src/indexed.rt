@@ -8,7 +8,6 @@ use eit::Time;
 use event_list::records;
 use event_list::records::RECORD_SIZE;
 use script_scan::command::Command;
-ghost use mathlib.Core.Path.{_≡_};
 ghost use Prim.Native.Nat.{ℕ, _≤_, _<_};
 ghost use mathlib.Core.List.{List};
 ghost use Rattle.script_scan.specs.Commands.{commandTold};

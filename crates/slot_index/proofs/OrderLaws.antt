@@ -6,7 +6,7 @@ use Prim.Native.Nat.{ℕ, suc, _+_, _-_, _≤_, _<_}
 use native.Mathlib.Omega.{arith}
 use borrow.Author.Tests.{lt-ltb, le-ltb, le-leb, lt-leb}
 use lib.ListN.{length, take, drop, set, length-append, length-take, length-drop}
-use lib.Seq.{take-all, take-add, take-take, take-at, drop-at, length-take-le}
+use lib.Seq.{take-add, take-take, take-at, drop-at, length-take-le}
 use Rattle.eit.specs.Overwrite.{overwrite}
 use Rattle.eit.proofs.Overwrite.{over-length, over-one}
 use Rattle.slot_index.proofs.ShiftLaws.{movedUp, movedDown, up-write}

@@ -1,7 +1,6 @@
 -- `withdraw_indexed` meets its contract: each return by its own law of IndexedLaws, from what the callees ensure. Assumes nothing.
-use mathlib.Core.Path.{_≡_}
 use mathlib.Core.List.{[]}
-use Prim.Native.Nat.{suc, _≤_, _<_}
+use Prim.Native.Nat.{_≤_, _<_}
 use native.Mathlib.Omega.{arith}
 use borrow.Author.Needs.{needs}
 use Rattle.edit.proofs.IndexedLaws.{kept-ordered, id-small, its-place, some-records, withdraw-absent, withdraw-present}
