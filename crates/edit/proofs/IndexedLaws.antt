@@ -1,21 +1,21 @@
 -- What an edit on an index leaves, by the tests that the code makes: the steps of the plain machine on the list that the index stands
 -- for. A refusal changes nothing; an edit that is done changes the index, and of the lent list only what lies behind the records. By
 -- the laws of `step` and of the index. Assumes nothing.
-use mathlib.Core.Path.{_≡_, refl, sym, ap, subst, _∙_}
+use mathlib.Core.Path.{_≡_, sym, ap, _∙_}
 use mathlib.Core.Logic.{⊎-elim}
-use mathlib.Core.Bool.{Bool, true, false, not}
+use mathlib.Core.Bool.{not}
 use mathlib.Core.List.{List, [], _∷_, _++_}
 use Prim.Native.Nat.{ℕ, suc, _+_, _-_, _*_, _≤_, _<_}
 use native.Mathlib.Omega.{arith}
 use lib.Dec.{T, not-T}
-use lib.ListN.{length, getD, take, set, replicate, length-append, List·getD-eq-default}
+use lib.ListN.{length, getD, take, replicate, length-append, List·getD-eq-default}
 use Rattle.eit.specs.Sizes.{limitedTo}
 use Rattle.eit.specs.Pools.{lentPools}
 use Rattle.eit.specs.Overwrite.{overwrite}
 use Rattle.eit.specs.Among.{isAmong}
 use Rattle.eit.specs.Find.{indexOf, placeOf}
 use Rattle.eit.specs.Records.{EventList, lentList, recordSize, recordsOf, numbersOfAll}
-use Rattle.eit.specs.Sound.{idsOf, startsOf}
+use Rattle.eit.specs.Sound.{idsOf}
 use Rattle.eit.specs.declared.Record.{Record}
 use Rattle.eit.proofs.Find.{index-length}
 use Rattle.eit.proofs.Overwrite.{over-again, over-length}
@@ -26,9 +26,8 @@ use Rattle.script.specs.Machine.{step, done, refused, find, without, zeroRecord
 use Rattle.script.specs.Edit as model
 use Rattle.script.proofs.Placing.{without-length}
 use Rattle.script.proofs.Steps.{withdraw-6, withdraw-passes}
-use Rattle.event_list.specs.Held.{removed}
-use Rattle.event_list.proofs.HeldLaws.{remove-last}
-use Rattle.event_list.proofs.ShiftLaws.{over-ahead}
+use Rattle.event_list.specs.Written.{recordWritten}
+use Rattle.event_list.proofs.WriteLaws.{over-ahead, written-is}
 use Rattle.edit_answer.specs.Told.{told}
 use Rattle.edit_answer.specs.declared.EditAnswer.{EditAnswer}
 use Rattle.edit_answer.specs.declared.EditAnswer.the-variants.{Done, WrongId}
@@ -158,7 +157,7 @@ module _ (limit : ℕ) (day series list slots order ids : List ℕ) (count used 
 
     pub withdraw-present : (some : number ≡ 0 → ⊥) (event : Record) → event ≡ slotRecord slots (number - 1)
         → (place : ℕ) → place ≡ placeOf (event .start) (recordsAt slots (take count order)) → (newList newOrder newIds : List ℕ)
-        → newList ≡ removed list count (count - 1) → TakenOut order ids count (place - 1) id newOrder newIds
+        → newList ≡ recordWritten list (count - 1) zeroRecord → TakenOut order ids count (place - 1) id newOrder newIds
         → Leaves (does (withdraw id)) (record { answer = Done; count = count - 1; used = used }) newList slots newOrder newIds
     withdraw-present some event is place at-place newList newOrder newIds cleared out =
         let a : T (isAmong id (idsOf (recordsOf stands))) = rw stands-records (present some) in
@@ -166,7 +165,7 @@ module _ (limit : ℕ) (day series list slots order ids : List ℕ) (count used 
         let zeros : List ℕ = replicate recordSize 0 in
         let size : suc (length left) ≡ count = without-length id rs (present some) ∙ records-length in
         let last : List ℕ = overwrite list ((count - 1) * recordSize) zeros in
-        let clears : newList ≡ last = cleared ∙ remove-last list count (count - 1) (k .fits) (omega arith) in
+        let clears : newList ≡ last = cleared ∙ written-is list (count - 1) zeroRecord (omega (arith, k .fits)) in
         let kept : length last ≡ length list = over-length list ((count - 1) * recordSize) zeros (omega (arith, k .fits)) in
         let numbers : overwrite (indexedNumbers list slots order count) 0 (numbersOfAll (left ++ (zeroRecord ∷ [])))
         ≡ indexedNumbers newList slots newOrder (count - 1) =

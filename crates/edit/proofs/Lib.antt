@@ -1,14 +1,10 @@
 -- Laws of this crate's definitions, and the proofs of its functions.
 -- how many UNDOs pass a part
 pub mod PendingLaws
--- one edit of the plain machine in the code's terms
-pub mod StepLaws
 -- the machine's run of one edit and of none, and where a refusal ends it
 pub mod RunLaws
 -- a part's live edits, one half after the other
 pub mod HalfLaws
--- what each edit returns and leaves, by the tests that the code makes
-pub mod CarryLaws
 -- Edit by the answers of the code's passes
 pub mod EditLaws
 -- what an edit on an index leaves, and WITHDRAW

@@ -1,9 +1,9 @@
 -- What MOVE on an index leaves, by the tests that the code makes: one law for each return. The record is taken out and put back with
 -- its new start. Assumes nothing.
-use mathlib.Core.Path.{_≡_, refl, sym, ap, _∙_}
-use mathlib.Core.Bool.{Bool, true, false, not}
+use mathlib.Core.Path.{_≡_, sym, ap, _∙_}
+use mathlib.Core.Bool.{true, false, not}
 use mathlib.Core.List.{List, _∷_, _++_}
-use Prim.Native.Nat.{ℕ, suc, _+_, _-_, _*_, _≤_, _<_}
+use Prim.Native.Nat.{ℕ, suc, _+_, _-_, _≤_, _<_}
 use native.Mathlib.Omega.{arith}
 use lib.Dec.{T, ltb}
 use lib.ListN.{length, getD, take, drop}
@@ -13,7 +13,7 @@ use Rattle.eit.specs.Pools.{lentPools}
 use Rattle.eit.specs.Overwrite.{overwrite}
 use Rattle.eit.specs.Among.{isAmong}
 use Rattle.eit.specs.Find.{placeOf}
-use Rattle.eit.specs.Records.{EventList, lentList, recordSize, recordsOf, numbersOfAll}
+use Rattle.eit.specs.Records.{EventList, lentList, recordsOf, numbersOfAll}
 use Rattle.eit.specs.Sound.{idsOf, startsOf}
 use Rattle.eit.specs.declared.Record.{Record}
 use Rattle.eit.proofs.Find.{place-length}
@@ -30,7 +30,6 @@ use Rattle.slot_index.proofs.RiseLaws.{without-starts, without-rises, own-start
 use Rattle.slot_index.proofs.SlotLaws.{below-more}
 use Rattle.edit.specs.Indexed.{placeIn, Added, TakenOut, Kept, Leaves}
 use Rattle.edit.specs.declared.index.Place.{Place}
-use Rattle.edit.specs.declared.indexed.Reached.{Reached}
 use Rattle.edit.proofs.IndexedLaws.{does, stands-records, records-length, refuses, stays, passes, written-over, absent, id-small, present}
 use Rattle.edit.proofs.IndexedLaws.{its-record, out-records, out-index}
 use Rattle.edit.proofs.PutLaws.{holds, fails}

@@ -1,12 +1,12 @@
 -- What PUT on an index leaves, by the tests that the code makes: one law for each return. Assumes nothing.
-use mathlib.Core.Path.{_≡_, refl, sym, ap, _∙_}
+use mathlib.Core.Path.{_≡_, sym, ap, _∙_}
 use mathlib.Core.Bool.{Bool, true, false, not}
 use mathlib.Core.List.{List, _∷_, _++_}
-use Prim.Native.Nat.{ℕ, _+_, _*_, _/_, _≤_, _<_, min}
+use Prim.Native.Nat.{ℕ, _+_, _/_, _≤_, _<_, min}
 use native.Mathlib.Omega.{arith}
 use borrow.Author.Tests.{le-ltb}
 use lib.Dec.{T, lt→ltb}
-use lib.ListN.{length, getD, take, drop, set}
+use lib.ListN.{length, getD, take, drop}
 use Rattle.eit.specs.Sizes.{limitedTo}
 use Rattle.eit.specs.Pools.{lentPools}
 use Rattle.eit.specs.Overwrite.{overwrite}
@@ -31,7 +31,6 @@ use Rattle.slot_index.specs.Index.{slotLimit, orderLimit, idLimit, recordsAt, i
 use Rattle.slot_index.proofs.IndexLaws.{add-records, add-index}
 use Rattle.edit.specs.Indexed.{placeIn, Added, Kept, Leaves}
 use Rattle.edit.specs.declared.index.Place.{Place}
-use Rattle.edit.specs.declared.indexed.Reached.{Reached}
 use Rattle.edit.proofs.IndexedLaws.{does, stands-records, records-length, refuses, stays, passes, written-over, absent, present}
 
 -- a test that came out true, and one that came out false

@@ -1,7 +1,7 @@
 -- What an index holds, and what it is made from: the records of a sound list are what an edit asks for, an index that stands for a
 -- list is made anew from its numbers, and stands for it again. Assumes nothing.
-use mathlib.Core.Path.{_≡_, refl, sym, ap, subst, _∙_}
-use mathlib.Core.List.{List, [], _∷_}
+use mathlib.Core.Path.{_≡_, sym, ap, subst, _∙_}
+use mathlib.Core.List.{List}
 use Prim.Native.Nat.{ℕ, _*_, _≤_, _<_}
 use native.Mathlib.Omega.{arith}
 use lib.Dec.{T}
@@ -10,7 +10,7 @@ use lib.Seq.{take-all}
 use Rattle.eit.specs.Sizes.{limitedTo}
 use Rattle.eit.specs.Pools.{Pools, lentPools}
 use Rattle.eit.specs.Among.{isAmong, allDiffer}
-use Rattle.eit.specs.Records.{EventList, lentList, recordSize, recordsOf, recordsIn, numbersOfAll}
+use Rattle.eit.specs.Records.{lentList, recordSize, recordsOf, recordsIn, numbersOfAll}
 use Rattle.eit.specs.Sound.{idsOf, allValid, sound}
 use Rattle.eit.specs.declared.Record.{Record}
 use Rattle.eit.proofs.Among.{among-at, among-found}

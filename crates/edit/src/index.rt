@@ -1,13 +1,11 @@
 // An index of the list's records (what it is: slot_index, specs/Index.antt): looked up, a record put in and taken out, made from the
 // list and written back to it.
 use eit::Record;
-use event_list::place;
 use event_list::records;
 use event_list::records::RECORD_SIZE;
 ghost use mathlib.Core.Path.{_≡_};
 ghost use Prim.Native.Nat.{_+_, _*_, _/_, _≤_, _<_};
-ghost use mathlib.Core.List.{List};
-ghost use lib.ListN.{length, getD, take, set, replicate};
+ghost use lib.ListN.{length, getD, take, replicate};
 ghost use Rattle.eit.specs.Find.{placeOf};
 ghost use Rattle.eit.specs.Records.{recordSize};
 ghost use Rattle.slot_index.specs.Index.{slotRecord, recordsAt, Ordered, Index, Loadable, Loaded, indexedNumbers, indexedList};
@@ -94,7 +92,7 @@ pub fn add_record(
         Added (now (slots .entry)) (now (order .entry)) (now (ids .entry)) count used place event
         (now (slots .exit)) (now (order .exit)) (now (ids .exit)) ⌝ }
 {
-    place::insert_record(slots, used, used, event);
+    records::write_record(slots, used, event);
     slot_index::insert_slot(order, count, place, used as u16);
     let i = event.id as usize;
     ids[i] = (used + 1) as u16;
@@ -134,7 +132,7 @@ pub fn store(list: &mut [u32], slots: &[u32], order: &[u16], count: usize)
     let mut i = 0;
     while i < count {
         let event = records::record_at(slots, wide(order[i]));
-        place::insert_record(list, i, i, event);
+        records::write_record(list, i, event);
         i += 1;
     }
 }

@@ -5,17 +5,25 @@ use codec::pools;
 use edit_answer::EditAnswer;
 use eit::Record;
 use eit::Time;
-use event_list::place;
 use event_list::records;
 use event_list::records::RECORD_SIZE;
 use script_scan::command::Command;
-ghost use mathlib.Core.Path.{_≡_};
 ghost use Prim.Native.Nat.{ℕ, _≤_, _<_};
 ghost use mathlib.Core.List.{List};
 ghost use Rattle.script_scan.specs.Commands.{commandTold};
 ghost use Rattle.slot_index.specs.Index.{slotLimit, orderLimit, indexedList};
 ghost use Rattle.edit.specs.Run.{runOne};
 ghost use Rattle.edit.specs.Indexed.{Kept, Leaves};
+
+// What WITHDRAW sets the freed record to.
+const ZEROS: Record = Record {
+    id: 0,
+    start: 0,
+    duration: 0,
+    marks: 0,
+    offset: 0,
+    chain_length: 0,
+};
 
 // The answer, the count then held, and the slots used so far.
 pub struct Reached {
@@ -120,7 +128,7 @@ fn withdraw_indexed(
     let event = records::record_at(slots, number - 1);
     let place = index::place_of(slots, order, count, event.start);
     index::take_out_record(order, ids, count, place - 1, id);
-    place::remove_record(list, count, count - 1);
+    records::write_record(list, count - 1, ZEROS);
     Reached {
         answer: EditAnswer::Done,
         count: count - 1,

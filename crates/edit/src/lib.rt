@@ -20,7 +20,6 @@ ghost use Rattle.slot_index.specs.Index.{orderLimit};
 mod index;
 mod indexed;
 mod live;
-mod machine;
 mod part;
 
 // Events in a list at most (01, "Event record and sound list").

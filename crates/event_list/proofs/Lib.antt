@@ -1,8 +1,4 @@
--- the records that some numbers hold, and one put in or taken out
-pub mod HeldLaws
--- records found by id and by start
-pub mod FindLaws
--- numbers that move by the length of a record
-pub mod ShiftLaws
+-- writes into a buffer, and a record written in its place
+pub mod WriteLaws
 -- the records from a place on
 pub mod RestLaws

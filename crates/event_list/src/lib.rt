@@ -1,4 +1,2 @@
-// The event list in a lent buffer: its records, found, put in and taken out in place.
-pub mod find;
-pub mod place;
+// The event list in a lent buffer: its records, read and written.
 pub mod records;

@@ -1,9 +1,10 @@
-// A record out of the lent buffer (01, "Event record and sound list").
+// A record out of the lent buffer and into it (01, "Event record and sound list").
 use eit::Record;
 ghost use mathlib.Core.Path.{_≡_};
 ghost use Prim.Native.Nat.{_*_};
 ghost use lib.ListN.{getD, drop};
 ghost use Rattle.eit.specs.Records.{recordSize, frontRecord};
+ghost use Rattle.event_list.specs.Written.{recordWritten};
 
 // Numbers of a record (01: a record is six u32 numbers).
 pub const RECORD_SIZE: usize = 6;
@@ -31,4 +32,20 @@ pub fn record_at(list: &[u32], i: usize) -> Record
         offset: number_at(rest, 4),
         chain_length: number_at(rest, 5),
     }
+}
+
+// Writes record i. Where there is no room for it, all stays.
+pub fn write_record(list: &mut [u32], i: usize, event: Record)
+    ensures { λ _. ⌜ now (list .exit) ≡ recordWritten (now (list .entry)) i event ⌝ }
+{
+    if list.len() / RECORD_SIZE <= i {
+        return;
+    }
+    let at = i * RECORD_SIZE;
+    list[at] = event.id;
+    list[at + 1] = event.start;
+    list[at + 2] = event.duration;
+    list[at + 3] = event.marks;
+    list[at + 4] = event.offset;
+    list[at + 5] = event.chain_length;
 }

@@ -3,10 +3,10 @@
 use mathlib.Core.Path.{_≡_, refl, sym, ap, ap₂, subst, _∙_}
 use mathlib.Core.Bool.{false}
 use mathlib.Core.List.{List, [], _∷_, _++_, map}
-use Prim.Native.Nat.{ℕ, suc, _+_, _-_, _*_, _/_, _≤_, _<_}
+use Prim.Native.Nat.{ℕ, suc, _+_, _*_, _≤_, _<_}
 use native.Mathlib.Omega.{arith}
 use lib.Dec.{T}
-use lib.ListN.{length, take, drop, length-drop, drop-of-length-le}
+use lib.ListN.{length, drop, length-drop, drop-of-length-le}
 use lib.Seq.{drop-drop}
 use Rattle.eit.specs.Overwrite.{overwrite}
 use Rattle.eit.specs.Events.{Event}
@@ -25,8 +25,8 @@ use Rattle.section_codec.specs.EventRead.{frontEvent, eventRead}
 use Rattle.section_codec.specs.declared.event.EventRead.the-variants.{Whole, Broken}
 use Rattle.section_codec.proofs.EventReadLaws.{event-whole, broken-only}
 use Rattle.event_checks.proofs.EventWalkLaws.{whole-record, whole-inside, whole-next}
-use Rattle.event_list.specs.Held.{inserted}
-use Rattle.event_list.proofs.HeldLaws.{insert-is}
+use Rattle.event_list.specs.Written.{recordWritten}
+use Rattle.event_list.proofs.WriteLaws.{written-is}
 use Rattle.read.specs.Fillable.{AreEvents}
 
 -- the records of pieces that stand one behind the other
@@ -36,15 +36,6 @@ pieceRecords base from pieces = recordsAt from (map (eventIn base) pieces)
 pub piece-count : (base from : ℕ) (pieces : List (List ℕ)) → length (pieceRecords base from pieces) ≡ length pieces
 piece-count base from [] = refl
 piece-count base from (bs ∷ rest) = ap suc (piece-count base (from + eventSize (eventIn base bs)) rest)
-
--- a record put behind n records is written there
-pub put-behind : (d : List ℕ) (n : ℕ) (r : Record) → n * recordSize + recordSize ≤ length d
-    → inserted d n n r ≡ overwrite d (n * recordSize) (numbersOf r)
-put-behind d n r room =
-    let none : (n - n) * recordSize ≡ 0 = omega arith in
-    let last : n < length d / recordSize = omega arith in
-    insert-is d n n r last (omega arith)
-    ∙ ap (λ (k : ℕ). overwrite d (n * recordSize) (numbersOf r ++ take k (drop (n * recordSize) d))) none
 
 -- before a turn: the event at `at` of the loop is the next one, and its record the record n
 pub record FillSoFar (base from place : ℕ) (events d out : List ℕ) (n at : ℕ) : Type 0 where
@@ -141,7 +132,7 @@ module _ {base from place : ℕ} {events d out : List ℕ} {n at : ℕ} (so-far 
 
       pub fill-more : {offset : ℕ} {out′ : List ℕ} → offset ≡ from + at + eventOverhead
           → out′
-          ≡ inserted out n n
+          ≡ recordWritten out n
           (record {
             id = r .id;
             start = r .start;
@@ -158,7 +149,7 @@ module _ {base from place : ℕ} {events d out : List ℕ} {n at : ℕ} (so-far 
           record {
             left =
                 left-more (so-far .left) (numbersOf (recordAt (from + at) event)) (numbersOfAll behind) parts
-                (put ∙ ap (inserted out n n) (shown place-is) ∙ put-behind out n (recordAt (from + at) event) fill-room)
+                (put ∙ ap (recordWritten out n) (shown place-is) ∙ written-is out n (recordAt (from + at) event) fill-room)
                 (omega arith);
             are =
                 record {

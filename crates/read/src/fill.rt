@@ -2,7 +2,7 @@
 use eit::Record;
 use eit::sizes::EVENT_OVERHEAD;
 use eit::sizes::HEADER_SIZE;
-use event_list::place;
+use event_list::records;
 use section_codec::event;
 use section_codec::event::EventRead;
 ghost use mathlib.Core.Path.{_≡_};
@@ -50,7 +50,7 @@ fn fill_events(
             offset: (from + at + EVENT_OVERHEAD) as u32,
             chain_length: shown.chain_length,
         };
-        place::insert_record(records, n, n, event);
+        records::write_record(records, n, event);
         n += 1;
         at += EVENT_OVERHEAD + shown.chain_length as usize;
     }

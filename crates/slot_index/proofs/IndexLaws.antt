@@ -3,35 +3,32 @@
 use mathlib.Core.Path.{_≡_, refl, sym, ap, ap₂, _∙_}
 use mathlib.Core.Logic.{⊎-elim}
 use mathlib.Core.Bool.{not}
-use mathlib.Core.List.{List, [], _∷_, _++_, append-assoc}
-use Prim.Native.Nat.{ℕ, zero, suc, _+_, _-_, _*_, _/_, _≤_, _<_}
+use mathlib.Core.List.{List, _∷_, _++_, append-assoc}
+use Prim.Native.Nat.{ℕ, suc, _+_, _-_, _*_, _≤_, _<_}
 use native.Mathlib.Omega.{arith}
 use lib.Dec.{T}
-use lib.ListN.{length, getD, take, drop, set, replicate, length-set, length-map, getD-replicate, length-replicate}
+use lib.ListN.{length, getD, take, drop, set, length-set, length-map}
 use lib.Seq.{getD-drop, getD-set-same, getD-set-other, drop-at, length-take-le}
 use Rattle.eit.specs.Overwrite.{overwrite}
-use Rattle.eit.specs.Pools.{Pools}
 use Rattle.eit.specs.Among.{isAmong, allDiffer}
-use Rattle.eit.specs.Events.{eventsIn, rising}
 use Rattle.eit.specs.Find.{indexOf}
-use Rattle.eit.specs.Records.{lentList, recordSize, recordsOf, recordsIn, frontRecord, numbersOf, numbersOfAll}
-use Rattle.eit.specs.Sound.{idsOf, startsOf}
+use Rattle.eit.specs.Records.{lentList, recordSize, recordsOf, frontRecord, numbersOf, numbersOfAll}
+use Rattle.eit.specs.Sound.{idsOf}
 use Rattle.eit.specs.declared.Record.{Record}
 use Rattle.eit.proofs.Find.{index-length}
 use Rattle.eit.proofs.Overwrite.{over-length, over-self}
 use Rattle.eit.proofs.Records.{records-written, numbers-back}
 use Rattle.eit.proofs.Test.{eq-or-not, eq-test, ne-test}
-use Rattle.event_list.proofs.ShiftLaws.{read-before}
+use Rattle.event_list.proofs.WriteLaws.{read-before}
 use Rattle.script.specs.Machine.{find, without, zeroRecord}
 use Rattle.script.proofs.Placing.{without-gone, find-id}
 use Rattle.script.proofs.Places.{find-at, without-index}
-use Rattle.slot_index.specs.Index.{slotLimit, orderLimit, idLimit, slotRecord, recordsAt, slotOf, AllBelow, Ordered, Index, indexedNumbers, indexedList}
+use Rattle.slot_index.specs.Index.{slotLimit, orderLimit, idLimit, slotRecord, recordsAt, slotOf, Index, indexedNumbers, indexedList}
 use Rattle.slot_index.specs.Order.{withSlot, withoutSlot}
 use Rattle.slot_index.proofs.OrderLaws.{with-length, with-around, without-length, without-around}
 use Rattle.slot_index.proofs.SlotLaws.{below-more, below-at, below-insert, below-leave, map-insert, map-leave, map-at}
 use Rattle.slot_index.proofs.SlotLaws.{slot-insert-other, slot-insert-same, slot-leave-other, slot-none, slot-some, slot-absent, slot-present}
 use Rattle.slot_index.proofs.SlotLaws.{records-same, slot-same}
-use Rattle.slot_index.proofs.RiseLaws.{rising-starts}
 
 -- ---- a record written into a slot
 
@@ -86,27 +83,6 @@ module _ (slots order ids : List ℕ) (count used : ℕ) (x : Index slots order 
   index-records list =
       ap (λ (n : ℕ). recordsOf (lentList (indexedNumbers list slots order count) n)) (sym held-length)
       ∙ records-written (recordsAt slots (take count order)) list
-
-  pub index-ordered : (pools : Pools) → T (rising (eventsIn pools (recordsAt slots (take count order)))) → Ordered slots order count
-  index-ordered pools t =
-      record {
-        few = omega (arith, x .few, x .orderSize);
-        within = below-more used (length slots / recordSize) (take count order) (omega (arith, x .slotsSize, x .fewSlots)) (x .below);
-        rises = rising-starts pools (recordsAt slots (take count order)) t;
-      }
-
-  -- slots may stay free
-  pub index-more : (more : ℕ) → used ≤ more → more ≤ slotLimit → Index slots order ids count more
-  index-more more h few =
-      record {
-        slotsSize = x .slotsSize;
-        orderSize = x .orderSize;
-        idsSize = x .idsSize;
-        few = x .few;
-        fewSlots = few;
-        below = below-more used more (take count order) h (x .below);
-        found = x .found;
-      }
 
   -- ---- the slot of an id
 

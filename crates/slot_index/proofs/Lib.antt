@@ -1,4 +1,6 @@
 -- Laws of this crate's definitions, and the proofs of its functions.
+-- slots that move by one place
+pub mod ShiftLaws
 -- the order with a slot put in or taken out
 pub mod OrderLaws
 -- the slots of records, and the slot of an id

@@ -1,8 +1,8 @@
 -- An index made from a list record by record, and written back to it record by record: each step puts one record more at the end.
 -- Assumes nothing.
-use mathlib.Core.Path.{_≡_, refl, sym, ap, ap₂, _∙_}
+use mathlib.Core.Path.{_≡_, refl, sym, ap, _∙_}
 use mathlib.Core.Bool.{not}
-use mathlib.Core.List.{List, [], _∷_, _++_, append-nil}
+use mathlib.Core.List.{List, [], _∷_, _++_}
 use Prim.Native.Nat.{ℕ, zero, suc, _+_, _*_, _≤_, _<_}
 use native.Mathlib.Omega.{arith}
 use lib.Dec.{T, not-T}
@@ -15,8 +15,8 @@ use Rattle.eit.specs.Sound.{idsOf}
 use Rattle.eit.specs.declared.Record.{Record}
 use Rattle.eit.proofs.Among.{among-found, differ-at}
 use Rattle.eit.proofs.Overwrite.{over-nothing}
-use Rattle.eit.proofs.Records.{records-length, record-at, numbers-length, numbers-append}
-use Rattle.event_list.proofs.ShiftLaws.{over-behind}
+use Rattle.eit.proofs.Records.{records-length, record-at, numbers-length}
+use Rattle.event_list.proofs.WriteLaws.{over-behind}
 use Rattle.script.specs.Machine.{zeroRecord}
 use Rattle.slot_index.specs.Order.{withSlot}
 use Rattle.slot_index.specs.Index.{orderLimit, slotRecord, recordsAt, Index, Loadable, Loaded, indexedNumbers}

@@ -6,10 +6,10 @@ use Prim.Native.Nat.{ℕ, suc, _+_, _-_, _≤_, _<_}
 use native.Mathlib.Omega.{arith}
 use borrow.Author.Tests.{lt-ltb, le-ltb, le-leb, lt-leb}
 use lib.ListN.{length, take, drop, set, length-append, length-take, length-drop}
-use lib.Seq.{take-all, take-add, take-take, take-at, drop-at, length-take-le}
+use lib.Seq.{take-add, take-take, take-at, drop-at, length-take-le}
 use Rattle.eit.specs.Overwrite.{overwrite}
 use Rattle.eit.proofs.Overwrite.{over-length, over-one}
-use Rattle.event_list.proofs.ShiftLaws.{movedUp, movedDown, up-write}
+use Rattle.slot_index.proofs.ShiftLaws.{movedUp, movedDown, up-write}
 use Rattle.slot_index.specs.Order.{withSlot, withoutSlot}
 
 -- the rest of a front is the front of the rest
@@ -46,12 +46,12 @@ module _ (order : List ℕ) (count place slot : ℕ) where
     with-length = ap length with-is ∙ over-length order place (slot ∷ moved) (omega (arith, moved-length))
 
     -- what the loop leaves, with the slot written
-    pub with-ends : (moving : List ℕ) (k : ℕ) → k ≡ place → moving ≡ movedUp 1 order k count → length moving ≡ length order
+    pub with-ends : (moving : List ℕ) (k : ℕ) → k ≡ place → moving ≡ movedUp order k count → length moving ≡ length order
         → set moving place slot ≡ withSlot order count place slot
     with-ends moving k ends is size =
         over-one moving place slot (omega arith)
-        ∙ ap (λ (l : List ℕ). overwrite l place (slot ∷ [])) (is ∙ ap (λ (n : ℕ). movedUp 1 order n count) ends)
-        ∙ up-write 1 order count (omega arith) place (slot ∷ []) there refl
+        ∙ ap (λ (l : List ℕ). overwrite l place (slot ∷ [])) (is ∙ ap (λ (n : ℕ). movedUp order n count) ends)
+        ∙ up-write order count (omega arith) place (slot ∷ []) there refl
         ∙ sym with-is
 
     -- the slots around the place
@@ -91,7 +91,7 @@ module _ (order : List ℕ) (count place : ℕ) where
     without-length = ap length without-is ∙ over-length order place later (omega (arith, later-length))
 
     -- what the loop leaves
-    pub without-ends : (moving : List ℕ) (k : ℕ) → k ≡ count - 1 → moving ≡ movedDown 1 order place k
+    pub without-ends : (moving : List ℕ) (k : ℕ) → k ≡ count - 1 → moving ≡ movedDown order place k
         → moving ≡ withoutSlot order count place
     without-ends moving k ends is =
         let size : k - place ≡ count - suc place = omega arith in

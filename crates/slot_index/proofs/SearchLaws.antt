@@ -3,7 +3,7 @@
 use mathlib.Core.Path.{_≡_, refl, sym, ap, _∙_}
 use mathlib.Core.Bool.{Bool, true, false}
 use mathlib.Core.List.{List}
-use Prim.Native.Nat.{ℕ, suc, _+_, _-_, _/_, _≤_, _<_}
+use Prim.Native.Nat.{ℕ, _+_, _-_, _/_, _≤_, _<_}
 use native.Mathlib.Omega.{arith}
 use borrow.Author.Tests.{eqb-true, eqb-false}
 use lib.Dec.{eqb}
@@ -17,7 +17,7 @@ use Rattle.eit.specs.declared.Record.{Record}
 use Rattle.eit.proofs.Find.{place-length}
 use Rattle.eit.proofs.Test.{true-is, false-is}
 use Rattle.slot_index.specs.Index.{slotRecord, recordsAt, Ordered}
-use Rattle.slot_index.proofs.RiseLaws.{starts-length, place-is, rises-to, start-has, start-none}
+use Rattle.slot_index.proofs.RiseLaws.{place-is, rises-to, start-has, start-none}
 use Rattle.slot_index.proofs.SlotLaws.{below-at, start-at}
 
 module _ (slots order : List ℕ) (count : ℕ) (o : Ordered slots order count) where

@@ -1,4 +1,3 @@
-use native.Mathlib.Omega.{arith}
 use borrow.Author.Needs.{needs}
 use Rattle.edit.proofs.edit.Statement.{statement}
 use Rattle.edit.proofs.edit.Tie as tie

@@ -1,19 +1,19 @@
 -- `insert_slot` meets its contract: at each turn the slots from k on have moved up, and the slot is written in front of them.
 -- Assumes nothing.
-use mathlib.Core.Path.{_≡_, refl, sym, ap, _∙_}
+use mathlib.Core.Path.{_≡_, refl, sym}
 use mathlib.Core.Logic.{inl, inr}
 use Prim.Native.Nat.{_-_, _≤_}
 use native.Mathlib.Omega.{arith}
 use borrow.Author.Tests.{ltb-true, ltb-false}
 use lib.ListN.{length, length-set}
-use Rattle.event_list.proofs.ShiftLaws.{movedUp, up-none, up-step}
+use Rattle.slot_index.proofs.ShiftLaws.{movedUp, up-none, up-step}
 use Rattle.slot_index.proofs.OrderLaws.{with-full, with-beyond, with-ends}
 use Rattle.slot_index.proofs.insert_slot.Statement.{statement}
 use Rattle.slot_index.proofs.insert_slot.Tie as tie
 
 abbrev Inv-loop : tie.InvT-loop
 Inv-loop order₀ count place slot k₀ order k =
-    (place ≤ k) × (k ≤ count) × (order ≡ movedUp 1 order₀ k count) × (length order ≡ length order₀)
+    (place ≤ k) × (k ≤ count) × (order ≡ movedUp order₀ k count) × (length order ≡ length order₀)
 
 abbrev μ-loop : tie.MeasureT-loop
 μ-loop order₀ count place slot k₀ order k = k
@@ -32,7 +32,7 @@ returns c =
 loop-holds : tie.Need-loop-holds Inv-loop μ-loop
 loop-holds c =
     let args = c .before .before .args in
-    (omega (arith, ltb-false), omega arith, up-none 1 (args .order .now) (args .count) (omega arith), refl)
+    (omega (arith, ltb-false), omega arith, up-none (args .order .now) (args .count) (omega arith), refl)
 
 sub-k : tie.Need-sub-k Inv-loop μ-loop
 sub-k c = omega arith
@@ -59,7 +59,7 @@ loop-again : tie.Need-loop-again Inv-loop μ-loop
 loop-again c =
     let loop = c .before .before .loop in
     let args = c .before .before .before .before .before .args in
-    let moved = up-step 1 (args .order .now) (args .count) (omega arith) (loop .order) (loop .k) (loop .k - 1) (loop .inv .2) (omega arith) (omega arith) in
+    let moved = up-step (args .order .now) (args .count) (omega arith) (loop .order) (loop .k) (loop .k - 1) (loop .inv .2) (omega arith) (omega arith) in
     (omega arith, omega arith, moved, simp length-set (loop .inv .3))
 
 mul-order-3 : tie.Need-mul-order-3 Inv-loop μ-loop

@@ -1,18 +1,18 @@
 -- `remove_slot` meets its contract: at each turn the slots behind the one taken out have moved down as far as k. Assumes nothing.
-use mathlib.Core.Path.{_≡_, refl, sym, ap, _∙_}
+use mathlib.Core.Path.{_≡_, refl, sym}
 use mathlib.Core.Logic.{inl, inr}
 use Prim.Native.Nat.{_+_, _-_, _≤_}
 use native.Mathlib.Omega.{arith}
 use borrow.Author.Tests.{leb-true, leb-false}
 use lib.ListN.{length, length-set}
-use Rattle.event_list.proofs.ShiftLaws.{movedDown, down-none, down-step}
+use Rattle.slot_index.proofs.ShiftLaws.{movedDown, down-none, down-step}
 use Rattle.slot_index.proofs.OrderLaws.{without-short, without-beyond, without-ends}
 use Rattle.slot_index.proofs.remove_slot.Statement.{statement}
 use Rattle.slot_index.proofs.remove_slot.Tie as tie
 
 abbrev Inv-loop : tie.InvT-loop
 Inv-loop order₀ count place last k₀ order k =
-    (place ≤ k) × (k + 1 ≤ count) × (order ≡ movedDown 1 order₀ place k) × (length order ≡ length order₀)
+    (place ≤ k) × (k + 1 ≤ count) × (order ≡ movedDown order₀ place k) × (length order ≡ length order₀)
 
 abbrev μ-loop : tie.MeasureT-loop
 μ-loop order₀ count place last k₀ order k = count - k
@@ -34,7 +34,7 @@ sub-last c = omega (arith, leb-false)
 loop-holds : tie.Need-loop-holds Inv-loop μ-loop
 loop-holds c =
     let args = c .before .before .args in
-    (omega arith, omega (arith, leb-false), down-none 1 (args .order .now) (args .place), refl)
+    (omega arith, omega (arith, leb-false), down-none (args .order .now) (args .place), refl)
 
 add-order : tie.Need-add-order Inv-loop μ-loop
 add-order c = omega arith
@@ -61,7 +61,7 @@ loop-again : tie.Need-loop-again Inv-loop μ-loop
 loop-again c =
     let loop = c .before .before .loop in
     let args = c .before .before .before .before .before .args in
-    let moved = down-step 1 (args .order .now) (args .place) (loop .order) (loop .k) (loop .inv .2) (omega arith) (omega arith) in
+    let moved = down-step (args .order .now) (args .place) (loop .order) (loop .k) (loop .inv .2) (omega arith) (omega arith) in
     (omega arith, omega arith, moved, simp length-set (loop .inv .3))
 
 same-length : tie.Need-same-length Inv-loop μ-loop

@@ -1,14 +1,14 @@
--- `add_record` meets its contract: what each call ensures, and a record put in behind the last slot is one write. Assumes nothing.
+-- `add_record` meets its contract: what each call ensures, and there is room for the record. Assumes nothing.
 use mathlib.Core.Path.{refl, _∙_}
 use native.Mathlib.Omega.{arith}
 use borrow.Author.Needs.{needs}
 use denote.Ref.{now}
-use Rattle.event_list.proofs.HeldLaws.{append-is}
+use Rattle.event_list.proofs.WriteLaws.{written-is}
 use Rattle.edit.proofs.index.add_record.Statement.{statement}
 use Rattle.edit.proofs.index.add_record.Tie as tie
 
-insert-record-requires : tie.Need-insert-record-requires
-insert-record-requires c κs = search needs
+write-record-requires : tie.Need-write-record-requires
+write-record-requires c κs = search needs
 
 cast-insert-slot : tie.Need-cast-insert-slot
 cast-insert-slot c = search needs
@@ -47,8 +47,8 @@ returns c =
     let used = start .args .used in
     record {
       slotsAre =
-          c .before .before .before .before .before .before .before .insert-record .ensures
-          ∙ append-is slots used (start .args .event) (omega arith);
+          c .before .before .before .before .before .before .before .write-record .ensures
+          ∙ written-is slots used (start .args .event) (omega arith);
       orderIs = c .before .before .before .insert-slot .ensures;
       idsAre = refl;
     }
@@ -57,7 +57,7 @@ pub add-record-spec : {M : Type 1} → statement M
 add-record-spec =
     tie.close
     (tie.spec
-    insert-record-requires
+    write-record-requires
     cast-insert-slot
     insert-slot-requires
     cast-i

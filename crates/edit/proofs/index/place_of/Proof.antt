@@ -1,6 +1,5 @@
 -- `place_of` meets its contract: the place lies between the bounds (`Between`), and the loop ends where they meet. Assumes nothing.
-use mathlib.Core.Path.{_≡_}
-use Prim.Native.Nat.{ℕ, _+_, _-_, _/_, _≤_, _<_}
+use Prim.Native.Nat.{_+_, _-_, _/_}
 use native.Mathlib.Omega.{arith}
 use denote.Ref.{now}
 use Rattle.slot_index.specs.Index.{Ordered}

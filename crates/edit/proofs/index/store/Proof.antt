@@ -1,6 +1,6 @@
 -- `store` meets its contract: at each turn the first i records stand at the front. Assumes nothing.
 use mathlib.Core.Path.{_≡_, refl, ap, _∙_}
-use Prim.Native.Nat.{ℕ, _+_, _-_, _*_, _≤_}
+use Prim.Native.Nat.{_+_, _-_, _*_, _≤_}
 use native.Mathlib.Omega.{arith}
 use borrow.Author.Needs.{needs}
 use denote.Ref.{now}
@@ -9,7 +9,7 @@ use Rattle.eit.specs.Overwrite.{overwrite}
 use Rattle.eit.specs.Records.{recordSize, numbersOf}
 use Rattle.eit.specs.declared.Record.{Record}
 use Rattle.eit.proofs.Overwrite.{over-length}
-use Rattle.event_list.proofs.HeldLaws.{append-is}
+use Rattle.event_list.proofs.WriteLaws.{written-is}
 use Rattle.slot_index.specs.Index.{slotRecord, indexedNumbers}
 use Rattle.slot_index.proofs.LoadLaws.{store-none, store-next}
 use Rattle.edit.proofs.index.store.Statement.{statement}
@@ -39,8 +39,8 @@ wide-requires c κs = search needs
 record-at-requires : tie.Need-record-at-requires Inv-loop μ-loop
 record-at-requires c κs = search needs
 
-insert-record-requires : tie.Need-insert-record-requires Inv-loop μ-loop
-insert-record-requires c κs = search needs
+write-record-requires : tie.Need-write-record-requires Inv-loop μ-loop
+write-record-requires c κs = search needs
 
 add-i : tie.Need-add-i Inv-loop μ-loop
 add-i c = omega arith
@@ -59,7 +59,7 @@ loop-again c =
     let order = now (start .args .order) in
     let event = reads .record-at .ensures ∙ ap (slotRecord slots) (reads .before .wide .ensures) in
     let room : loop .i * recordSize + recordSize ≤ length (loop .list) = omega (arith, loop .inv .2) in
-    let put = puts .insert-record .ensures ∙ append-is (loop .list) (loop .i) (reads .record-at .result) room in (
+    let put = puts .write-record .ensures ∙ written-is (loop .list) (loop .i) (reads .record-at .result) room in (
       omega arith,
       store-next list slots order (loop .i) (omega arith) (omega arith) (loop .list) _ (loop .inv .1)
           (put ∙ ap (λ (r : Record). overwrite (loop .list) (loop .i * recordSize) (numbersOf r)) event),
@@ -87,7 +87,7 @@ store-spec =
     shared-slice-read-wide
     wide-requires
     record-at-requires
-    insert-record-requires
+    write-record-requires
     add-i
     loop-less
     loop-again

@@ -1,7 +1,6 @@
 -- `withdraw_indexed` meets its contract: each return by its own law of IndexedLaws, from what the callees ensure. Assumes nothing.
-use mathlib.Core.Path.{_≡_}
 use mathlib.Core.List.{[]}
-use Prim.Native.Nat.{suc, _≤_, _<_}
+use Prim.Native.Nat.{_≤_, _<_}
 use native.Mathlib.Omega.{arith}
 use borrow.Author.Needs.{needs}
 use Rattle.edit.proofs.IndexedLaws.{kept-ordered, id-small, its-place, some-records, withdraw-absent, withdraw-present}
@@ -59,11 +58,11 @@ take-out-record-requires c κs =
       start .pre .index .idsSize,
     )
 
-sub-remove-record : tie.Need-sub-remove-record
-sub-remove-record c = omega (arith, place-some (c .before .before .before .before .before .before .before .before), place-within (c .before .before .before .before .before .before .before .before))
+sub-write-record : tie.Need-sub-write-record
+sub-write-record c = omega (arith, place-some (c .before .before .before .before .before .before .before .before), place-within (c .before .before .before .before .before .before .before .before))
 
-remove-record-requires : tie.Need-remove-record-requires
-remove-record-requires c κs = search needs
+write-record-requires : tie.Need-write-record-requires
+write-record-requires c κs = search needs
 
 sub-t16 : tie.Need-sub-t16
 sub-t16 c = omega (arith, place-some (c .before .before .before .before .before .before .before .before .before .before .before), place-within (c .before .before .before .before .before .before .before .before .before .before .before))
@@ -83,7 +82,7 @@ returns-2 c = λ limit day series.
     let found = out .before .before .before in
     let start = entry found in
     withdraw-present limit day series _ _ _ _ _ _ (start .pre) (start .args .at) _ _ (found .before .before .before .before .slot-of .ensures)
-    (found .before .before .before .if1 .left) _ (found .before .before .record-at .ensures) _ (found .place-of .ensures) _ _ _ (c .before .before .remove-record .ensures)
+    (found .before .before .before .if1 .left) _ (found .before .before .record-at .ensures) _ (found .place-of .ensures) _ _ _ (c .before .before .write-record .ensures)
     (out .take-out-record .ensures)
 
 pub withdraw-indexed-spec : {M : Type 1} → statement M
@@ -98,8 +97,8 @@ withdraw-indexed-spec =
     place-of-requires
     sub-take-out-record
     take-out-record-requires
-    sub-remove-record
-    remove-record-requires
+    sub-write-record
+    write-record-requires
     sub-t16
     same-length-2
     same-length-3

@@ -87,8 +87,8 @@ add-t16 c = let whole = c .before in omega (arith, turn-inside whole, turn-below
 cast-t17 : tie.Need-cast-t17 Inv-loop μ-loop
 cast-t17 c = let whole = c .before in omega (arith, turn-inside whole, turn-below whole)
 
-insert-record-requires : tie.Need-insert-record-requires Inv-loop μ-loop
-insert-record-requires c κs = search needs
+write-record-requires : tie.Need-write-record-requires Inv-loop μ-loop
+write-record-requires c κs = search needs
 
 add-n : tie.Need-add-n Inv-loop μ-loop
 add-n c = let whole = c .before .before .before .before .before in omega (arith, turn-room whole)
@@ -112,7 +112,7 @@ loop-again c =
     let put = c .before .before .before in
     let whole = put .before .before .before in
     let read = whole .before .before in
-    fill-more (turn read .loop .inv) (read .before .before .loop-test .taken) (event-read whole) refl (put .insert-record .ensures)
+    fill-more (turn read .loop .inv) (read .before .before .loop-test .taken) (event-read whole) refl (put .write-record .ensures)
 
 same-length-2 : tie.Need-same-length-2 Inv-loop μ-loop
 same-length-2 c = search needs
@@ -138,7 +138,7 @@ fill-events-spec =
     add-t10
     add-t16
     cast-t17
-    insert-record-requires
+    write-record-requires
     add-n
     cast-at
     add-at

@@ -1,10 +1,21 @@
 -- `write_record` meets its contract: six stores in a row are one overwrite. Assumes nothing.
+use mathlib.Core.Path.{sym, _∙_}
+use Prim.Native.Nat.{_+_, _*_, _≤_}
 use native.Mathlib.Omega.{arith}
 use borrow.Author.Needs.{needs}
-use lib.ListN.{length-set}
-use Rattle.event_list.proofs.ShiftLaws.{record-sets}
-use Rattle.event_list.proofs.place.write_record.Statement.{statement}
-use Rattle.event_list.proofs.place.write_record.Tie as tie
+use lib.ListN.{length, length-set}
+use Rattle.eit.specs.Records.{recordSize}
+use Rattle.event_list.proofs.WriteLaws.{record-sets, written-is, written-beyond}
+use Rattle.event_list.proofs.records.write_record.Statement.{statement}
+use Rattle.event_list.proofs.records.write_record.Tie as tie
+
+returns : tie.Need-returns
+returns c =
+    let args = c .before .args in
+    sym (written-beyond (args .list .now) (args .i) (args .event) (c .if1 .taken))
+
+mul-at : tie.Need-mul-at
+mul-at c = search needs
 
 mul-list : tie.Need-mul-list
 mul-list c = search needs
@@ -60,13 +71,18 @@ slice-write-list-6 c = simp length-set (omega arith)
 same-length : tie.Need-same-length
 same-length c = search needs
 
-returns : tie.Need-returns
-returns c = record-sets (c .args .list .now) (c .args .at) (c .args .event) (c .pre)
+returns-2 : tie.Need-returns-2
+returns-2 c =
+    let args = c .before .args in
+    let room : args .i * recordSize + recordSize ≤ length (args .list .now) = omega arith in
+    record-sets (args .list .now) (args .i * recordSize) (args .event) room ∙ sym (written-is (args .list .now) (args .i) (args .event) room)
 
 pub write-record-spec : {M : Type 1} → statement M
 write-record-spec =
     tie.close
     (tie.spec
+    returns
+    mul-at
     mul-list
     slice-write-list
     add-list
@@ -85,4 +101,4 @@ write-record-spec =
     mul-list-6
     slice-write-list-6
     same-length
-    returns)
+    returns-2)
