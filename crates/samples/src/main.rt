@@ -3,14 +3,13 @@
 use libc::STDERR_FILENO;
 use libc::STDOUT_FILENO;
 
-mod lines;
 mod lists;
 mod others;
 mod paper;
-mod show;
+mod rows;
 
 fn main() {
-    lines::print(b"The samples of document 01, and others, by the library's calls\n");
+    report::lines::print(b"The samples of document 01, and others, by the library's calls\n");
     paper::times();
     paper::segments();
     paper::no_events();

@@ -1,8 +1,9 @@
 // Samples from the papers that document 01 stands on.
-use crate::lines;
 use crate::lists;
-use crate::show;
+use crate::rows;
 use codec::fields;
+use report::lines;
+use report::show;
 
 // OP-58's rule 4: its segment 2 is the second, segment 1 here, and has two sections.
 pub fn rule_four() {
@@ -10,7 +11,7 @@ pub fn rule_four() {
     lists::fill_pool(&mut day);
     let mut series = [0u8; 2_028];
     lists::fill_pool(&mut series);
-    show::show_pair(
+    rows::show_pair(
         b"OP-58, rule 4: the second segment has only 2 sections: 8 + 2 - 1 = 9 in those two",
         10_800,
         &day,

@@ -1,7 +1,8 @@
 // The samples of document 01, "Samples with the cuts marked".
-use crate::lines;
 use crate::lists;
-use crate::show;
+use crate::rows;
+use report::lines;
+use report::show;
 use time_codec::TimeRead;
 
 // The seconds that bytes showed.
@@ -17,8 +18,9 @@ fn show_start(base_day: u32, start: u32) {
     let mut bytes = [0u8; 5];
     time_codec::write_start(&mut bytes, 0, base_day, start);
     lines::print(b"base day ");
-    lines::print_number(base_day as usize, b" start ");
-    lines::print_number(start as usize, b"");
+    lines::print_number(base_day as usize);
+    lines::print(b" start ");
+    lines::print_number(start as usize);
     lines::print_bytes(&bytes);
     print_read(time_codec::read_start(&bytes, 0, base_day));
 }
@@ -28,7 +30,7 @@ fn show_duration(duration: u32) {
     let mut bytes = [0u8; 3];
     time_codec::write_duration(&mut bytes, 0, duration);
     lines::print(b"duration ");
-    lines::print_number(duration as usize, b"");
+    lines::print_number(duration as usize);
     lines::print_bytes(&bytes);
     print_read(time_codec::read_duration(&bytes, 0));
 }
@@ -44,17 +46,17 @@ pub fn times() {
 
 // One event without descriptors, at the ends of segments and tables.
 pub fn segments() {
-    show::show_row(b"start 10,799: segment 0", 10_799, 1, b"");
-    show::show_row(b"10,800: section 8", 10_800, 1, b"");
-    show::show_row(b"345,599: 0x50, segment 31", 345_599, 1, b"");
-    show::show_row(
+    rows::show_row(b"start 10,799: segment 0", 10_799, 1, b"");
+    rows::show_row(b"10,800: section 8", 10_800, 1, b"");
+    rows::show_row(b"345,599: 0x50, segment 31", 345_599, 1, b"");
+    rows::show_row(
         b"345,600: 0x51, section 0; 0x50 has one empty section, last_section_number 0",
         345_600,
         1,
         b"",
     );
-    show::show_row(b"5,529,599: 0x5F, segment 31", 5_529_599, 1, b"");
-    show::show_row(b"5,529,600: refusal 5", 5_529_600, 1, b"");
+    rows::show_row(b"5,529,599: 0x5F, segment 31", 5_529_599, 1, b"");
+    rows::show_row(b"5,529,600: refusal 5", 5_529_600, 1, b"");
 }
 
 pub fn no_events() {
@@ -69,23 +71,23 @@ pub fn no_events() {
 pub fn chains() {
     let mut longest = [0u8; 4_066];
     lists::fill_pool(&mut longest);
-    show::show_row(b"chain of 4,066: one section", 0, 1, &longest);
+    rows::show_row(b"chain of 4,066: one section", 0, 1, &longest);
     let mut above = [0u8; 4_067];
     lists::fill_pool(&mut above);
-    show::show_row(b"chain of 4,067: refusal 10", 0, 1, &above);
-    show::show_row(
+    rows::show_row(b"chain of 4,067: refusal 10", 0, 1, &above);
+    rows::show_row(
         b"eight chains of 4,066 in a segment: eight sections",
         0,
         8,
         &longest,
     );
-    show::show_row(b"nine chains of 4,066 in a segment: 10", 0, 9, &longest);
+    rows::show_row(b"nine chains of 4,066 in a segment: 10", 0, 9, &longest);
 }
 
 pub fn pairs() {
     let mut day = [0u8; 2_027];
     lists::fill_pool(&mut day);
-    show::show_pair(
+    rows::show_pair(
         b"two events in a segment, chains 4,054 bytes together: one section",
         0,
         &day,
@@ -93,7 +95,7 @@ pub fn pairs() {
     );
     let mut series = [0u8; 2_028];
     lists::fill_pool(&mut series);
-    show::show_pair(
+    rows::show_pair(
         b"two events in a segment, chains 4,055 bytes together: two",
         0,
         &day,
@@ -103,13 +105,13 @@ pub fn pairs() {
 
 // Many events without descriptors.
 pub fn many() {
-    show::show_row(
+    rows::show_row(
         b"339 events without descriptors in a segment: one section",
         0,
         339,
         b"",
     );
-    show::show_row(
+    rows::show_row(
         b"340 events without descriptors in a segment: two, of 339 and 1",
         0,
         340,

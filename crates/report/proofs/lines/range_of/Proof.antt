@@ -1,8 +1,8 @@
--- `samples::lines::range_of` meets its contract: the counts up to `n` are left, and are 32 at most. Assumes nothing.
+-- `report::lines::range_of` meets its contract: the counts up to `n` are left, and are 32 at most. Assumes nothing.
 use Prim.Native.Nat.{_≤_}
 use borrow.Author.Needs.{needs}
-use Rattle.samples.proofs.lines.range_of.Statement.{statement}
-use Rattle.samples.proofs.lines.range_of.Tie as tie
+use Rattle.report.proofs.lines.range_of.Statement.{statement}
+use Rattle.report.proofs.lines.range_of.Tie as tie
 
 abbrev Inv-loop : tie.InvT-loop
 Inv-loop counts n₀ n = n ≤ 32

@@ -9,10 +9,15 @@ pub fn print(text: &[u8]) {
     io::write_all(STDOUT_FILENO, text);
 }
 
-// A number in decimal, and what stands behind it.
-pub fn print_number(n: usize, after: &[u8]) {
+// A number in decimal.
+pub fn print_number(n: usize) {
     io::print_decimal(STDOUT_FILENO, n as u64);
-    print(after);
+}
+
+// A number behind a space.
+fn print_next(n: usize) {
+    print(b" ");
+    print_number(n);
 }
 
 // A heading, behind an empty line.
@@ -26,11 +31,11 @@ pub fn print_heading(heading: &[u8]) {
 pub fn print_answer(call: &[u8], number: u32, value: usize) {
     print(call);
     if number != 0 {
-        print(b" refused ");
-        print_number(number as usize, b"");
+        print(b" refused");
+        print_next(number as usize);
     }
-    print(b" ");
-    print_number(value, b"\n");
+    print_next(value);
+    print(b"\n");
 }
 
 fn hex_digit(n: u8) -> u8 {
@@ -53,14 +58,20 @@ pub fn print_bytes(bytes: &[u8]) {
     print(b"\n");
 }
 
+// A field of one byte, behind a space.
+fn print_field(section: &[u8], at: usize) {
+    print_next(fields::read_field(section, at, 1) as usize);
+}
+
 // The line of a section: offset, table_id, section_number, segment_last_section_number, last_section_number, number of events.
 fn print_cut(offset: usize, section: &[u8]) {
-    print_number(offset, b" ");
-    print_number(fields::read_field(section, 0, 1) as usize, b" ");
-    print_number(fields::read_field(section, 6, 1) as usize, b" ");
-    print_number(fields::read_field(section, 12, 1) as usize, b" ");
-    print_number(fields::read_field(section, 7, 1) as usize, b" ");
-    print_number(events::count_events(section), b"\n");
+    print_number(offset);
+    print_field(section, 0);
+    print_field(section, 6);
+    print_field(section, 12);
+    print_field(section, 7);
+    print_next(events::count_events(section));
+    print(b"\n");
 }
 
 // The cuts of a file.
@@ -87,8 +98,7 @@ fn range_of(counts: &[u8; 32]) -> usize
 
 // A count, behind a space.
 fn print_count(count: u8) {
-    print(b" ");
-    print_number(count as usize, b"");
+    print_next(count as usize);
 }
 
 // Plan's line of a table, where it has sections.
@@ -97,8 +107,8 @@ pub fn print_counts(table_id: usize, counts: &[u8; 32]) {
     if n == 0 {
         return;
     }
-    print(b"plan ");
-    print_number(table_id, b"");
+    print(b"plan");
+    print_next(table_id);
     let mut i = 0;
     while i < n {
         print_count(counts[i]);
@@ -107,26 +117,27 @@ pub fn print_counts(table_id: usize, counts: &[u8; 32]) {
     print(b"\n");
 }
 
-// A number with two digits at least.
+// A number of two digits, behind a hyphen.
 fn print_two(n: u32) {
     if n < 10 {
-        print(b"0");
+        print(b"-0");
+    } else {
+        print(b"-");
     }
-    print_number(n as usize, b"");
+    print_number(n as usize);
 }
 
 // The date of a day.
 pub fn print_date(mjd: u32) {
-    print(b"MJD ");
-    print_number(mjd as usize, b" ");
+    print(b"MJD");
+    print_next(mjd as usize);
     match calendar::date_of(mjd) {
         Dated::On(date) => {
-            print_number(date.year as usize, b"-");
+            print_next(date.year as usize);
             print_two(date.month);
-            print(b"-");
             print_two(date.day);
         }
-        Dated::Outside => print(b"outside"),
+        Dated::Outside => print(b" outside"),
     }
     print(b"\n");
 }

@@ -1,9 +1,9 @@
--- `samples::show::show_row` meets its contract: the PUTs lie in the script. Assumes nothing.
+-- `samples::rows::show_row` meets its contract: the PUTs lie in the script. Assumes nothing.
 use mathlib.Core.Path.{sym}
 use borrow.Author.Needs.{needs}
 use lib.Seq.{length-take-le}
-use Rattle.samples.proofs.show.show_row.Statement.{statement}
-use Rattle.samples.proofs.show.show_row.Tie as tie
+use Rattle.samples.proofs.rows.show_row.Statement.{statement}
+use Rattle.samples.proofs.rows.show_row.Tie as tie
 
 print-heading-requires : tie.Need-print-heading-requires
 print-heading-requires c κs = search needs

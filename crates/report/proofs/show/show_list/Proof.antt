@@ -1,9 +1,9 @@
--- `samples::show::show_list` meets its contract: the file lies in the output. Assumes nothing.
+-- `report::show::show_list` meets its contract: the file lies in the output. Assumes nothing.
 use mathlib.Core.Path.{sym}
 use borrow.Author.Needs.{needs}
 use lib.Seq.{length-take-le}
-use Rattle.samples.proofs.show.show_list.Statement.{statement}
-use Rattle.samples.proofs.show.show_list.Tie as tie
+use Rattle.report.proofs.show.show_list.Statement.{statement}
+use Rattle.report.proofs.show.show_list.Tie as tie
 
 identity-requires : tie.Need-identity-requires
 identity-requires c κs = search needs

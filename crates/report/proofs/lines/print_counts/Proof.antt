@@ -1,14 +1,14 @@
--- `samples::lines::print_counts` meets its contract: each turn prints one count more, of 32 at most. Assumes nothing.
+-- `report::lines::print_counts` meets its contract: each turn prints one count more, of 32 at most. Assumes nothing.
 use Prim.Native.Nat.{_≤_, _-_}
 use borrow.Author.Needs.{needs}
-use Rattle.samples.proofs.lines.print_counts.Statement.{statement}
-use Rattle.samples.proofs.lines.print_counts.Tie as tie
+use Rattle.report.proofs.lines.print_counts.Statement.{statement}
+use Rattle.report.proofs.lines.print_counts.Tie as tie
 
 abbrev Inv-loop : tie.InvT-loop
-Inv-loop table-id counts n i₀ t7 i = i ≤ n
+Inv-loop table-id counts n i₀ t6 i = i ≤ n
 
 abbrev μ-loop : tie.MeasureT-loop
-μ-loop table-id counts n i₀ t7 i = n - i
+μ-loop table-id counts n i₀ t6 i = n - i
 
 range-of-requires : tie.Need-range-of-requires Inv-loop μ-loop
 range-of-requires c κs = search needs
@@ -22,11 +22,8 @@ slice-aggregate-print c = search needs
 print-requires : tie.Need-print-requires Inv-loop μ-loop
 print-requires c κs = search needs
 
-slice-aggregate-print-number : tie.Need-slice-aggregate-print-number Inv-loop μ-loop
-slice-aggregate-print-number c = search needs
-
-print-number-requires : tie.Need-print-number-requires Inv-loop μ-loop
-print-number-requires c κs = search needs
+print-next-requires : tie.Need-print-next-requires Inv-loop μ-loop
+print-next-requires c κs = search needs
 
 loop-holds : tie.Need-loop-holds Inv-loop μ-loop
 loop-holds c = search needs
@@ -65,8 +62,7 @@ print-counts-spec =
     returns
     slice-aggregate-print
     print-requires
-    slice-aggregate-print-number
-    print-number-requires
+    print-next-requires
     loop-holds
     element-copy-out-print-count
     print-count-requires

@@ -1,4 +1,4 @@
--- `samples::show::build_list` meets its contract: a built file lies in the output. Assumes nothing.
+-- `report::show::build_list` meets its contract: a built file lies in the output. Assumes nothing.
 use native.Mathlib.Omega.{arith}
 use denote.Ref.{now}
 use borrow.Author.Needs.{needs}
@@ -6,8 +6,8 @@ use Rattle.eit.specs.Sizes.{broadcast}
 use Rattle.eit.specs.Pools.{lentPools}
 use Rattle.eit.specs.Records.{lentList}
 use Rattle.build_answer.proofs.Inside.{built-inside}
-use Rattle.samples.proofs.show.build_list.Statement.{statement}
-use Rattle.samples.proofs.show.build_list.Tie as tie
+use Rattle.report.proofs.show.build_list.Statement.{statement}
+use Rattle.report.proofs.show.build_list.Tie as tie
 
 build-requires : tie.Need-build-requires
 build-requires c κs = search needs

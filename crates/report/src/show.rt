@@ -1,6 +1,5 @@
 // What the calls say of a list.
 use crate::lines;
-use crate::lists;
 use eit::Identity;
 ghost use mathlib.Core.Path.{_≡_};
 ghost use Prim.Native.Nat.{_≤_};
@@ -118,49 +117,14 @@ pub fn show_script<'a>(script: &[u8], day: &'a [u8], series: &'a [u8]) {
     }
 }
 
-// So many events a second apart, each with the whole day pool as its chain, under a heading.
-pub fn show_row(heading: &[u8], start: u32, n: usize, day: &[u8])
-    requires { ⌜ n ≤ 340 ⌝ }
-{
-    lines::print_heading(heading);
-    let mut script = [0u8; lists::ROW_SIZE];
-    let size = lists::write_row(&mut script, start, n, day.len());
-    show_script(&script[..size], day, b"");
-}
-
-// Two events, a second apart, the first with the whole day pool as its chain and the second with the series pool, under a heading.
-pub fn show_pair<'a>(heading: &[u8], start: u32, day: &'a [u8], series: &'a [u8]) {
-    lines::print_heading(heading);
-    let mut script = [0u8; 2 * lists::PUT_SIZE];
-    lists::write_put(&mut script, 0, 1, start as usize, 0, day.len());
-    lists::write_put(
-        &mut script,
-        lists::PUT_SIZE,
-        2,
-        start as usize + 1,
-        2,
-        series.len(),
-    );
-    show_script(&script, day, series);
-}
-
-// Bytes of the file that a script without descriptors gives.
-pub fn show_bytes(script: &[u8], from: usize, to: usize)
-    requires { ⌜ from ≤ to ⌝ }
-    requires { ⌜ to ≤ 65536 ⌝ }
-{
+// Bytes of the file that a script without descriptors gives, where it has them.
+pub fn show_bytes(script: &[u8], from: usize, to: usize) {
     let mut list = [0u32; LIST_SIZE];
     let edited = edit::edit(&mut list, 0, b"", b"", script);
     let mut file = [0u8; FILE_SIZE];
-    build::build(
-        &list,
-        edited.count,
-        b"",
-        b"",
-        BASE_DAY,
-        identity(),
-        &mut file,
-    );
-    lines::print(b"bytes");
-    lines::print_bytes(&file[from..to]);
+    build_list(&list, edited.count, b"", b"", identity(), &mut file);
+    if from <= to && to <= FILE_SIZE {
+        lines::print(b"bytes");
+        lines::print_bytes(&file[from..to]);
+    }
 }

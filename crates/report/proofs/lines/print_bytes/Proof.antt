@@ -1,9 +1,9 @@
--- `samples::lines::print_bytes` meets its contract: each turn prints one byte more. Assumes nothing.
+-- `report::lines::print_bytes` meets its contract: each turn prints one byte more. Assumes nothing.
 use Prim.Native.Nat.{_≤_, _-_}
 use borrow.Author.Needs.{needs}
 use lib.ListN.{length}
-use Rattle.samples.proofs.lines.print_bytes.Statement.{statement}
-use Rattle.samples.proofs.lines.print_bytes.Tie as tie
+use Rattle.report.proofs.lines.print_bytes.Statement.{statement}
+use Rattle.report.proofs.lines.print_bytes.Tie as tie
 
 abbrev Inv-loop : tie.InvT-loop
 Inv-loop bytes i₀ t3 i = i ≤ length bytes

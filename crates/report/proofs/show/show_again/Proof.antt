@@ -1,9 +1,9 @@
--- `samples::show::show_again` meets its contract: the file lies in the output. Assumes nothing.
+-- `report::show::show_again` meets its contract: the file lies in the output. Assumes nothing.
 use mathlib.Core.Path.{sym}
 use borrow.Author.Needs.{needs}
 use lib.Seq.{length-take-le}
-use Rattle.samples.proofs.show.show_again.Statement.{statement}
-use Rattle.samples.proofs.show.show_again.Tie as tie
+use Rattle.report.proofs.show.show_again.Statement.{statement}
+use Rattle.report.proofs.show.show_again.Tie as tie
 
 slice-aggregate-build-list : tie.Need-slice-aggregate-build-list
 slice-aggregate-build-list c = search needs

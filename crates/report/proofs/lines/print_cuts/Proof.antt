@@ -1,4 +1,4 @@
--- `samples::lines::print_cuts` meets its contract: each turn meets a section in the file, of at least a byte. Assumes nothing.
+-- `report::lines::print_cuts` meets its contract: each turn meets a section in the file, of at least a byte. Assumes nothing.
 use Prim.Native.Nat.{_+_, _-_, _≤_, _<_}
 use mathlib.Core.Path.{ap}
 use native.Mathlib.Omega.{arith}
@@ -6,8 +6,8 @@ use denote.Ref.{now}
 use borrow.Author.Needs.{needs}
 use lib.ListN.{length}
 use Rattle.section_walk.proofs.SectionAtLaws.{section-inside, section-some}
-use Rattle.samples.proofs.lines.print_cuts.Statement.{statement}
-use Rattle.samples.proofs.lines.print_cuts.Tie as tie
+use Rattle.report.proofs.lines.print_cuts.Statement.{statement}
+use Rattle.report.proofs.lines.print_cuts.Tie as tie
 
 abbrev Inv-loop : tie.InvT-loop
 Inv-loop file offset₀ offset = offset ≤ length file

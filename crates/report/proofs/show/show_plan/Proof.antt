@@ -1,8 +1,8 @@
--- `samples::show::show_plan` meets its contract: each turn prints one table more, of sixteen. Assumes nothing.
+-- `report::show::show_plan` meets its contract: each turn prints one table more, of sixteen. Assumes nothing.
 use Prim.Native.Nat.{_≤_, _-_}
 use borrow.Author.Needs.{needs}
-use Rattle.samples.proofs.show.show_plan.Statement.{statement}
-use Rattle.samples.proofs.show.show_plan.Tie as tie
+use Rattle.report.proofs.show.show_plan.Statement.{statement}
+use Rattle.report.proofs.show.show_plan.Tie as tie
 
 abbrev Inv-loop : tie.InvT-loop
 Inv-loop list count day series tables i₀ i = i ≤ 16
