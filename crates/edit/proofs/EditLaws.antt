@@ -5,15 +5,17 @@ use Prim.Native.Nat.{ℕ}
 use mathlib.Core.List.{List}
 use native.Mathlib.Omega.{arith}
 use lib.Dec.{T}
+use lib.ListN.{take}
 use lib.Seq.{take-all}
 use Rattle.eit.specs.Sizes.{limitedTo}
 use Rattle.eit.specs.Pools.{lentPools}
 use Rattle.eit.specs.Records.{EventList}
 use Rattle.eit.specs.Sound.{sound}
 use Rattle.script.specs.Form.{Command, formOf}
-use Rattle.script.specs.Struck.{unstruckIn, live}
+use Rattle.script.specs.Struck.{unstruckIn, passed, live}
 use Rattle.script.specs.Edit.{edit, run, refusal}
 use Rattle.script.proofs.Edit.{edit-unsound, edit-broken, edit-nothing, edit-runs}
+use Rattle.script.proofs.Struck.{struck-enough}
 use Rattle.script_scan.specs.Commands.{formTold, strikesTold, commandsAt}
 use Rattle.script_scan.specs.declared.scan.Form.the-variants.{Whole, Broken}
 use Rattle.script_scan.specs.declared.scan.Strikes.the-variants.{Enough, NothingAt}
@@ -51,3 +53,11 @@ module _ (limit : ℕ) (day series : List ℕ) (list : EventList) (script : List
           (live 0 (commandsAt 0 script)) (form-whole-is script k whole) (strikes-enough-is (commandsAt 0 script) u)
           ∙ ap (λ (cs : List Command). run (limitedTo limit) (lentPools day series) list (live 0 cs))
           (sym (take-all k (commandsAt 0 script) (omega (arith, form-count-is script k whole))))
+
+      -- no UNDO is left pending before the commands, so each has something to strike
+      pub edit-unpending : passed 0 (take k (commandsAt 0 script)) ≡ 0
+          → edit (limitedTo limit) (lentPools day series) list script ≡ runPart limit day series list 0 k 0 script
+      edit-unpending none =
+          let all : take k (commandsAt 0 script) ≡ commandsAt 0 script =
+          take-all k (commandsAt 0 script) (omega (arith, form-count-is script k whole)) in
+          edit-goes-on (ap strikesTold (struck-enough (commandsAt 0 script) (ap (passed 0) (sym all) ∙ none)))

@@ -58,8 +58,11 @@ module _ (undo-places : List ℕ) (k undos : ℕ) (places₀ : List ℕ) where
       }
 
   module _ {places : List ℕ} {pending place : ℕ} (s : StruckFrom undo-places k undos places₀ places pending place) where
-    pub struck-all : place ≤ 0 → (cs : List Command) → length cs ≡ k → UndoPlaces undo-places cs → LivePlaces places undos cs
-    struck-all none cs all are i h = s .known cs all are .1 i (omega arith) (omega arith)
+    pub struck-all : place ≤ 0 → (cs : List Command) → length cs ≡ k → UndoPlaces undo-places cs
+        → LivePlaces places undos cs × (pending ≡ passed undos cs)
+    struck-all none cs all are =
+        let first : place ≡ 0 = omega arith in
+        (λ i h. s .known cs all are .1 i (omega arith) (omega arith), s .known cs all are .0 ∙ ap (λ (n : ℕ). passed undos (drop n cs)) first)
 
     module _ (some : 0 < place) where
       behind : (cs : List Command) → drop 1 (drop (place - 1) cs) ≡ drop place cs

@@ -10,6 +10,10 @@ use Rattle.codec.specs.Seen.{isSeen, withSeen}
 use Rattle.script.specs.Form.{Command, doEdit, undo}
 use Rattle.script.specs.Struck.{passed}
 
+-- the most places that a set of them has room for
+abbrev pub placeLimit : ℕ
+placeLimit = 262_144
+
 -- the first of some commands is an UNDO
 abbrev pub beginsUndo : List Command → Bool
 beginsUndo [] = false

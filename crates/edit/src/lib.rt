@@ -3,7 +3,6 @@ use edit_answer::EditAnswer;
 use edit_answer::Edited;
 use script_scan::scan;
 use script_scan::scan::Form;
-use script_scan::scan::Strikes;
 ghost use mathlib.Core.Path.{_≡_};
 ghost use Prim.Native.Nat.{_≤_};
 ghost use lib.Dec.{T};
@@ -21,36 +20,10 @@ mod index;
 mod indexed;
 mod live;
 mod part;
+mod whole;
 
 // Events in a list at most (01, "Event record and sound list").
 const EVENT_LIMIT: usize = 2_048;
-
-// 4, then the unstruck edits of a whole script of k commands, on a list that is sound.
-fn edit_whole<'a>(
-    list: &mut [u32],
-    count: usize,
-    day: &'a [u8],
-    series: &'a [u8],
-    script: &[u8],
-    event_limit: usize,
-    k: usize,
-) -> Edited
-    requires { ⌜
-        T (sound (limitedTo «event_limit») (lentPools (now day) (now series)) (lentList (now list) count))
-        × (formTold (formOf (now script)) ≡ Form.Whole k) × («event_limit» ≤ orderLimit) ⌝ }
-    ensures { λ r. ⌜
-        edit (limitedTo «event_limit») (lentPools (now (day .entry)) (now (series .entry))) (lentList (now (list .entry)) count)
-        (now (script .entry))
-        ≡ told r (now (list .exit)) ⌝ }
-{
-    if let Strikes::NothingAt(at) = scan::strikes_in(script) {
-        return Edited {
-            answer: EditAnswer::NothingToStrike(at),
-            count,
-        };
-    }
-    part::run_part(list, count, day, series, event_limit, script, 0, k, 0)
-}
 
 // Edit with another limit of events than broadcast's, at most as many as an index has room for.
 fn edit_within<'a>(
@@ -78,7 +51,7 @@ fn edit_within<'a>(
             answer: EditAnswer::Broken(at),
             count,
         },
-        Form::Whole(k) => edit_whole(list, count, day, series, script, event_limit, k),
+        Form::Whole(k) => whole::edit_whole(list, count, day, series, script, event_limit, k),
     }
 }
 

@@ -9,8 +9,9 @@ ghost use mathlib.Core.List.{List};
 ghost use lib.ListN.{length, take};
 ghost use Rattle.codec.specs.Seen.{isSeen};
 ghost use Rattle.script.specs.Form.{Command};
+ghost use Rattle.script.specs.Struck.{passed};
 ghost use Rattle.script_scan.specs.Commands.{commandsAt};
-ghost use Rattle.edit.specs.Live.{withPlaceIf, NoPlaces, UndoPlaces, LivePlaces};
+ghost use Rattle.edit.specs.Live.{placeLimit, withPlaceIf, NoPlaces, UndoPlaces, LivePlaces};
 
 // Adds a place that is not there, if it is that of an UNDO, with no branch that the processor would have to guess.
 fn add_if(places: &mut [u64], place: usize, is_undo: bool)
@@ -35,12 +36,13 @@ pub fn undos_in(script: &[u8], at: usize, k: usize, undo_places: &mut [u64])
 }
 
 // The places of the live edits among k commands, from the last to the first: an UNDO is pending until an edit before it is struck. It
-// counts as 1 and an edit as 0, so that the processor has no branch to guess.
-pub fn live_in(undo_places: &[u64], k: usize, undos: usize, live_places: &mut [u64])
-    requires { ⌜ (k ≤ 64 * length (now «live_places»)) × (k ≤ 65_536) × (undos ≤ 65_536) × NoPlaces (now «live_places») ⌝ }
-    ensures { λ _. ⌜
+// counts as 1 and an edit as 0, so that the processor has no branch to guess. Returns how many are pending before them all.
+pub fn live_in(undo_places: &[u64], k: usize, undos: usize, live_places: &mut [u64]) -> usize
+    requires { ⌜
+        (k ≤ 64 * length (now «live_places»)) × (k ≤ placeLimit) × (undos ≤ placeLimit) × NoPlaces (now «live_places») ⌝ }
+    ensures { λ r. ⌜
         ((cs : List Command) → length cs ≡ k → UndoPlaces (now («undo_places» .entry)) cs
-        → LivePlaces (now («live_places» .exit)) undos cs) ⌝ }
+        → LivePlaces (now («live_places» .exit)) undos cs × (r ≡ passed undos cs)) ⌝ }
 {
     let mut pending = undos;
     let mut place = k;
@@ -53,4 +55,5 @@ pub fn live_in(undo_places: &[u64], k: usize, undos: usize, live_places: &mut [u
             pending = pending + 2 * undo - 1;
         }
     }
+    pending
 }

@@ -18,14 +18,14 @@ ghost use Rattle.eit.specs.Sound.{sound};
 ghost use Rattle.script.specs.Struck.{passed};
 ghost use Rattle.script_scan.specs.Commands.{commandsAt};
 ghost use Rattle.edit.specs.Run.{runPart};
-ghost use Rattle.edit.specs.Live.{LivePlaces};
+ghost use Rattle.edit.specs.Live.{placeLimit, LivePlaces};
 ghost use Rattle.edit_answer.specs.Told.{told};
 ghost use Rattle.slot_index.specs.Index.{orderLimit, Index, indexedNumbers, indexedList};
 
 // Places that a set has room for, and so the most commands of a part that is not halved; and its words of 64.
-const PLACES: usize = 65_536;
+pub const PLACES: usize = 262_144;
 
-const PLACE_WORDS: usize = 1_024;
+pub const PLACE_WORDS: usize = 4_096;
 
 // Numbers in the slots of an index, slots in its order, and ids.
 const SLOT_NUMBERS: usize = 24_576;
@@ -76,7 +76,7 @@ fn run_indexed<'a>(
 ) -> Edited
     requires { ⌜
         T (sound (limitedTo «event_limit») (lentPools (now day) (now series)) (indexedList (now list) (now slots) (now order) count))
-        × (k ≤ length (commandsAt at (now script))) × (k ≤ 65_536) × («event_limit» ≤ orderLimit)
+        × (k ≤ length (commandsAt at (now script))) × (k ≤ placeLimit) × («event_limit» ≤ orderLimit)
         × Index (now slots) (now order) (now ids) count count × (count * recordSize ≤ length (now list)) ⌝ }
     ensures { λ r. ⌜
         ((undos : ℕ) → LivePlaces (now («live_places» .entry)) undos (take k (commandsAt at (now (script .entry))))
@@ -125,7 +125,7 @@ fn run_indexed<'a>(
 }
 
 // The same on a list that is sound: an index is made from it, and written back in the end.
-fn run_live<'a>(
+pub fn run_live<'a>(
     list: &mut [u32],
     count: usize,
     day: &'a [u8],
@@ -138,7 +138,7 @@ fn run_live<'a>(
 ) -> Edited
     requires { ⌜
         T (sound (limitedTo «event_limit») (lentPools (now day) (now series)) (lentList (now list) count))
-        × (k ≤ length (commandsAt at (now script))) × (k ≤ 65_536) × («event_limit» ≤ orderLimit) ⌝ }
+        × (k ≤ length (commandsAt at (now script))) × (k ≤ placeLimit) × («event_limit» ≤ orderLimit) ⌝ }
     ensures { λ r. ⌜
         ((undos : ℕ) → LivePlaces (now («live_places» .entry)) undos (take k (commandsAt at (now (script .entry))))
         → runPart «event_limit» (now (day .entry)) (now (series .entry)) (lentList (now (list .entry)) count) undos k at
@@ -183,7 +183,7 @@ fn run_short<'a>(
 ) -> Edited
     requires { ⌜
         T (sound (limitedTo «event_limit») (lentPools (now day) (now series)) (lentList (now list) count))
-        × (k ≤ length (commandsAt at (now script))) × (k ≤ 65_536) × (undos ≤ 65_536) × («event_limit» ≤ orderLimit) ⌝ }
+        × (k ≤ length (commandsAt at (now script))) × (k ≤ placeLimit) × (undos ≤ placeLimit) × («event_limit» ≤ orderLimit) ⌝ }
     ensures { λ r. ⌜
         runPart «event_limit» (now (day .entry)) (now (series .entry)) (lentList (now (list .entry)) count) undos k at
         (now (script .entry))

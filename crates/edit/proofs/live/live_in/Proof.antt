@@ -25,10 +25,10 @@ sub-place : tie.Need-sub-place Inv-loop μ-loop
 sub-place c = omega (arith, c .loop-test .taken)
 
 -- a place has 32 bits, and so has what is pending
-small : (c : tie.In-loop Inv-loop μ-loop) → c .before .loop .place ≤ 65_536
+small : (c : tie.In-loop Inv-loop μ-loop) → c .before .loop .place ≤ 262_144
 small c = omega (arith, c .before .loop .inv .few, c .before .before .before .before .pre .1)
 
-few : (c : tie.In-loop Inv-loop μ-loop) → c .before .loop .pending ≤ 131_072
+few : (c : tie.In-loop Inv-loop μ-loop) → c .before .loop .pending ≤ 524_288
 few c =
     let entry = c .before .before .before .before in
     omega (arith, c .before .loop .inv .room, entry .pre .1, entry .pre .2)

@@ -15,7 +15,7 @@ slice-aggregate-undos-in c = search needs
 undos-in-requires : tie.Need-undos-in-requires
 undos-in-requires c κs =
     let entry = c .before .before .before .before .before in
-    (entry .pre .1, omega (arith, entry .pre .2, length-replicate {A = ℕ} 1_024 0), seen-none 1_024)
+    (entry .pre .1, omega (arith, entry .pre .2, length-replicate {A = ℕ} 4_096 0), seen-none 4_096)
 
 slice-aggregate-live-in : tie.Need-slice-aggregate-live-in
 slice-aggregate-live-in c = search needs
@@ -26,7 +26,7 @@ slice-aggregate-live-in-2 c = search needs
 live-in-requires : tie.Need-live-in-requires
 live-in-requires c κs =
     let entry = c .before .before .before .before .before .before .before .before .before in
-    (omega (arith, entry .pre .2, length-replicate {A = ℕ} 1_024 0), entry .pre .2, entry .pre .3, seen-none 1_024)
+    (omega (arith, entry .pre .2, length-replicate {A = ℕ} 4_096 0), entry .pre .2, entry .pre .3, seen-none 4_096)
 
 slice-aggregate-run-live : tie.Need-slice-aggregate-run-live
 slice-aggregate-run-live c = search needs
@@ -47,7 +47,7 @@ returns c =
     let size = length-take (start .k) (commandsAt (start .at) (now (start .script))) in
     runs .run-live .ensures (start .undos)
     (strikes .live-in .ensures (take (start .k) (commandsAt (start .at) (now (start .script)))) (omega (arith, size, entry .pre .1))
-    (notes .undos-in .ensures))
+    (notes .undos-in .ensures) .0)
 
 pub run-short-spec : {M : Type 1} → statement M
 run-short-spec =

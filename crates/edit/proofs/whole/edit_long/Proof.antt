@@ -1,4 +1,4 @@
--- `edit_whole` meets its contract: each return by its own law of EditLaws, from the answer of the pass over UNDOs. Assumes nothing.
+-- `whole::edit_long` meets its contract: each return by its own law of EditLaws, from the answer of the pass over UNDOs. Assumes nothing.
 use mathlib.Core.Path.{sym, _∙_}
 use native.Mathlib.Omega.{arith}
 use denote.Ref.{now}
@@ -6,8 +6,8 @@ use borrow.Author.Needs.{needs}
 use Rattle.eit.specs.Records.{lentList}
 use Rattle.script_scan.proofs.ScanLaws.{form-count-is}
 use Rattle.edit.proofs.EditLaws.{edit-4, edit-goes-on}
-use Rattle.edit.proofs.edit_whole.Statement.{statement}
-use Rattle.edit.proofs.edit_whole.Tie as tie
+use Rattle.edit.proofs.whole.edit_long.Statement.{statement}
+use Rattle.edit.proofs.whole.edit_long.Tie as tie
 
 strikes-in-requires : tie.Need-strikes-in-requires
 strikes-in-requires c κs = search needs
@@ -45,5 +45,5 @@ returns-2 c =
     (entry .pre .0) (start .k) (entry .pre .1) (sym (strikes .strikes-in .ensures) ∙ enough .enum-told .given .1)
     ∙ runs .run-part .ensures
 
-pub edit-whole-spec : {M : Type 1} → statement M
-edit-whole-spec = tie.close (tie.spec strikes-in-requires enum-known-at returns enum-told run-part-requires same-length returns-2)
+pub edit-long-spec : {M : Type 1} → statement M
+edit-long-spec = tie.close (tie.spec strikes-in-requires enum-known-at returns enum-told run-part-requires same-length returns-2)
