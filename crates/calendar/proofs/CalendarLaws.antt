@@ -1,12 +1,12 @@
 -- Some dates, computed; and each day of the annex's range has the date after that of the day before, by a computed
 -- test of every day. Assumes nothing.
-use Prim.Native.Nat.{ℕ, zero, suc, _+_, _-_, _≤_, _<_}
-use mathlib.Core.Bool.{Bool, true, false, _&&_}
-use mathlib.Core.Path.{_≡_, refl, sym, ap, subst, _∙_}
+use Prim.Native.Nat.{ℕ, zero, suc, _+_, _-_, _<_}
+use mathlib.Core.Bool.{Bool, true, _&&_}
+use mathlib.Core.Path.{_≡_, refl, ap, _∙_}
 use native.Mathlib.Omega.{arith}
 use lib.Dec.{T, eqb, eqb→eq}
 use Rattle.eit.proofs.Test.{and-left, and-right, and-parts, and-both}
-use Rattle.calendar.specs.Date.{firstDay, lastDay, dateWithin, dateOf}
+use Rattle.calendar.specs.Date.{dateWithin, dateOf}
 use Rattle.calendar.specs.Calendar.{nextDate, Dates, FollowsOn}
 use Rattle.calendar.specs.declared.Date.{Date}
 use Rattle.calendar.specs.declared.Dated.the-variants.{On}

@@ -1,4 +1,5 @@
--- The calendar, and what `dateOf` is worth: some days, and that each day has the date after that of the day before. Assumes nothing.
+-- The Gregorian calendar, and what `dateOf` is worth: some days, and that each day has the date after that of the day before.
+-- Assumes nothing.
 use Prim.Native.Nat.{ℕ, _+_, _-_, _%_, _≤_, _<_}
 use mathlib.Core.List.{[], _∷_}
 use mathlib.Core.Bool.{Bool, true, false, _&&_, _||_, not}
@@ -10,10 +11,11 @@ use Rattle.calendar.specs.declared.Date.{Date}
 use Rattle.calendar.specs.declared.Dated.{Dated}
 use Rattle.calendar.specs.declared.Dated.the-variants.{On, Outside}
 
--- ---- the Gregorian calendar
+-- ---- the calendar
 
+-- every fourth year, but of the hundreds only every fourth hundred
 abbrev pub isLeap : ℕ → Bool
-isLeap year = eqb (year % 4) 0 && not (eqb (year % 100) 0) || eqb (year % 400) 0
+isLeap year = (eqb (year % 4) 0 && not (eqb (year % 100) 0)) || eqb (year % 400) 0
 
 abbrev pub februaryOf : ℕ → ℕ
 februaryOf year = elim (isLeap year) [ true ↦ 29 | false ↦ 28 ]
