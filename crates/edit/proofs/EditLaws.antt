@@ -21,6 +21,7 @@ use Rattle.script_scan.specs.declared.scan.Form.the-variants.{Whole, Broken}
 use Rattle.script_scan.specs.declared.scan.Strikes.the-variants.{Enough, NothingAt}
 use Rattle.script_scan.proofs.ScanLaws.{form-whole-is, form-count-is, form-broken-is, strikes-enough-is, strikes-nothing-is}
 use Rattle.edit.specs.Run.{runPart}
+use Rattle.edit.proofs.RunLaws.{none-done}
 
 module _ (limit : ℕ) (day series : List ℕ) (list : EventList) (script : List ℕ) where
   -- b is what the soundness pass says
@@ -61,3 +62,10 @@ module _ (limit : ℕ) (day series : List ℕ) (list : EventList) (script : List
           let all : take k (commandsAt 0 script) ≡ commandsAt 0 script =
           take-all k (commandsAt 0 script) (omega (arith, form-count-is script k whole)) in
           edit-goes-on (ap strikesTold (struck-enough (commandsAt 0 script) (ap (passed 0) (sym all) ∙ none)))
+
+      -- no command at all
+      pub edit-none : k ≡ 0 → edit (limitedTo limit) (lentPools day series) list script ≡ record { number = 0; value = list .count; list = list }
+      edit-none none =
+          edit-unpending (ap (λ (n : ℕ). passed 0 (take n (commandsAt 0 script))) none)
+          ∙ ap (λ (n : ℕ). runPart limit day series list 0 n 0 script) none
+          ∙ none-done (limitedTo limit) (lentPools day series) list

@@ -88,7 +88,7 @@ fn edit_short<'a>(
     )
 }
 
-// 4, then the unstruck edits of a script of k commands.
+// 4, then the unstruck edits of a script of k commands. Of none, no index is made.
 pub fn edit_whole<'a>(
     list: &mut [u32],
     count: usize,
@@ -106,6 +106,12 @@ pub fn edit_whole<'a>(
         (now (script .entry))
         ≡ told r (now (list .exit)) ⌝ }
 {
+    if k == 0 {
+        return Edited {
+            answer: EditAnswer::Done,
+            count,
+        };
+    }
     if k <= PLACES {
         return edit_short(list, count, day, series, script, event_limit, k);
     }
