@@ -1,18 +1,15 @@
 // Edit (01, "Edit"): the script's form, UNDO, and the plain machine on the lent list.
 use edit_answer::EditAnswer;
 use edit_answer::Edited;
+use eit::sizes::EVENT_LIMIT;
 use script_scan::scan;
 use script_scan::scan::Form;
 ghost use mathlib.Core.Path.{_≡_};
 ghost use Prim.Native.Nat.{_≤_};
-ghost use lib.Dec.{T};
 ghost use Rattle.eit.specs.Sizes.{broadcast, limitedTo};
 ghost use Rattle.eit.specs.Pools.{lentPools};
 ghost use Rattle.eit.specs.Records.{lentList};
-ghost use Rattle.eit.specs.Sound.{sound};
-ghost use Rattle.script.specs.Form.{formOf};
 ghost use Rattle.script.specs.Edit.{edit};
-ghost use Rattle.script_scan.specs.Commands.{formTold};
 ghost use Rattle.edit_answer.specs.Told.{told};
 ghost use Rattle.slot_index.specs.Index.{orderLimit};
 
@@ -21,9 +18,6 @@ mod indexed;
 mod live;
 mod part;
 mod whole;
-
-// Events in a list at most (01, "Event record and sound list").
-const EVENT_LIMIT: usize = 2_048;
 
 // Edit with another limit of events than broadcast's, at most as many as an index has room for.
 fn edit_within<'a>(

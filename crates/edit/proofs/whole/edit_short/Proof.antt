@@ -1,7 +1,7 @@
 -- `whole::edit_short` meets its contract: where no UNDO is left pending, each has something to strike (`edit-unpending`), and the places
 -- that the passes find are those of the live edits. Assumes nothing.
-use mathlib.Core.Path.{_≡_, sym, _∙_}
-use Prim.Native.Nat.{ℕ, _≤_}
+use mathlib.Core.Path.{_≡_, _∙_}
+use Prim.Native.Nat.{ℕ}
 use native.Mathlib.Omega.{arith}
 use lib.ListN.{length, take, length-take, length-replicate}
 use denote.Ref.{now}
