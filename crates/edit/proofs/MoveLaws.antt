@@ -1,10 +1,12 @@
 -- What MOVE on an index leaves, by the tests that the code makes: one law for each return. The record is taken out and put back with
 -- its new start. Assumes nothing.
 use mathlib.Core.Path.{_≡_, sym, ap, _∙_}
+use mathlib.Core.Logic.{⊎-elim}
 use mathlib.Core.Bool.{true, false, not}
 use mathlib.Core.List.{List, _∷_, _++_}
 use Prim.Native.Nat.{ℕ, suc, _+_, _-_, _≤_, _<_}
 use native.Mathlib.Omega.{arith}
+use borrow.Author.Tests.{le-leb, lt-leb}
 use lib.Dec.{T, ltb}
 use lib.ListN.{length, getD, take, drop}
 use Rattle.eit.specs.Sizes.{limitedTo}
@@ -12,11 +14,12 @@ use Rattle.eit.specs.Limits.{startLimit}
 use Rattle.eit.specs.Pools.{lentPools}
 use Rattle.eit.specs.Overwrite.{overwrite}
 use Rattle.eit.specs.Among.{isAmong}
-use Rattle.eit.specs.Find.{placeOf}
+use Rattle.eit.specs.Find.{indexOf, placeOf}
 use Rattle.eit.specs.Records.{EventList, lentList, recordsOf, numbersOfAll}
 use Rattle.eit.specs.Sound.{idsOf, startsOf}
 use Rattle.eit.specs.declared.Record.{Record}
 use Rattle.eit.proofs.Find.{place-length}
+use Rattle.eit.proofs.Test.{le-or-lt}
 use Rattle.script.specs.Form.{move}
 use Rattle.script.specs.Machine.{find, without, withStart, insert, afterMove}
 use Rattle.script.proofs.Placing.{insert-length, without-length, without-gone, find-id}
@@ -24,14 +27,13 @@ use Rattle.script.proofs.Places.{insert-place}
 use Rattle.script.proofs.Steps.{move-5, move-6, move-7, move-passes}
 use Rattle.edit_answer.specs.declared.EditAnswer.{EditAnswer}
 use Rattle.edit_answer.specs.declared.EditAnswer.the-variants.{Done, OutOfRange, WrongId, StartTaken}
-use Rattle.slot_index.specs.Index.{slotLimit, slotRecord, recordsAt, Ordered, Index, indexedNumbers, indexedList}
+use Rattle.slot_index.specs.Index.{slotLimit, slotRecord, recordsAt, Index, indexedNumbers, indexedList}
 use Rattle.slot_index.proofs.IndexLaws.{held-length, add-records, add-index}
-use Rattle.slot_index.proofs.RiseLaws.{without-starts, without-rises, own-start}
-use Rattle.slot_index.proofs.SlotLaws.{below-more}
-use Rattle.edit.specs.Indexed.{placeIn, Added, TakenOut, Kept, Leaves}
+use Rattle.slot_index.proofs.RiseLaws.{without-starts, own-start, place-left-before, place-left-behind}
+use Rattle.edit.specs.Indexed.{placeIn, placeLeft, Added, TakenOut, Kept, Leaves}
 use Rattle.edit.specs.declared.index.Place.{Place}
 use Rattle.edit.proofs.IndexedLaws.{does, stands-records, records-length, refuses, stays, passes, written-over, absent, id-small, present}
-use Rattle.edit.proofs.IndexedLaws.{its-record, out-records, out-index}
+use Rattle.edit.proofs.IndexedLaws.{its-record, its-place, out-records, out-index}
 use Rattle.edit.proofs.PutLaws.{holds, fails}
 
 module _ (limit : ℕ) (day series list slots order ids : List ℕ) (count used : ℕ) (k : Kept list slots order ids count used) (at : ℕ)
@@ -115,22 +117,25 @@ module _ (limit : ℕ) (day series list slots order ids : List ℕ) (count used 
               left-index .idsSize,
             )
 
-        -- what is left is in order
-        pub left-ordered : Ordered slots midOrder (count - 1)
-        left-ordered =
-            record {
-              few = omega (arith, left-index .few, left-index .orderSize);
-              within =
-                  below-more used _ (take (count - 1) midOrder) (omega (arith, left-index .slotsSize, left-index .fewSlots)) (left-index .below);
-              rises = rw left-records (without-rises id rs old (k .rises));
-            }
+        -- the place among what is left
+        left-place : (p : Place) → p ≡ placeIn start rs → placeLeft (p .place) place ≡ placeOf start (without id rs)
+        left-place p at-place =
+            let was-place : place ≡ suc (indexOf id rs) =
+            its-place limit day series list slots order ids count used k at id number found some event is place was in
+            let all : p .place ≡ placeOf start rs = ap (λ (q : Place). q .place) at-place in
+            ⊎-elim
+            (λ before.
+            rw (placeLeft, le-leb place (p .place) before)
+            (ap (λ (n : ℕ). n - 1) all ∙ sym (place-left-before id rs old (k .rises) start (omega arith))))
+            (λ behind. rw (placeLeft, lt-leb place (p .place) behind) (all ∙ sym (place-left-behind id rs old (k .rises) start (omega arith))))
+            (le-or-lt place (p .place))
 
         pub move-goes : T (not (isAmong start (startsOf (without id rs)))) → used < slotLimit → (moved : Record)
-            → moved ≡ withStart start event → (next : ℕ) → next ≡ placeOf start (recordsAt slots (take (count - 1) midOrder))
+            → moved ≡ withStart start event → (p : Place) → p ≡ placeIn start rs → (next : ℕ) → next ≡ placeLeft (p .place) place
             → (newSlots newOrder newIds : List ℕ) → Added slots midOrder midIds (count - 1) used next moved newSlots newOrder newIds
             → Leaves (does limit day series list slots order ids count used k at (move id start))
             (record { answer = Done; count = count; used = used + 1 }) list newSlots newOrder newIds
-        move-goes free slot moved is-moved next at-next newSlots newOrder newIds added =
+        move-goes free slot moved is-moved p at-place next is-next newSlots newOrder newIds added =
             let left : List Record = without id rs in
             let r : Record = withStart start (find id rs) in
             let same : moved ≡ r = is-moved ∙ ap (withStart start) its in
@@ -141,11 +146,13 @@ module _ (limit : ℕ) (day series list slots order ids : List ℕ) (count used 
             let small = id-small limit day series list slots order ids count used k at id number found some in
             let gone : T (not (isAmong (moved .id) (idsOf (recordsAt slots (take (count - 1) midOrder))))) =
             rw (left-records, its-id) (without-gone id rs (k .differ)) in
+            let at-next : next ≡ placeOf start left = is-next ∙ left-place p at-place in
             let there : next ≤ count - 1 =
             omega (
               arith,
-              place-length start (recordsAt slots (take (count - 1) midOrder)),
+              place-length start left,
               held-length slots midOrder midIds (count - 1) used left-index,
+              ap length left-records,
             ) in
             let room = k .index .few in
             let records : recordsAt newSlots (take count newOrder) ≡ insert r left =
@@ -153,7 +160,7 @@ module _ (limit : ℕ) (day series list slots order ids : List ℕ) (count used 
             ∙ (rw (added .slotsAre, added .orderIs)
             (add-records slots midOrder midIds (count - 1) used left-index next moved there (omega arith) slot (omega arith) gone))
             ∙ ap (λ (qs : List Record). take next qs ++ moved ∷ drop next qs) left-records
-            ∙ ap (λ (n : ℕ). take n left ++ moved ∷ drop n left) (at-next ∙ ap (placeOf start) left-records)
+            ∙ ap (λ (n : ℕ). take n left ++ moved ∷ drop n left) at-next
             ∙ ap (λ (q : Record). take (placeOf start left) left ++ q ∷ drop (placeOf start left) left) same
             ∙ sym (insert-place r left) in
             let after : afterMove stands id start ≡ indexedList list newSlots newOrder count =

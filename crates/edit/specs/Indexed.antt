@@ -1,9 +1,10 @@
 -- What the machine's edits ask of the index that they run on and of the lent list, and what they leave: the list that the index stands
 -- for is the plain machine's (01, "Edit"). Laws: proofs/IndexedLaws.antt. Assumes nothing.
 use mathlib.Core.Path.{_≡_}
-use Prim.Native.Nat.{ℕ, _+_, _*_, _≤_, _<_}
+use Prim.Native.Nat.{ℕ, _+_, _-_, _*_, _≤_, _<_}
+use mathlib.Core.Bool.{true, false}
 use mathlib.Core.List.{List}
-use lib.Dec.{T}
+use lib.Dec.{T, leb}
 use lib.ListN.{length, take, set}
 use Rattle.eit.specs.Among.{isAmong, allDiffer}
 use Rattle.eit.specs.Find.{placeOf}
@@ -21,6 +22,10 @@ use Rattle.edit.specs.declared.indexed.Reached.{Reached}
 -- where a start has its place among some records, and whether one of them has it
 abbrev pub placeIn : ℕ → List Record → Place
 placeIn start rs = record { place = placeOf start rs; «is_taken» = isAmong start (startsOf rs) }
+
+-- the place of a start, of `place`, once the record before place `out` is taken out
+abbrev pub placeLeft : ℕ → ℕ → ℕ
+placeLeft place out = elim (leb out place) [ true ↦ place - 1 | false ↦ place ]
 
 -- a record put in a new slot
 pub record Added (slots order ids : List ℕ) (count used place : ℕ) (r : Record) (newSlots newOrder newIds : List ℕ) : Type 0 where

@@ -9,7 +9,7 @@ ghost use lib.ListN.{length, getD, take, replicate};
 ghost use Rattle.eit.specs.Find.{placeOf};
 ghost use Rattle.eit.specs.Records.{recordSize};
 ghost use Rattle.slot_index.specs.Index.{slotRecord, recordsAt, Ordered, Index, Loadable, Loaded, indexedNumbers, indexedList};
-ghost use Rattle.edit.specs.Indexed.{placeIn, Added, TakenOut, Kept, Renewed};
+ghost use Rattle.edit.specs.Indexed.{placeIn, placeLeft, Added, TakenOut, Kept, Renewed};
 
 // Slots of an index: those of a full list, and at least as many for edits until it is made anew.
 pub const SLOT_LIMIT: usize = 4_096;
@@ -66,6 +66,14 @@ pub fn place_in(slots: &[u32], order: &[u16], count: usize, start: u32) -> Place
     }
     let is_taken = start_at(slots, order, place - 1) == start;
     Place { place, is_taken }
+}
+
+// The place that a start has once the record before place `out` is taken out, where it had `place` before.
+pub fn place_left(place: usize, out: usize) -> usize
+    requires { ⌜ 0 < out ⌝ }
+    ensures { λ r. ⌜ r ≡ placeLeft place out ⌝ }
+{
+    if out <= place { place - 1 } else { place }
 }
 
 // One more than the slot of the record that has the id; 0 if none has it.

@@ -183,7 +183,7 @@ fn move_indexed(
     let place = index::place_of(slots, order, count, event.start);
     event.start = start;
     index::take_out_record(order, ids, count, place - 1, id);
-    let next = index::place_of(slots, order, count - 1, start);
+    let next = index::place_left(found.place, place);
     index::add_record(slots, order, ids, count - 1, used, next, event);
     Reached {
         answer: EditAnswer::Done,

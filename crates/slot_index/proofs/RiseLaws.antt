@@ -6,7 +6,7 @@ use mathlib.Core.Bool.{Bool, not, _||_}
 use mathlib.Core.List.{List, [], _∷_, _++_}
 use Prim.Native.Nat.{ℕ, zero, suc, _-_, _≤_, _<_}
 use native.Mathlib.Omega.{arith}
-use lib.Dec.{T, eqb, ltb, lt→ltb, ltb→lt, not-T}
+use lib.Dec.{T, eqb, ltb, lt→ltb, ltb→lt, nltb→le, not-T}
 use lib.ListN.{length, getD, take, drop, length-append, length-take, length-drop, length-map, List·getD-map}
 use Rattle.eit.specs.Pools.{Pools}
 use Rattle.eit.specs.Among.{isAmong}
@@ -16,10 +16,10 @@ use Rattle.eit.specs.Sound.{idsOf, startsOf}
 use Rattle.eit.specs.declared.Record.{Record}
 use Rattle.eit.proofs.Among.{among-at, among-found}
 use Rattle.eit.proofs.Events.{AllAfter, rising-rest, rising-after}
-use Rattle.eit.proofs.Find.{place-here, place-later, index-length}
+use Rattle.eit.proofs.Find.{place-here, place-later, place-length, index-length}
 use Rattle.eit.proofs.Test.{le-or-lt, test-or, ne-test, false-is}
 use Rattle.script.specs.Machine.{find, without, zeroRecord}
-use Rattle.script.proofs.Placing.{find-here, find-later, without-here, without-later, among-later}
+use Rattle.script.proofs.Placing.{find-here, find-later, without-here, without-later, without-length, among-later}
 use Rattle.script.proofs.Places.{find-at, without-index}
 use Rattle.slot_index.specs.Index.{Rises}
 use Rattle.slot_index.proofs.SlotLaws.{map-leave}
@@ -57,6 +57,22 @@ place-is start (r ∷ rs) (suc k) few before behind =
     let first : r .start ≤ start = before 0 (omega arith) in
     place-later start r rs (not-T (ltb start (r .start)) (λ t. omega (arith, ltb→lt start (r .start) t)))
     ∙ ap suc (place-is start rs k (omega arith) (λ i h. before (suc i) (omega arith)) (λ h. behind (omega arith)))
+
+-- and so it is of the place
+pub place-before : (start : ℕ) (rs : List Record) (i : ℕ) → i < placeOf start rs → getD (startsOf rs) i 0 ≤ start
+place-before start [] i h = omega arith
+place-before start (r ∷ rs) zero h =
+    ⊎-elim (λ t. absurd (omega (arith, place-here start r rs t))) (λ t. nltb→le start (r .start) t) (test-or (ltb start (r .start)))
+place-before start (r ∷ rs) (suc i) h =
+    ⊎-elim (λ t. absurd (omega (arith, place-here start r rs t)))
+    (λ t. place-before start rs i (omega (arith, place-later start r rs t))) (test-or (ltb start (r .start)))
+
+pub place-behind : (start : ℕ) (rs : List Record) → placeOf start rs < length rs → start < getD (startsOf rs) (placeOf start rs) 0
+place-behind start [] h = absurd (omega arith)
+place-behind start (r ∷ rs) h =
+    ⊎-elim (λ t. rw (place-here start r rs t) (ltb→lt start (r .start) t))
+    (λ t. rw (place-later start r rs t) (place-behind start rs (omega (arith, place-later start r rs t))))
+    (test-or (ltb start (r .start)))
 
 module _ (rs : List Record) (rises : Rises (startsOf rs)) where
   -- no later than a record behind it
@@ -185,3 +201,44 @@ module _ (id : ℕ) (rs : List Record) (a : T (isAmong id (idsOf rs))) where
     -- its own start is not among the others
     pub own-start : T (not (isAmong (find id rs .start) (startsOf (without id rs))))
     own-start = rw (others-are, ← found-start) (leave-none (startsOf rs) rises (indexOf id rs) index-starts)
+
+    -- the place of a start, once the record is taken out: one less if the record stood before it
+    module _ (start : ℕ) where
+      left-length : suc (length (without id rs)) ≡ length rs
+      left-length = without-length id rs a
+
+      left-before : (k : ℕ) → k < indexOf id rs → getD (startsOf (without id rs)) k 0 ≡ getD (startsOf rs) k 0
+      left-before k h = ap (λ (xs : List ℕ). getD xs k 0) others-are ∙ leave-before (indexOf id rs) (startsOf rs) k h
+
+      left-behind : (k : ℕ) → indexOf id rs ≤ k → getD (startsOf (without id rs)) k 0 ≡ getD (startsOf rs) (suc k) 0
+      left-behind k h = ap (λ (xs : List ℕ). getD xs k 0) others-are ∙ leave-behind (indexOf id rs) (startsOf rs) k h
+
+      later : (k : ℕ) → placeOf start rs ≤ k → k < length rs → start < getD (startsOf rs) k 0
+      later k h within =
+          omega (arith, place-behind start rs (omega arith), rises-to rs rises (placeOf start rs) k h within)
+
+      pub place-left-before : indexOf id rs < placeOf start rs → placeOf start (without id rs) ≡ placeOf start rs - 1
+      place-left-before stood =
+          let size : suc (length (without id rs)) ≡ length rs = left-length in
+          let few : placeOf start rs ≤ length rs = place-length start rs in
+          place-is start (without id rs) (placeOf start rs - 1) (omega arith)
+          (λ k h.
+          ⊎-elim (λ behind. omega (arith, left-behind k behind, place-before start rs (suc k) (omega arith)))
+          (λ before. omega (arith, left-before k before, place-before start rs k (omega arith))) (le-or-lt (indexOf id rs) k))
+          (λ h.
+          let next : suc (placeOf start rs - 1) ≡ placeOf start rs = omega arith in
+          let moved = ap (λ (n : ℕ). getD (startsOf rs) n 0) next in
+          omega (arith, left-behind (placeOf start rs - 1) (omega arith), later (placeOf start rs) (omega arith) (omega arith)))
+
+      pub place-left-behind : placeOf start rs ≤ indexOf id rs → placeOf start (without id rs) ≡ placeOf start rs
+      place-left-behind stood =
+          let size : suc (length (without id rs)) ≡ length rs = left-length in
+          let within = index-length id rs a in
+          place-is start (without id rs) (placeOf start rs) (omega arith)
+          (λ k h. omega (arith, left-before k (omega arith), place-before start rs k h))
+          (λ h.
+          ⊎-elim
+          (λ behind.
+          omega (arith, left-behind (placeOf start rs) behind, later (suc (placeOf start rs)) (omega arith) (omega arith)))
+          (λ before. omega (arith, left-before (placeOf start rs) before, later (placeOf start rs) (omega arith) (omega arith)))
+          (le-or-lt (indexOf id rs) (placeOf start rs)))

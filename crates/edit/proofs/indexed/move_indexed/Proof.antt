@@ -10,7 +10,7 @@ use borrow.Author.Needs.{needs}
 use borrow.Author.Tests.{not-true, not-false}
 use Rattle.eit.specs.Limits.{startLimit}
 use Rattle.edit.proofs.IndexedLaws.{kept-ordered, id-small, its-place, some-records}
-use Rattle.edit.proofs.MoveLaws.{move-outside, move-absent, move-taken, free-other, free-own, left-ordered, id-within, move-goes}
+use Rattle.edit.proofs.MoveLaws.{move-outside, move-absent, move-taken, free-other, free-own, id-within, move-goes}
 use Rattle.edit.proofs.indexed.move_indexed.Statement.{statement}
 use Rattle.edit.proofs.indexed.move_indexed.Tie as tie
 
@@ -112,23 +112,15 @@ take-out-record-requires c κs =
       start .pre .0 .index .idsSize,
     )
 
-sub-place-of : tie.Need-sub-place-of
-sub-place-of c = omega (arith, place-some (c .before .before .before .before .before .before .before .before .before), place-within (c .before .before .before .before .before .before .before .before .before))
-
-place-of-requires-2 : tie.Need-place-of-requires-2
-place-of-requires-2 c κs =
-    let out = c .before .before .before .before .before .before in
-    let found = out .before .before .before in
-    let read = found .before .before .before .before .before .before .before .before in
-    left-ordered 0 [] [] _ _ _ _ _ _ (began read .pre .0) 0 _ (began read .args .start) (in-range (passed read)) _ (read .before .before .before .slot-of .ensures) (read .before .before .if2 .left)
-    _ (read .record-at .ensures) _ (found .place-of .ensures) _ _ (out .take-out-record .ensures)
+place-left-requires : tie.Need-place-left-requires
+place-left-requires c κs = place-some (c .before .before .before .before .before .before .before)
 
 sub-add-record : tie.Need-sub-add-record
-sub-add-record c = omega (arith, place-some (c .before .before .before .before .before .before .before .before .before .before .before .before .before), place-within (c .before .before .before .before .before .before .before .before .before .before .before .before .before))
+sub-add-record c = omega (arith, place-some (c .before .before .before .before .before .before .before .before .before .before .before), place-within (c .before .before .before .before .before .before .before .before .before .before .before))
 
 add-record-requires : tie.Need-add-record-requires
 add-record-requires c κs =
-    let out = c .before .before .before .before .before .before .before .before .before .before in
+    let out = c .before .before .before .before .before .before .before .before in
     let found = out .before .before .before in
     let read = found .before .before .before .before .before .before .before .before in
     let start = began read in
@@ -141,7 +133,7 @@ add-record-requires c κs =
     )
 
 add-t23 : tie.Need-add-t23
-add-t23 c = omega (arith, began (c .before .before .before .before .before .before .before .before .before .before .before .before .before .before .before .before .before .before .before .before .before .before .before .before .before .before .before .before) .pre .1)
+add-t23 c = omega (arith, began (c .before .before .before .before .before .before .before .before .before .before .before .before .before .before .before .before .before .before .before .before .before .before .before .before .before .before) .pre .1)
 
 same-length-5 : tie.Need-same-length-5
 same-length-5 c = search needs
@@ -156,7 +148,7 @@ returns-4 : tie.Need-returns-4
 returns-4 c = λ limit day series.
     let added = c .before .before .before .before .before .before in
     let next = added .before .before .before .before in
-    let out = next .before .before .before .before .before .before .before in
+    let out = next .before .before .before .before .before in
     let found = out .before .before .before in
     let joined = found .before .before .before in
     let tried = joined .before .before in
@@ -173,7 +165,7 @@ returns-4 c = λ limit day series.
           (read .before .before .if2 .left) _ (read .record-at .ensures) (w .left)
     ])
     (start .pre .1)
-    _ refl _ (next .place-of2 .ensures) _ _ _ (added .add-record .ensures)
+    _ refl _ (tried .place-in .ensures) _ (next .place-left .ensures) _ _ _ (added .add-record .ensures)
 
 pub move-indexed-spec : {M : Type 1} → statement M
 move-indexed-spec =
@@ -194,8 +186,7 @@ move-indexed-spec =
     place-of-requires
     sub-take-out-record
     take-out-record-requires
-    sub-place-of
-    place-of-requires-2
+    place-left-requires
     sub-add-record
     add-record-requires
     add-t23
