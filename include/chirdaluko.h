@@ -41,7 +41,7 @@ enum {
     EIT_UNSOUND = 12,          /* the list is not sound (see "Event list") */
     EIT_FRAME = 20,            /* a section is cut, or its table_id or section_length is out of range */
     EIT_CRC = 21,              /* a section's CRC_32 is wrong */
-    EIT_HEADER = 22,           /* a fixed bit, or last_table_id is not 0x50 to 0x5F, or it or the identity is not that of the section before */
+    EIT_HEADER = 22,           /* a fixed bit is wrong, last_table_id is not 0x50 to 0x5F, or it or the identity is not the one before */
     EIT_NUMBERING = 23,        /* a section is missing, doubled or out of order, or its table is past last_table_id */
     EIT_EVENT_LOOP = 24,       /* a section's events break a rule */
     EIT_EARLY_END = 25,        /* the file ends before the last section of last_table_id, or is empty */

@@ -1,4 +1,4 @@
-/* Calls the library from C through its header: that the header's declarations fit the library shows here alone. */
+/* Calls the library from C through its header: that the header's declarations fit the library shows here. */
 #include "chirdaluko.h"
 
 #include <stdio.h>

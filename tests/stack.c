@@ -8,7 +8,7 @@
 #include <stdlib.h>
 #include <string.h>
 
-enum { STACK = 4 << 20, UNTOUCHED = 0xA5, BASE_DAY = 49273, CHAIN = 2000, SCRIPT = 1 << 20 };
+enum { STACK = 4 << 20, UNTOUCHED = 0xA5, BASE_DAY = 49273, CHAIN = 2000, SCRIPT = 4 << 20 };
 
 /* 2,048 events, sixteen in a segment, two in a section: a file of 4 MB; and a script of a megabyte that moves each to where it is. */
 static uint32_t list[EIT_NUMBERS_MAX];

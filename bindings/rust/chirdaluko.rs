@@ -410,7 +410,7 @@ fn reading(call: &str, said: EitReading) -> Result<Reading, ReadRefusal> {
         24 => ReadRefusal::EventLoop { offset: value },
         25 => ReadRefusal::EarlyEnd { file_length: value },
         26 => ReadRefusal::EventLimit { offset: value },
-        27 => ReadRefusal::RecordsShort { events: value },
+        27 if call == "eit_read" => ReadRefusal::RecordsShort { events: value },
         _ => unknown(call, number, value),
     };
     if refusal.told() != (number, value) || (count, identity) != (0, Identity::default()) {
@@ -438,7 +438,7 @@ impl Display for BuildRefusal {
 
 impl Display for ReadRefusal {
     fn fmt(&self, to: &mut Formatter) -> fmt::Result {
-        write!(to, "read refused {} {}", self.number(), self.value())
+        write!(to, "file refused {} {}", self.number(), self.value())
     }
 }
 

@@ -10,15 +10,19 @@ use crate::scripts::{bytes, unstruck, Command};
 
 const MB: usize = 1 << 20;
 
+/// Commands from which on the library takes a script in halves, and these in halves again.
+const HALVED_TWICE: usize = 2 * 262_144;
+
 pub fn run(comparison: &mut Comparison) -> Result<(), String> {
     let random = &mut comparison.groups.begin("long");
     let pools = Pools::of_lengths(random, 300, 200);
     for number in 3..=9 {
-        // From 64 KB to 2 MB, so that each bit of the offset from 16 to 20 counts.
+        // From 64 KB to 2 MB, so that each bit of the offset from 16 to 20 counts; and 8 MB, which the library takes in halves.
         for bit in [16, 17, 18, 19, 20].repeat(4) {
             let length = (1 << bit) + random.below(1 << bit);
             refused(comparison, random, &pools, number, length)?;
         }
+        refused(comparison, random, &pools, number, 8 * MB)?;
     }
     for (count, limit) in [(3, 12), (EVENTS_MAX / 2, EVENTS_MAX)] {
         carried_out(comparison, random, &pools, count, limit)?;
@@ -66,7 +70,7 @@ fn breaks(random: &mut Random, pools: &Pools, held: &Held, number: u32) -> Comma
     }
 }
 
-/// Scripts that are carried out whole: without UNDO, with short nests throughout, and around one nest of 70,000 edits.
+/// Scripts that are carried out whole: without UNDO, with short nests throughout, and around one nest of 280,000 edits.
 fn carried_out(
     comparison: &mut Comparison,
     random: &mut Random,
@@ -76,18 +80,18 @@ fn carried_out(
 ) -> Result<(), String> {
     let list = List::sound(random, pools, count, 6 * limit + 5);
     let mut held = Held::by(&list);
-    let plain = (0..130_000).map(|_| held.edit(random, pools)).collect();
+    let plain = (0..540_000).map(|_| held.edit(random, pools)).collect();
     up_to_its_end(comparison, random, pools, &list, held, plain)?;
 
     let mut held = Held::by(&list);
-    let nests = held.edits(random, pools, 80_000);
+    let nests = held.edits(random, pools, 260_000);
     up_to_its_end(comparison, random, pools, &list, held, nests)?;
 
     let mut held = Held::by(&list);
-    let mut nest: Vec<_> = (0..40_000).map(|_| held.edit(random, pools)).collect();
-    nest.extend((0..70_000).map(|_| held.any_edit(random, pools)));
-    nest.resize(nest.len() + 70_000, Command::Undo);
-    nest.extend((0..40_000).map(|_| held.edit(random, pools)));
+    let mut nest: Vec<_> = (0..150_000).map(|_| held.edit(random, pools)).collect();
+    nest.extend((0..280_000).map(|_| held.any_edit(random, pools)));
+    nest.resize(nest.len() + 280_000, Command::Undo);
+    nest.extend((0..150_000).map(|_| held.edit(random, pools)));
     up_to_its_end(comparison, random, pools, &list, held, nest)
 }
 
@@ -103,6 +107,6 @@ fn up_to_its_end(
     commands.extend(held.ready(random, pools, false));
     commands.push(held.put(random, pools));
     let script = bytes(&commands);
-    assert!(script.len() > MB && unstruck(&commands) > 70_000, "a long script came out short");
+    assert!(commands.len() > HALVED_TWICE && unstruck(&commands) > 70_000, "a long script came out short");
     comparison.answers((0, held.count()), pools, list, &script)
 }
