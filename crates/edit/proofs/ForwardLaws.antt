@@ -2,9 +2,8 @@
 -- By the laws of `run` and by `live` at a place. Assumes nothing.
 use mathlib.Core.Path.{_≡_, refl, sym, ap, _∙_, subst}
 use mathlib.Core.Bool.{true, false}
-use mathlib.Core.List.{List, [], _∷_, _++_}
+use mathlib.Core.List.{List, _∷_, _++_}
 use Prim.Native.Nat.{ℕ, _+_, _*_, _≤_, _<_}
-use native.Mathlib.Omega.{arith}
 use lib.Dec.{T}
 use lib.ListN.{length, drop, drop-of-length-le}
 use Rattle.eit.specs.Sizes.{limitedTo}
@@ -13,7 +12,7 @@ use Rattle.eit.specs.Records.{EventList, lentList, recordSize}
 use Rattle.eit.specs.Sound.{sound}
 use Rattle.eit.proofs.Sound.{sound-list}
 use Rattle.codec.specs.Seen.{isSeen}
-use Rattle.script.specs.Form.{Edit, Command}
+use Rattle.script.specs.Form.{Command}
 use Rattle.script.specs.Struck.{live}
 use Rattle.script.specs.Edit.{Edited, run}
 use Rattle.script.proofs.Edit.{run-append, run-sound}

@@ -1,11 +1,12 @@
 -- Which edits of a part are live, by their places: where the pass from the last place to the first stands, and what the live edits are
 -- from a place on. By the cases of the command there. Assumes nothing.
-use mathlib.Core.Path.{_≡_, refl, sym, ap, _∙_}
-use mathlib.Core.Bool.{true, false}
+use mathlib.Core.Path.{_≡_, refl, sym, ap, _∙_, subst}
+use mathlib.Core.Bool.{Bool, true, false}
 use mathlib.Core.Logic.{⊎-elim}
 use mathlib.Core.List.{List, [], _∷_, _++_}
 use Prim.Native.Nat.{ℕ, zero, suc, pred, _+_, _-_, _*_, _≤_, _<_}
 use native.Mathlib.Omega.{arith}
+use mir.Val.{boolByte}
 use borrow.Author.Tests.{eq-eqb, ne-eqb, eqb-true, eqb-false}
 use lib.Dec.{eqb}
 use lib.ListN.{length, drop, length-drop, drop-of-length-le}
@@ -66,7 +67,7 @@ module _ (undo-places : List ℕ) (k undos : ℕ) (places₀ : List ℕ) where
           let on : place - 1 + 1 ≡ place = omega arith in
           drop-drop 1 (place - 1) cs ∙ ap (λ (n : ℕ). drop n cs) on
 
-      pub struck-undo : isSeen undo-places (place - 1) ≡ true → StruckFrom undo-places k undos places₀ places (pending + 1) (place - 1)
+      struck-undo : isSeen undo-places (place - 1) ≡ true → StruckFrom undo-places k undos places₀ places (pending + 1) (place - 1)
       struck-undo u =
           record {
             few = omega (arith, s .few);
@@ -92,7 +93,7 @@ module _ (undo-places : List ℕ) (k undos : ℕ) (places₀ : List ℕ) where
             let pends : passed undos (drop 1 (drop (place - 1) cs)) ≡ pending = ap (passed undos) (behind cs) ∙ sym (s .known cs all are .0) in
             (first .0 ∙ ap (λ (n : ℕ). n - 1) pends, first .1 ∙ ap (λ (n : ℕ). eqb n 0) pends)
 
-        pub struck-edit : 0 < pending → StruckFrom undo-places k undos places₀ places (pending - 1) (place - 1)
+        struck-edit : 0 < pending → StruckFrom undo-places k undos places₀ places (pending - 1) (place - 1)
         struck-edit pends =
             record {
               few = omega (arith, s .few);
@@ -108,9 +109,9 @@ module _ (undo-places : List ℕ) (k undos : ℕ) (places₀ : List ℕ) where
               );
             }
 
-        pub struck-live : pending ≤ 0 → place ≤ 64 * length places₀
+        struck-kept : pending ≤ 0 → place ≤ 64 * length places₀
             → {more : List ℕ} → more ≡ withSeen places (place - 1) → StruckFrom undo-places k undos places₀ more pending (place - 1)
-        struck-live none room is =
+        struck-kept none room is =
             rw is
             record {
               few = omega (arith, s .few);
@@ -127,6 +128,22 @@ module _ (undo-places : List ℕ) (k undos : ℕ) (places₀ : List ℕ) where
                     (λ ne. seen-other places (place - 1) m ne ∙ s .known cs all are .1 m (omega (arith, ne)) to) (eq-or-not m (place - 1)),
               );
             }
+
+      -- as the code counts: b says whether the command at the place before is an UNDO
+      pub struck-on : (b : Bool) → b ≡ isSeen undo-places (place - 1) → (pending + boolByte b ≡ 0 → ⊥)
+          → StruckFrom undo-places k undos places₀ places (pending + 2 * boolByte b - 1) (place - 1)
+      struck-on true e n =
+          let more : pending + 1 ≡ pending + 2 * 1 - 1 = omega arith in
+          subst (λ (q : ℕ). StruckFrom undo-places k undos places₀ places q (place - 1)) more (struck-undo (sym e))
+      struck-on false e n =
+          let less : pending - 1 ≡ pending + 2 * 0 - 1 = omega arith in
+          subst (λ (q : ℕ). StruckFrom undo-places k undos places₀ places q (place - 1)) less
+          (struck-edit (sym e) (omega (arith, n)))
+
+      pub struck-live : (b : Bool) → b ≡ isSeen undo-places (place - 1) → pending + boolByte b ≡ 0 → place ≤ 64 * length places₀
+          → {more : List ℕ} → more ≡ withSeen places (place - 1) → StruckFrom undo-places k undos places₀ more pending (place - 1)
+      struck-live true e z = absurd (omega arith)
+      struck-live false e z = struck-kept (sym e) (omega arith)
 
 -- ---- the live edits from a place on
 

@@ -6,7 +6,7 @@ use mathlib.Core.Bool.{Bool, true, false}
 use mathlib.Core.List.{List, [], _∷_}
 use lib.Dec.{eqb}
 use lib.ListN.{length, drop}
-use Rattle.codec.specs.Seen.{isSeen}
+use Rattle.codec.specs.Seen.{isSeen, withSeen}
 use Rattle.script.specs.Form.{Command, doEdit, undo}
 use Rattle.script.specs.Struck.{passed}
 
@@ -21,6 +21,11 @@ abbrev pub beginsLive : ℕ → List Command → Bool
 beginsLive p [] = false
 beginsLive p (doEdit e ∷ cs) = eqb (passed p cs) 0
 beginsLive p (undo at ∷ cs) = false
+
+-- a set with one more place, if a test holds
+abbrev pub withPlaceIf : Bool → List ℕ → ℕ → List ℕ
+withPlaceIf true places i = withSeen places i
+withPlaceIf false places i = places
 
 -- the set has no place
 abbrev pub NoPlaces : List ℕ → Type 0

@@ -3,31 +3,39 @@
 use codec::seen;
 use script_scan::command;
 ghost use mathlib.Core.Path.{_≡_};
-ghost use Prim.Native.Nat.{ℕ, _*_, _^_, _≤_};
+ghost use Prim.Native.Nat.{_*_, _≤_, _<_};
+ghost use mathlib.Core.Bool.{false};
 ghost use mathlib.Core.List.{List};
 ghost use lib.ListN.{length, take};
+ghost use Rattle.codec.specs.Seen.{isSeen};
 ghost use Rattle.script.specs.Form.{Command};
 ghost use Rattle.script_scan.specs.Commands.{commandsAt};
-ghost use Rattle.edit.specs.Live.{NoPlaces, UndoPlaces, LivePlaces};
+ghost use Rattle.edit.specs.Live.{withPlaceIf, NoPlaces, UndoPlaces, LivePlaces};
+
+// Adds a place that is not there, if it is that of an UNDO, with no branch that the processor would have to guess.
+fn add_if(places: &mut [u64], place: usize, is_undo: bool)
+    requires { ⌜ (place < 64 * length (now places)) × (isSeen (now places) place ≡ false) ⌝ }
+    ensures { λ _. ⌜ now (places .exit) ≡ withPlaceIf «is_undo» (now (places .entry)) place ⌝ }
+{
+    places[place / 64] += (is_undo as u64) << (place % 64);
+}
 
 // The places of the UNDOs among k commands from `at` on.
 pub fn undos_in(script: &[u8], at: usize, k: usize, undo_places: &mut [u64])
-    requires { ⌜
-        (k ≤ length (commandsAt at (now script))) × (k ≤ 64 * length (now «undo_places»)) × (k ≤ 65_536) × NoPlaces (now «undo_places») ⌝ }
+    requires { ⌜ (k ≤ length (commandsAt at (now script))) × (k ≤ 64 * length (now «undo_places»)) × NoPlaces (now «undo_places») ⌝ }
     ensures { λ _. ⌜ UndoPlaces (now («undo_places» .exit)) (take k (commandsAt at (now (script .entry)))) ⌝ }
 {
     let mut i = at;
     let mut place = 0;
     while place < k {
-        if script[i] == command::UNDO {
-            seen::add_seen(undo_places, place as u32);
-        }
+        add_if(undo_places, place, script[i] == command::UNDO);
         i += 1 + command::operand_bytes(script[i]);
         place += 1;
     }
 }
 
-// The places of the live edits among k commands, from the last to the first: an UNDO is pending until an edit before it is struck.
+// The places of the live edits among k commands, from the last to the first: an UNDO is pending until an edit before it is struck. It
+// counts as 1 and an edit as 0, so that the processor has no branch to guess.
 pub fn live_in(undo_places: &[u64], k: usize, undos: usize, live_places: &mut [u64])
     requires { ⌜ (k ≤ 64 * length (now «live_places»)) × (k ≤ 65_536) × (undos ≤ 65_536) × NoPlaces (now «live_places») ⌝ }
     ensures { λ _. ⌜
@@ -38,12 +46,11 @@ pub fn live_in(undo_places: &[u64], k: usize, undos: usize, live_places: &mut [u
     let mut place = k;
     while 0 < place {
         place -= 1;
-        if seen::is_seen(undo_places, place as u32) {
-            pending += 1;
-        } else if 0 < pending {
-            pending -= 1;
-        } else {
+        let undo = seen::is_seen(undo_places, place as u32) as usize;
+        if pending + undo == 0 {
             seen::add_seen(live_places, place as u32);
+        } else {
+            pending = pending + 2 * undo - 1;
         }
     }
 }

@@ -35,7 +35,7 @@ const ORDER_SLOTS: usize = 2_048;
 const IDS: usize = 65_536;
 
 // How many UNDOs are pending before k commands from `at` on, with so many behind them: `kept` counts the edits that are not
-// yet struck, `over` the UNDOs that find nothing among them to strike.
+// yet struck, `over` the UNDOs that find nothing among them to strike; with no branch that the processor would have to guess.
 fn pending_before(script: &[u8], at: usize, k: usize, undos: usize) -> usize
     requires { ⌜ (k ≤ length (commandsAt at (now script))) × (undos ≤ length (now script)) ⌝ }
     ensures { λ r. ⌜ r ≡ passed undos (take k (commandsAt at (now (script .entry)))) ⌝ }
@@ -45,13 +45,10 @@ fn pending_before(script: &[u8], at: usize, k: usize, undos: usize) -> usize
     let mut i = at;
     let mut left = k;
     while 0 < left {
-        if script[i] != command::UNDO {
-            kept += 1;
-        } else if kept == 0 {
-            over += 1;
-        } else {
-            kept -= 1;
-        }
+        let undo = (script[i] == command::UNDO) as usize;
+        let unmet = (kept < undo) as usize;
+        over += unmet;
+        kept = kept + 1 + unmet - 2 * undo;
         i += 1 + command::operand_bytes(script[i]);
         left -= 1;
     }

@@ -1,12 +1,16 @@
 -- What the pass over UNDOs counts: only the number of kept edits matters, and with each command that is passed it is one more (an
 -- edit) or one less (an UNDO). Assumes nothing.
-use mathlib.Core.Path.{_≡_, refl, ap}
-use mathlib.Core.Bool.{not}
+use mathlib.Core.Path.{_≡_, refl, ap, _∙_}
+use mathlib.Core.Bool.{Bool, true, false, not}
+use mathlib.Core.Logic.{⊎-elim}
 use mathlib.Core.List.{List, [], _∷_}
-use Prim.Native.Nat.{ℕ, zero, suc, _+_, _-_}
+use Prim.Native.Nat.{ℕ, zero, suc, _+_, _-_, _*_, _≤_, _<_}
 use native.Mathlib.Omega.{arith}
-use lib.Dec.{T}
+use mir.Val.{boolByte}
+use borrow.Author.Tests.{eq-eqb, ne-eqb}
+use lib.Dec.{T, eqb}
 use lib.ListN.{length, getD}
+use Rattle.eit.proofs.Test.{eq-or-not}
 use Rattle.script.specs.Form.{Edit, Command, doEdit, undo, operandBytes}
 use Rattle.script.specs.Struck.{unstruckIn, strike}
 use Rattle.script_scan.specs.Commands.{strikesTold, isWholeAt, commandsAt}
@@ -47,17 +51,47 @@ strikes-stop kept at script t = rw (commands-stop at script t)
 module _ (kept at : ℕ) (script : List ℕ) (next : ℕ)
     (e : next ≡ at + (1 + operandBytes (getD script at 0)))
     (whole : T (isWholeAt at script)) where
-  pub strikes-edit : (getD script at 0 ≡ 0x04 → ⊥)
+  strikes-edit : (getD script at 0 ≡ 0x04 → ⊥)
       → strikesAfter kept (commandsAt at script) ≡ strikesAfter (kept + 1) (commandsAt next script)
   strikes-edit n =
       let (f, is) = commands-edit at script next e whole n in
       let more : kept + 1 ≡ suc kept = omega arith in
       rw (is, more)
 
-  pub strikes-undo : getD script at 0 ≡ 0x04
+  strikes-undo : getD script at 0 ≡ 0x04
       → (kept ≡ 0 → ⊥)
       → strikesAfter kept (commandsAt at script) ≡ strikesAfter (kept - 1) (commandsAt next script)
   strikes-undo h n = rw (commands-undo at script next e whole h) (strikes-less kept at (commandsAt next script) n)
 
-  pub strikes-nothing : getD script at 0 ≡ 0x04 → kept ≡ 0 → strikesAfter kept (commandsAt at script) ≡ NothingAt at
-  strikes-nothing h none = rw (commands-undo at script next e whole h, none)
+  strikes-none : getD script at 0 ≡ 0x04 → kept ≡ 0 → strikesAfter kept (commandsAt at script) ≡ NothingAt at
+  strikes-none h none = rw (commands-undo at script next e whole h, none)
+
+  -- as the code counts, 1 for an UNDO and 0 for an edit
+  abbrev undos : ℕ
+  undos = boolByte (eqb (getD script at 0) 0x04)
+
+  one : getD script at 0 ≡ 0x04 → undos ≡ 1
+  one h = ap boolByte (eq-eqb (getD script at 0) 0x04 h)
+
+  no : (getD script at 0 ≡ 0x04 → ⊥) → undos ≡ 0
+  no n = ap boolByte (ne-eqb (getD script at 0) 0x04 n)
+
+  pub strikes-nothing : kept < undos → strikesAfter kept (commandsAt at script) ≡ NothingAt at
+  strikes-nothing less =
+      ⊎-elim (λ h. strikes-none h (omega (arith, one h))) (λ n. absurd (omega (arith, no n))) (eq-or-not (getD script at 0) 0x04)
+
+  pub strikes-on : undos ≤ kept
+      → strikesAfter kept (commandsAt at script) ≡ strikesAfter (kept + 1 - 2 * undos) (commandsAt next script)
+  strikes-on enough =
+      ⊎-elim
+      (λ h.
+      let less : kept - 1 ≡ kept + 1 - 2 * undos = omega (arith, one h) in
+      strikes-undo h (λ z. omega (arith, one h)) ∙ ap (λ (k : ℕ). strikesAfter k (commandsAt next script)) less)
+      (λ n.
+      let more : kept + 1 ≡ kept + 1 - 2 * undos = omega (arith, no n) in
+      strikes-edit n ∙ ap (λ (k : ℕ). strikesAfter k (commandsAt next script)) more)
+      (eq-or-not (getD script at 0) 0x04)
+
+pub byte-few : (b : Bool) → boolByte b ≤ 1
+byte-few true = omega arith
+byte-few false = omega arith

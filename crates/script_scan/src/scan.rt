@@ -48,20 +48,19 @@ pub fn form_of(script: &[u8]) -> Form
     Form::Whole(count)
 }
 
-// Whether each UNDO has something to strike: `kept` counts the edits that are not yet struck.
+// Whether each UNDO has something to strike: `kept` counts the edits that are not yet struck, one more for an edit and one less for an
+// UNDO, with no branch between the two that the processor would have to guess.
 pub fn strikes_in(script: &[u8]) -> Strikes
     ensures { λ r. ⌜ r ≡ strikesTold (unstruckIn (commandsAt 0 (now (script .entry)))) ⌝ }
 {
     let mut kept: usize = 0;
     let mut at = 0;
     while is_whole_at(script, at) {
-        if script[at] != command::UNDO {
-            kept += 1;
-        } else if kept == 0 {
+        let undo = (script[at] == command::UNDO) as usize;
+        if kept < undo {
             return Strikes::NothingAt(at);
-        } else {
-            kept -= 1;
         }
+        kept = kept + 1 - 2 * undo;
         at += 1 + command::operand_bytes(script[at]);
     }
     Strikes::Enough

@@ -1,11 +1,11 @@
 -- `live::live_in` meets its contract. The loop's invariant: the pass stands before `place` as `StruckFrom` says. The measure is the place.
 -- Assumes nothing.
-use mathlib.Core.Path.{sym, _∙_}
 use Prim.Native.Nat.{_≤_}
 use native.Mathlib.Omega.{arith}
 use denote.Ref.{now}
 use borrow.Author.Needs.{needs}
-use Rattle.edit.proofs.LiveLaws.{StruckFrom, struck-none, struck-all, struck-undo, struck-edit, struck-live}
+use Rattle.script_scan.proofs.StrikeLaws.{byte-few}
+use Rattle.edit.proofs.LiveLaws.{StruckFrom, struck-none, struck-all, struck-on, struck-live}
 use Rattle.edit.proofs.live.live_in.Statement.{statement}
 use Rattle.edit.proofs.live.live_in.Tie as tie
 
@@ -39,53 +39,52 @@ cast-is-seen c = omega (arith, small c)
 is-seen-requires : tie.Need-is-seen-requires Inv-loop μ-loop
 is-seen-requires c κs = search needs
 
-add-pending : tie.Need-add-pending Inv-loop μ-loop
-add-pending c = omega (arith, few (c .before .before))
+cast-undo : tie.Need-cast-undo Inv-loop μ-loop
+cast-undo c = search needs
 
-loop-less : tie.Need-loop-less Inv-loop μ-loop
-loop-less c = omega (arith, c .before .before .loop-test .taken)
-
-loop-again : tie.Need-loop-again Inv-loop μ-loop
-loop-again c =
-    let turn = c .before .before in
-    let start = turn .before .before .before .before .args in
-    struck-undo (now (start .undo-places)) (start .k) (start .undos) (now (start .live-places)) (turn .before .loop .inv)
-    (turn .loop-test .taken) (sym (c .before .is-seen .ensures) ∙ c .if1 .taken)
-
-sub-pending : tie.Need-sub-pending Inv-loop μ-loop
-sub-pending c = omega (arith, c .if2 .taken)
-
-loop-less-2 : tie.Need-loop-less-2 Inv-loop μ-loop
-loop-less-2 c = omega (arith, c .before .before .before .loop-test .taken)
-
-loop-again-2 : tie.Need-loop-again-2 Inv-loop μ-loop
-loop-again-2 c =
-    let asked = c .before .before in
-    let turn = asked .before in
-    let start = turn .before .before .before .before .args in
-    struck-edit (now (start .undo-places)) (start .k) (start .undos) (now (start .live-places)) (turn .before .loop .inv)
-    (turn .loop-test .taken) (sym (asked .is-seen .ensures) ∙ c .before .if1 .left) (c .if2 .taken)
+add-if1 : tie.Need-add-if1 Inv-loop μ-loop
+add-if1 c = omega (arith, few (c .before), byte-few (c .is-seen .result))
 
 cast-add-seen : tie.Need-cast-add-seen Inv-loop μ-loop
-cast-add-seen c = omega (arith, small (c .before .before .before .before))
+cast-add-seen c = omega (arith, small (c .before .before .before))
 
 add-seen-requires : tie.Need-add-seen-requires Inv-loop μ-loop
 add-seen-requires c κs = search needs
 
-loop-less-3 : tie.Need-loop-less-3 Inv-loop μ-loop
-loop-less-3 c = omega (arith, c .before .before .before .before .before .before .before .loop-test .taken)
+loop-less : tie.Need-loop-less Inv-loop μ-loop
+loop-less c = omega (arith, c .before .before .before .before .before .before .loop-test .taken)
 
-loop-again-3 : tie.Need-loop-again-3 Inv-loop μ-loop
-loop-again-3 c =
+loop-again : tie.Need-loop-again Inv-loop μ-loop
+loop-again c =
     let added = c .before .before in
     let unpending = added .before .before in
-    let asked = unpending .before .before in
+    let asked = unpending .before in
     let turn = asked .before in
     let entry = turn .before .before .before .before in
     let start = entry .args in
     struck-live (now (start .undo-places)) (start .k) (start .undos) (now (start .live-places)) (turn .before .loop .inv)
-    (turn .loop-test .taken) (sym (asked .is-seen .ensures) ∙ unpending .before .if1 .left) (unpending .if2 .left)
+    (turn .loop-test .taken) (asked .is-seen .result) (asked .is-seen .ensures) (unpending .if1 .taken)
     (omega (arith, turn .before .loop .inv .few, entry .pre .0)) (added .add-seen .ensures)
+
+mul-pending : tie.Need-mul-pending Inv-loop μ-loop
+mul-pending c = omega (arith, byte-few (c .before .is-seen .result))
+
+add-pending : tie.Need-add-pending Inv-loop μ-loop
+add-pending c = omega (arith, few (c .before .before), byte-few (c .before .is-seen .result))
+
+sub-pending : tie.Need-sub-pending Inv-loop μ-loop
+sub-pending c = omega (arith, c .if1 .left)
+
+loop-less-2 : tie.Need-loop-less-2 Inv-loop μ-loop
+loop-less-2 c = omega (arith, c .before .before .loop-test .taken)
+
+loop-again-2 : tie.Need-loop-again-2 Inv-loop μ-loop
+loop-again-2 c =
+    let asked = c .before in
+    let turn = asked .before in
+    let start = turn .before .before .before .before .args in
+    struck-on (now (start .undo-places)) (start .k) (start .undos) (now (start .live-places)) (turn .before .loop .inv)
+    (turn .loop-test .taken) (asked .is-seen .result) (asked .is-seen .ensures) (c .if1 .left)
 
 same-length : tie.Need-same-length Inv-loop μ-loop
 same-length c = search needs
@@ -105,15 +104,16 @@ live-in-spec =
     sub-place
     cast-is-seen
     is-seen-requires
-    add-pending
+    cast-undo
+    add-if1
+    cast-add-seen
+    add-seen-requires
     loop-less
     loop-again
+    mul-pending
+    add-pending
     sub-pending
     loop-less-2
     loop-again-2
-    cast-add-seen
-    add-seen-requires
-    loop-less-3
-    loop-again-3
     same-length
     returns)

@@ -1,8 +1,7 @@
 -- `live::undos_in` meets its contract. The loop's invariant: the command at `place` stands at i, and the set has the UNDOs before it.
 -- The measure is how many places are left. Assumes nothing.
-use mathlib.Core.Path.{_≡_, ap, _∙_}
+use mathlib.Core.Path.{_≡_, ap}
 use mathlib.Core.List.{List}
-use mathlib.Core.Logic.{⊎-elim}
 use Prim.Native.Nat.{ℕ, _+_, _-_, _≤_}
 use native.Mathlib.Omega.{arith}
 use lib.ListN.{length, getD, take, length-take}
@@ -10,8 +9,8 @@ use denote.Ref.{now}
 use borrow.Author.Needs.{needs}
 use Rattle.script.specs.Form.{Command, operandBytes}
 use Rattle.script_scan.specs.Commands.{commandsAt}
-use Rattle.edit.proofs.PlaceLaws.{Stands, stands-first, stands-here, stands-inside, stands-next, begins-undo, begins-edit}
-use Rattle.edit.proofs.PlaceLaws.{Noted, noted-none, noted-edit, noted-undo, noted-all}
+use Rattle.edit.proofs.PlaceLaws.{Stands, stands-first, stands-here, stands-inside, stands-next, begins-is}
+use Rattle.edit.proofs.PlaceLaws.{Noted, noted-none, noted-next, noted-all}
 use Rattle.edit.proofs.live.undos_in.Statement.{statement}
 use Rattle.edit.proofs.live.undos_in.Tie as tie
 
@@ -27,20 +26,22 @@ loop-holds c =
     let entry = c .before .before in
     let start = entry .args in (
       stands-first (now (start .script)) (start .at) (start .k) (entry .pre .0),
-      noted-none (now (start .undo-places)) (take (start .k) (commandsAt (start .at) (now (start .script)))) (entry .pre .3),
+      noted-none (now (start .undo-places)) (take (start .k) (commandsAt (start .at) (now (start .script)))) (entry .pre .2),
     )
 
-shared-slice-read-if1 : tie.Need-shared-slice-read-if1 Inv-loop μ-loop
-shared-slice-read-if1 c = stands-here (c .before .before .loop .inv .0) (c .before .loop-test .taken)
+shared-slice-read-add-if : tie.Need-shared-slice-read-add-if Inv-loop μ-loop
+shared-slice-read-add-if c = stands-here (c .before .before .before .loop .inv .0) (c .before .before .loop-test .taken)
 
-cast-add-seen : tie.Need-cast-add-seen Inv-loop μ-loop
-cast-add-seen c = omega (arith, c .before .before .before .loop-test .taken, c .before .before .before .before .before .before .before .pre .2)
-
-add-seen-requires : tie.Need-add-seen-requires Inv-loop μ-loop
-add-seen-requires c κs = search needs
+add-if-requires : tie.Need-add-if-requires Inv-loop μ-loop
+add-if-requires c κs =
+    let turn = c .before .before in
+    let noted = turn .before .loop .inv .1 in
+    (omega (arith, turn .loop-test .taken, noted .size, turn .before .before .before .before .pre .1), noted .clear (turn .before .loop .place) (omega arith))
 
 shared-slice-read-operand-bytes : tie.Need-shared-slice-read-operand-bytes Inv-loop μ-loop
-shared-slice-read-operand-bytes c = stands-here (c .before .before .before .before .loop .inv .0) (c .before .before .before .loop-test .taken)
+shared-slice-read-operand-bytes c =
+    let turn = c .before .before .before .before .before .before in
+    stands-here (turn .before .loop .inv .0) (turn .loop-test .taken)
 
 operand-bytes-requires : tie.Need-operand-bytes-requires Inv-loop μ-loop
 operand-bytes-requires c κs = search needs
@@ -48,7 +49,7 @@ operand-bytes-requires c κs = search needs
 -- the offset of the next command
 module _ (c : tie.After-operand-bytes Inv-loop μ-loop) where
   abbrev turn : tie.In-loop Inv-loop μ-loop
-  turn = c .before .before .before .before
+  turn = c .before .before .before .before .before .before .before
 
   abbrev next : ℕ
   next = turn .before .loop .i + (1 + c .operand-bytes .result)
@@ -77,14 +78,10 @@ loop-again c =
     let start = head .before .before .before in
     let some = turn c .loop-test .taken in
     let cs : List Command = take (start .args .k) (commandsAt (start .args .at) (now (start .args .script))) in
-    let noted = head .loop .inv .1 in (
-      stands-next (head .loop .inv .0) some (next c) (there c),
-      ⊎-elim
-          (λ w.
-          noted-undo (now (start .args .undo-places)) cs noted (begins-undo (head .loop .inv .0) some (w .0 .taken))
-          (omega (arith, some, start .pre .1)) (w .5 ∙ w .2 .ensures))
-          (λ w. noted-edit (now (start .args .undo-places)) cs noted (begins-edit (head .loop .inv .0) some (w .0 .left)) (w .1))
-          (c .before .before .if1 .came),
+    let stands = head .loop .inv .0 in (
+      stands-next stands some (next c) (there c),
+      noted-next (now (start .args .undo-places)) cs (head .loop .inv .1) _ (begins-is stands some) (omega (arith, some, start .pre .1))
+          (c .before .before .before .before .add-if .ensures),
     )
 
 same-length : tie.Need-same-length Inv-loop μ-loop
@@ -104,9 +101,8 @@ undos-in-spec =
     Inv-loop
     μ-loop
     loop-holds
-    shared-slice-read-if1
-    cast-add-seen
-    add-seen-requires
+    shared-slice-read-add-if
+    add-if-requires
     shared-slice-read-operand-bytes
     operand-bytes-requires
     add-i

@@ -1,12 +1,11 @@
 -- `part::pending_before` meets its contract. The loop's invariant: as many UNDOs are pending before all k commands as come from those
 -- that are left with `kept` edits and `over` UNDOs before them, and each of these is one of the commands passed. The measure is how many
 -- are left. Assumes nothing.
-use mathlib.Core.Path.{_≡_, sym, ap, ap₂, _∙_}
+use mathlib.Core.Path.{_≡_, sym, ap, _∙_}
 use mathlib.Core.List.{List}
-use mathlib.Core.Logic.{⊎-elim}
 use Prim.Native.Nat.{ℕ, _+_, _-_, _≤_, _<_}
 use native.Mathlib.Omega.{arith}
-use lib.Dec.{T}
+use lib.Dec.{T, eqb, ltb}
 use lib.ListN.{length, getD, take}
 use borrow.Author.Needs.{needs}
 use Rattle.script.specs.Form.{operandBytes}
@@ -14,7 +13,8 @@ use Rattle.script.specs.Struck.{passed}
 use Rattle.script_scan.specs.Commands.{isWholeAt, commandsAt}
 use Rattle.script_scan.proofs.CommandLaws.{whole-here, whole-inside}
 use Rattle.script_scan.proofs.PartLaws.{commands-fit, part-whole, count-next}
-use Rattle.edit.proofs.PendingLaws.{pendingAfter, pending-edit, pending-undo, pending-over}
+use Rattle.script_scan.proofs.StrikeLaws.{byte-few}
+use Rattle.edit.proofs.PendingLaws.{pendingAfter, undoByte, unmetByte, pending-room, pending-few, pending-on}
 use Rattle.edit.proofs.part.pending_before.Statement.{statement}
 use Rattle.edit.proofs.part.pending_before.Tie as tie
 
@@ -45,30 +45,48 @@ here : (c : tie.In-loop Inv-loop μ-loop) → c .before .loop .i < length (bytes
 here c = whole-here (c .before .loop .i) (bytes (c .before)) (whole c)
 
 inside : (c : tie.After-operand-bytes Inv-loop μ-loop)
-    → let head = c .before .before .before .before .before in
+    → let head = c .before .before .before .before in
     head .loop .i + (1 + c .operand-bytes .result) ≤ length (bytes head)
 inside c =
-    let turn = c .before .before .before .before in
+    let turn = c .before .before .before in
     omega (arith, whole-inside (turn .before .loop .i) (bytes (turn .before)) (whole turn), c .operand-bytes .ensures)
 
-shared-slice-read-if1 : tie.Need-shared-slice-read-if1 Inv-loop μ-loop
-shared-slice-read-if1 c = here (c .before)
+shared-slice-read-undo : tie.Need-shared-slice-read-undo Inv-loop μ-loop
+shared-slice-read-undo c = here (c .before)
 
-add-kept : tie.Need-add-kept Inv-loop μ-loop
-add-kept c =
-    let turn = c .before .before in
-    omega (arith, few (turn .before), turn .loop-test .taken)
+cast-undo : tie.Need-cast-undo Inv-loop μ-loop
+cast-undo c = search needs
+
+cast-unmet : tie.Need-cast-unmet Inv-loop μ-loop
+cast-unmet c = search needs
+
+-- a turn's counts stay below the script's length
+unmet-few : (c : tie.In-loop Inv-loop μ-loop) → unmetByte (c .before .loop .kept) (getD (bytes (c .before)) (c .before .loop .i) 0) ≤ 1
+unmet-few c = byte-few (ltb (c .before .loop .kept) (undoByte (getD (bytes (c .before)) (c .before .loop .i) 0)))
 
 add-over : tie.Need-add-over Inv-loop μ-loop
 add-over c =
-    let turn = c .before .before .before in
+    let turn = c .before in
+    omega (arith, few (turn .before), turn .loop-test .taken, unmet-few turn)
+
+add-kept : tie.Need-add-kept Inv-loop μ-loop
+add-kept c =
+    let turn = c .before in
     omega (arith, few (turn .before), turn .loop-test .taken)
 
+add-kept-2 : tie.Need-add-kept-2 Inv-loop μ-loop
+add-kept-2 c =
+    let turn = c .before in
+    omega (arith, here turn, few (turn .before), turn .loop-test .taken, unmet-few turn)
+
+mul-kept : tie.Need-mul-kept Inv-loop μ-loop
+mul-kept c = omega (arith, byte-few (eqb (getD (bytes (c .before .before)) (c .before .before .loop .i) 0) 0x04))
+
 sub-kept : tie.Need-sub-kept Inv-loop μ-loop
-sub-kept c = omega (arith, c .if2 .left)
+sub-kept c = pending-room (c .before .before .loop .kept) (getD (bytes (c .before .before)) (c .before .before .loop .i) 0)
 
 shared-slice-read-operand-bytes : tie.Need-shared-slice-read-operand-bytes Inv-loop μ-loop
-shared-slice-read-operand-bytes c = here (c .before .before .before)
+shared-slice-read-operand-bytes c = here (c .before .before)
 
 operand-bytes-requires : tie.Need-operand-bytes-requires Inv-loop μ-loop
 operand-bytes-requires c κs = search needs
@@ -87,43 +105,19 @@ loop-less c = omega arith
 
 loop-again : tie.Need-loop-again Inv-loop μ-loop
 loop-again c =
-    let turn = c .before .before .before .before in
+    let turn = c .before .before .before in
     let head = turn .before in
-    let start = head .before .before .args in
     let i : ℕ = head .loop .i in
-    let over : ℕ = head .loop .over in
-    let kept : ℕ = head .loop .kept in
-    let left : ℕ = head .loop .left in
+    let code : ℕ = getD (bytes head) i 0 in
     let next : ℕ = i + (1 + c .operand-bytes .result) in
-    let there : next ≡ i + (1 + operandBytes (getD (bytes head) i 0)) = ap (λ (n : ℕ). i + (1 + n)) (c .operand-bytes .ensures) in
-    let some : 0 < left = turn .loop-test .taken in
-    let fewer : left - 1 ≤ length (commandsAt next (bytes head)) =
-    omega (arith, head .loop .inv .0, count-next (bytes head) i next there (whole turn)) in
-    let counts : ℕ → ℕ → ℕ = λ o n. pendingAfter o n (start .undos) (take (left - 1) (commandsAt next (bytes head))) in
-    ⊎-elim
-    (λ w. (
-      fewer,
-      omega (arith, head .loop .inv .1, some, w .1, w .2),
+    let there : next ≡ i + (1 + operandBytes code) = ap (λ (n : ℕ). i + (1 + n)) (c .operand-bytes .ensures) in
+    let some : 0 < head .loop .left = turn .loop-test .taken in (
+      omega (arith, head .loop .inv .0, some, count-next (bytes head) i next there (whole turn)),
+      omega (arith, head .loop .inv .1, some, pending-few (head .loop .kept) code (head .loop .over)),
       head .loop .inv .2
-          ∙ pending-edit over kept (start .undos) left i (bytes head) next there (whole turn) some (w .0 .taken)
-          ∙ ap₂ counts (sym (w .1)) (sym (w .2)),
-    ))
-    (⊎-elim
-    (λ w. (
-      fewer,
-      omega (arith, head .loop .inv .1, some, w .2, w .3),
-      head .loop .inv .2
-          ∙ pending-over over kept (start .undos) left i (bytes head) next there (whole turn) some (w .0 .left) (w .1 .taken)
-          ∙ ap₂ counts (sym (w .2)) (sym (w .3)),
-    ))
-    (λ w. (
-      fewer,
-      omega (arith, head .loop .inv .1, some, w .2, w .3),
-      head .loop .inv .2
-          ∙ pending-undo over kept (start .undos) left i (bytes head) next there (whole turn) some (w .0 .left) (w .1 .left)
-          ∙ ap₂ counts (sym (w .2)) (sym (w .3)),
-    )))
-    (c .before .before .if1 .came)
+          ∙ pending-on (head .loop .over) (head .loop .kept) (head .before .before .args .undos) (head .loop .left) i (bytes head) next there
+          (whole turn) some,
+    )
 
 -- no command is left
 ended : (c : tie.After-loop Inv-loop μ-loop)
@@ -138,7 +132,7 @@ ended c =
     ∙ ap (λ (k : ℕ). pendingAfter (head .loop .over) (head .loop .kept) (start .undos) (take k (commandsAt (head .loop .i) (bytes head)))) none
 
 returns : tie.Need-returns Inv-loop μ-loop
-returns c = omega (arith, ended (c .before), c .if3 .taken)
+returns c = omega (arith, ended (c .before), c .if1 .taken)
 
 sub-result : tie.Need-sub-result Inv-loop μ-loop
 sub-result c = omega arith
@@ -156,9 +150,13 @@ pending-before-spec =
     Inv-loop
     μ-loop
     loop-holds
-    shared-slice-read-if1
-    add-kept
+    shared-slice-read-undo
+    cast-undo
+    cast-unmet
     add-over
+    add-kept
+    add-kept-2
+    mul-kept
     sub-kept
     shared-slice-read-operand-bytes
     operand-bytes-requires

@@ -15,7 +15,7 @@ slice-aggregate-undos-in c = search needs
 undos-in-requires : tie.Need-undos-in-requires
 undos-in-requires c κs =
     let entry = c .before .before .before .before .before in
-    (entry .pre .1, omega (arith, entry .pre .2, length-replicate {A = ℕ} 1_024 0), entry .pre .2, seen-none 1_024)
+    (entry .pre .1, omega (arith, entry .pre .2, length-replicate {A = ℕ} 1_024 0), seen-none 1_024)
 
 slice-aggregate-live-in : tie.Need-slice-aggregate-live-in
 slice-aggregate-live-in c = search needs

@@ -1,6 +1,6 @@
 -- `scan::form_of` meets its contract. The loop's invariant: the script has the form that it has from `at` on with those counted in
 -- front, and each that is counted has a byte before `at`. The measure is what is left of the length. Assumes nothing.
-use mathlib.Core.Path.{_≡_, refl, sym, ap, _∙_}
+use mathlib.Core.Path.{_≡_, sym, ap, _∙_}
 use mathlib.Core.List.{List}
 use Prim.Native.Nat.{ℕ, _+_, _-_, _≤_}
 use native.Mathlib.Nat.{add-zero}

@@ -2,18 +2,17 @@
 -- edits before them, of which there are at most `at`. The measure is what is left of the length. Assumes nothing.
 use mathlib.Core.Path.{_≡_, refl, sym, ap, _∙_}
 use mathlib.Core.List.{List}
-use mathlib.Core.Logic.{⊎-elim}
 use Prim.Native.Nat.{ℕ, _+_, _-_, _≤_, _<_}
 use native.Mathlib.Omega.{arith}
-use lib.Dec.{T}
+use lib.Dec.{T, eqb}
+use mir.Val.{boolByte}
 use lib.ListN.{length, getD}
 use borrow.Author.Needs.{needs}
 use Rattle.script.specs.Form.{operandBytes}
 use Rattle.script.specs.Struck.{unstruckIn}
 use Rattle.script_scan.specs.Commands.{strikesTold, isWholeAt, commandsAt}
-use Rattle.script_scan.specs.declared.scan.Strikes.{Strikes}
 use Rattle.script_scan.proofs.CommandLaws.{whole-holds, whole-fails, whole-here, whole-inside}
-use Rattle.script_scan.proofs.StrikeLaws.{strikesAfter, strikes-all, strikes-edit, strikes-undo, strikes-nothing, strikes-stop}
+use Rattle.script_scan.proofs.StrikeLaws.{strikesAfter, strikes-all, strikes-nothing, strikes-on, strikes-stop, byte-few}
 use Rattle.script_scan.proofs.scan.strikes_in.Statement.{statement}
 use Rattle.script_scan.proofs.scan.strikes_in.Tie as tie
 
@@ -49,22 +48,34 @@ inside c =
     let head = c .before .before .before .before .before .before in
     omega (arith, whole-inside (head .loop .at) (bytes head) (whole (c .before .before .before .before)), c .operand-bytes .ensures)
 
-shared-slice-read-if2 : tie.Need-shared-slice-read-if2 Inv-loop μ-loop
-shared-slice-read-if2 c = here (c .before)
+shared-slice-read-undo : tie.Need-shared-slice-read-undo Inv-loop μ-loop
+shared-slice-read-undo c = here (c .before)
 
-add-kept : tie.Need-add-kept Inv-loop μ-loop
-add-kept c = omega (arith, here (c .before .before))
+cast-undo : tie.Need-cast-undo Inv-loop μ-loop
+cast-undo c = search needs
 
 returns : tie.Need-returns Inv-loop μ-loop
 returns c =
-    let turn = c .before .before .before in
+    let turn = c .before .before in
     let head = turn .before .before in
     let at : ℕ = head .loop .at in
     let next : ℕ = at + (1 + operandBytes (getD (bytes head) at 0)) in
-    sym (head .loop .inv .1 ∙ strikes-nothing (head .loop .kept) at (bytes head) next refl (whole turn) (c .before .if2 .left) (c .if3 .taken))
+    sym (head .loop .inv .1 ∙ strikes-nothing (head .loop .kept) at (bytes head) next refl (whole turn) (c .if2 .taken))
+
+-- 1 for an UNDO, 0 for an edit
+few : (c : tie.Else2 Inv-loop μ-loop)
+    → let head = c .before .before .before .before in
+    boolByte (eqb (getD (bytes head) (head .loop .at) 0) 0x04) ≤ 1
+few c = byte-few (eqb (getD (bytes (c .before .before .before .before)) (c .before .before .before .before .loop .at) 0) 0x04)
+
+add-kept : tie.Need-add-kept Inv-loop μ-loop
+add-kept c = omega (arith, c .before .before .before .before .loop .inv .0, here (c .before .before))
+
+mul-kept : tie.Need-mul-kept Inv-loop μ-loop
+mul-kept c = omega (arith, few c)
 
 sub-kept : tie.Need-sub-kept Inv-loop μ-loop
-sub-kept c = omega (arith, c .if3 .left)
+sub-kept c = omega (arith, few c, c .if2 .left)
 
 shared-slice-read-operand-bytes : tie.Need-shared-slice-read-operand-bytes Inv-loop μ-loop
 shared-slice-read-operand-bytes c = here (c .before .before .before)
@@ -83,23 +94,15 @@ loop-less c = omega (arith, inside c)
 
 loop-again : tie.Need-loop-again Inv-loop μ-loop
 loop-again c =
-    let turn = c .before .before .before .before in
+    let enough = c .before .before in
+    let turn = enough .before .before in
     let head = turn .before .before in
     let at : ℕ = head .loop .at in
-    let kept : ℕ = head .loop .kept in
     let next : ℕ = at + (1 + c .operand-bytes .result) in
-    let there : next ≡ at + (1 + operandBytes (getD (bytes head) at 0)) = ap (λ (n : ℕ). at + (1 + n)) (c .operand-bytes .ensures) in
-    let says : ℕ → Strikes = λ k. strikesAfter k (commandsAt next (bytes head)) in
-    ⊎-elim
-    (λ w. (
-      omega (arith, w .1),
-      head .loop .inv .1 ∙ strikes-edit kept at (bytes head) next there (whole turn) (w .0 .taken) ∙ ap says (sym (w .1)),
-    ))
-    (λ w. (
-      omega (arith, w .2),
-      head .loop .inv .1 ∙ strikes-undo kept at (bytes head) next there (whole turn) (w .0 .left) (w .1 .left) ∙ ap says (sym (w .2)),
-    ))
-    (c .before .before .if2 .came)
+    let there : next ≡ at + (1 + operandBytes (getD (bytes head) at 0)) = ap (λ (n : ℕ). at + (1 + n)) (c .operand-bytes .ensures) in (
+      omega (arith, head .loop .inv .0),
+      head .loop .inv .1 ∙ strikes-on (head .loop .kept) at (bytes head) next there (whole turn) (enough .if2 .left),
+    )
 
 returns-2 : tie.Need-returns-2 Inv-loop μ-loop
 returns-2 c =
@@ -116,9 +119,11 @@ strikes-in-spec =
     μ-loop
     loop-holds
     is-whole-at-requires
-    shared-slice-read-if2
-    add-kept
+    shared-slice-read-undo
+    cast-undo
     returns
+    add-kept
+    mul-kept
     sub-kept
     shared-slice-read-operand-bytes
     operand-bytes-requires
