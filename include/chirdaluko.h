@@ -12,7 +12,7 @@
  * Nothing else is asked: counts, base days, list contents and files may be any at all, and a refusal says what is wrong.
  *
  * No call allocates, keeps a pointer, has a state or prints, so calls that write to different buffers may run at the same
- * time. Each runs on the caller's stack, Edit with some 300 KB of it: docs/MANUAL.md, "Stack", has the figures. The library is
+ * time. Each runs on the caller's stack, Edit with some 370 KB of it: docs/MANUAL.md, "Stack", has the figures. The library is
  * for x86-64 Linux, and of the C library it needs memcpy, memmove, memset and memcmp at most. */
 #ifndef CHIRDALUKO_H
 #define CHIRDALUKO_H

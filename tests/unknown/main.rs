@@ -62,6 +62,9 @@ fn main() {
         }
     }
 
+    // 27 is Read's alone.
+    panics(checked, 27, 7, 0, 0);
+
     // A value that the number does not come with.
     panics(edited, 0, 7, 8, 0);
     panics(edited, 12, 7, 7, 0);

@@ -1,4 +1,4 @@
--- Some dates, computed; and each day of the annex's range has the date after that of the day before, by a computed
+-- Some dates, computed; and each day of the annex's range but the first has the date after that of the day before, by a computed
 -- test of every day. Assumes nothing.
 use Prim.Native.Nat.{ℕ, zero, suc, _+_, _-_, _<_}
 use mathlib.Core.Bool.{Bool, true, _&&_}

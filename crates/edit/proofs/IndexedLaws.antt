@@ -78,7 +78,8 @@ module _ (limit : ℕ) (day series list slots order ids : List ℕ) (count used 
       → does a ≡ record { number = number; value = at; list = stands }
   refuses a number q = one-refused (limitedTo limit) (lentPools day series) stands (record { at = at; act = a }) number q
 
-  pub stays : (a : Act) (answer : EditAnswer) → does a ≡ told (record { answer = answer; count = count }) (indexedNumbers list slots order count)
+  pub stays : (a : Act) (answer : EditAnswer)
+      → does a ≡ told (record { answer = answer; count = count }) (indexedNumbers list slots order count)
       → Leaves (does a) (record { answer = answer; count = count; used = used }) list slots order ids
   stays a answer q = record { says = q; index = k .index; fits = k .fits }
 
@@ -150,7 +151,8 @@ module _ (limit : ℕ) (day series list slots order ids : List ℕ) (count used 
 
     -- ---- WITHDRAW
 
-    pub withdraw-absent : number ≡ 0 → Leaves (does (withdraw id)) (record { answer = WrongId at; count = count; used = used }) list slots order ids
+    pub withdraw-absent : number ≡ 0
+        → Leaves (does (withdraw id)) (record { answer = WrongId at; count = count; used = used }) list slots order ids
     withdraw-absent none =
         stays (withdraw id) (WrongId at)
         (refuses (withdraw id) 6 (withdraw-6 (limitedTo limit) (lentPools day series) stands id (rw stands-records (absent none))))
@@ -178,7 +180,9 @@ module _ (limit : ℕ) (day series list slots order ids : List ℕ) (count used 
         (ap (λ (l : List ℕ). indexedNumbers l slots newOrder (count - 1)) clears
         ∙ ap (λ (qs : List Record). overwrite last 0 (numbersOfAll qs)) (out-records some event is place at-place newOrder newIds out)) in
         let next : afterWithdraw stands id ≡ indexedList newList slots newOrder (count - 1) =
-        ap (λ (qs : List Record). lentList (overwrite (indexedNumbers list slots order count) 0 (numbersOfAll (without id qs ++ (zeroRecord ∷ [])))) (count - 1))
+        ap
+        (λ (qs : List Record).
+        lentList (overwrite (indexedNumbers list slots order count) 0 (numbersOfAll (without id qs ++ (zeroRecord ∷ [])))) (count - 1))
         stands-records
         ∙ ap (λ (ns : List ℕ). lentList ns (count - 1)) numbers in
         passes (withdraw id) (afterWithdraw stands id) (withdraw-passes (limitedTo limit) (lentPools day series) stands id a)

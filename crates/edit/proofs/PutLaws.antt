@@ -51,7 +51,8 @@ module _ (limit : ℕ) (day series list slots order ids : List ℕ) (count used 
   -- a refusal
   abbrev Refused : EditAnswer → Type 0
   Refused answer =
-      Leaves (does limit day series list slots order ids count used k at (put r)) (record { answer = answer; count = count; used = used }) list slots order ids
+      Leaves (does limit day series list slots order ids count used k at (put r)) (record { answer = answer; count = count; used = used })
+      list slots order ids
 
   pub put-outside : inRange r ≡ false → Refused (OutOfRange at)
   put-outside e =

@@ -1,10 +1,13 @@
 // The unstruck edits of a part of a script are carried out in order (01, "Edit"); a refusal leaves the list as the earlier edits made it.
 use crate::index;
+use crate::index::SLOT_LIMIT;
 use crate::indexed;
 use crate::live;
 use codec::seen;
 use edit_answer::EditAnswer;
 use edit_answer::Edited;
+use eit::sizes::EVENT_LIMIT;
+use event_list::records::RECORD_SIZE;
 use script_scan::command;
 use script_scan::scan;
 ghost use mathlib.Core.Path.{_≡_};
@@ -27,11 +30,7 @@ pub const PLACES: usize = 262_144;
 
 pub const PLACE_WORDS: usize = 4_096;
 
-// Numbers in the slots of an index, slots in its order, and ids.
-const SLOT_NUMBERS: usize = 24_576;
-
-const ORDER_SLOTS: usize = 2_048;
-
+// Ids, 0 to 65,535.
 const IDS: usize = 65_536;
 
 // How many UNDOs are pending before k commands from `at` on, with so many behind them: `kept` counts the edits that are not
@@ -145,8 +144,8 @@ pub fn run_live<'a>(
         (now (script .entry))
         ≡ told r (now (list .exit))) ⌝ }
 {
-    let mut slots = [0u32; SLOT_NUMBERS];
-    let mut order = [0u16; ORDER_SLOTS];
+    let mut slots = [0u32; SLOT_LIMIT * RECORD_SIZE];
+    let mut order = [0u16; EVENT_LIMIT];
     let mut ids = [0u16; IDS];
     index::load(list, count, &mut slots, &mut order, &mut ids);
     let r = run_indexed(

@@ -5,7 +5,7 @@ use mathlib.Core.Bool.{not}
 use Prim.Native.Nat.{ℕ, suc, _≤_, _<_}
 use native.Mathlib.Omega.{arith}
 use mathlib.Core.List.{List, [], _∷_}
-use lib.Dec.{T, not-T, eqb, ltb}
+use lib.Dec.{T, eqb, ltb}
 use lib.ListN.{length}
 use Rattle.eit.specs.Among.{isAmong}
 use Rattle.eit.specs.Find.{indexOf, placeOf}
@@ -49,6 +49,3 @@ index-among id (r ∷ rs) h =
     ⊎-elim (λ t. or-left (eqb id (r .id)) (isAmong id (idsOf rs)) t)
     (λ t. or-right (eqb id (r .id)) (isAmong id (idsOf rs)) (index-among id rs (omega (arith, index-later id r rs t))))
     (test-or (eqb id (r .id)))
-
-pub index-absent : (id : ℕ) (rs : List Record) → length rs ≤ indexOf id rs → T (not (isAmong id (idsOf rs)))
-index-absent id rs h = not-T (isAmong id (idsOf rs)) (λ a. omega (arith, index-length id rs a))

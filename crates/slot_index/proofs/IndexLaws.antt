@@ -27,7 +27,8 @@ use Rattle.slot_index.specs.Index.{slotLimit, orderLimit, idLimit, slotR
 use Rattle.slot_index.specs.Order.{withSlot, withoutSlot}
 use Rattle.slot_index.proofs.OrderLaws.{with-length, with-around, without-length, without-around}
 use Rattle.slot_index.proofs.SlotLaws.{below-more, below-at, below-insert, below-leave, map-insert, map-leave, map-at}
-use Rattle.slot_index.proofs.SlotLaws.{slot-insert-other, slot-insert-same, slot-leave-other, slot-none, slot-some, slot-absent, slot-present}
+use Rattle.slot_index.proofs.SlotLaws.{slot-insert-other, slot-insert-same, slot-leave-other}
+use Rattle.slot_index.proofs.SlotLaws.{slot-none, slot-some, slot-absent, slot-present}
 use Rattle.slot_index.proofs.SlotLaws.{records-same, slot-same}
 
 -- ---- a record written into a slot

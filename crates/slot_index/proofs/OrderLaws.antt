@@ -62,7 +62,8 @@ module _ (order : List ℕ) (count place slot : ℕ) where
         simp length-append (omega (arith, moved-length, length-take-le place order (omega arith))) in
         ap (take (count + 1)) with-is
         ∙ take-at (take place order ++ slot ∷ moved) (drop (place + length (slot ∷ moved)) order) (count + 1) size
-        ∙ ap₂ (λ (xs ys : List ℕ). xs ++ slot ∷ ys) (sym (take-take place count order there)) (sym (drop-take place count order there (omega arith)))
+        ∙ ap₂ (λ (xs ys : List ℕ). xs ++ slot ∷ ys) (sym (take-take place count order there))
+        (sym (drop-take place count order there (omega arith)))
         ∙ ap (λ (xs : List ℕ). take place xs ++ slot ∷ drop place xs) (sym is)
 
 -- ---- a slot taken out

@@ -59,7 +59,8 @@ loop-again : tie.Need-loop-again Inv-loop μ-loop
 loop-again c =
     let loop = c .before .before .loop in
     let args = c .before .before .before .before .before .args in
-    let moved = up-step (args .order .now) (args .count) (omega arith) (loop .order) (loop .k) (loop .k - 1) (loop .inv .2) (omega arith) (omega arith) in
+    let moved =
+    up-step (args .order .now) (args .count) (omega arith) (loop .order) (loop .k) (loop .k - 1) (loop .inv .2) (omega arith) (omega arith) in
     (omega arith, omega arith, moved, simp length-set (loop .inv .3))
 
 mul-order-3 : tie.Need-mul-order-3 Inv-loop μ-loop

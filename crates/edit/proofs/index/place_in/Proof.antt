@@ -34,8 +34,10 @@ start-at-requires c κs =
     place-few (now (start .args .slots)) (now (start .args .order)) (start .args .count) (start .pre) (start .args .start) (found .result)
     (found .ensures) in
     let some = c .if1 .left in
-    let within : found .result - 1 < start .args .count = omega (arith, some) in
-    (omega (arith, start .pre .few), slot-in (now (start .args .slots)) (now (start .args .order)) (start .args .count) (start .pre) (found .result - 1) within)
+    let within : found .result - 1 < start .args .count = omega (arith, some) in (
+      omega (arith, start .pre .few),
+      slot-in (now (start .args .slots)) (now (start .args .order)) (start .args .count) (start .pre) (found .result - 1) within,
+    )
 
 returns-2 : tie.Need-returns-2
 returns-2 c =

@@ -24,7 +24,8 @@ load-requires c κs =
     let start = stored .before .before .before .before .before .before .before .before .before in
     let x = start .pre .index in (
       stored-loadable _ _ _ _ _ _ (start .pre) _ (stored .store .ensures),
-      subst (λ (zeros : List ℕ). Index (now (start .args .slots)) (now (start .args .order)) zeros 0 0) (sym (c .before .before .before .before .before .before .clear .ensures))
+      subst (λ (zeros : List ℕ). Index (now (start .args .slots)) (now (start .args .order)) zeros 0 0)
+          (sym (c .before .before .before .before .before .before .clear .ensures))
           (index-zeros _ _ _ (x .slotsSize) (x .orderSize) (x .idsSize)),
     )
 
@@ -42,9 +43,10 @@ same-length-4 c = search needs
 
 returns-2 : tie.Need-returns-2
 returns-2 c =
-    let stored = c .before .before .before .before .before .before .before .before .before .before .before .before .before .before .before .before .before in
+    let loads = c .before .before .before .before .before .before in
+    let stored = loads .before .before .before .before .before .before .before .before .before .before .before in
     let start = stored .before .before .before .before .before .before .before .before .before in
-    renewed _ _ _ _ _ _ (start .pre) _ (stored .store .ensures) _ _ _ (c .before .before .before .before .before .before .load .ensures)
+    renewed _ _ _ _ _ _ (start .pre) _ (stored .store .ensures) _ _ _ (loads .load .ensures)
 
 pub renew-spec : {M : Type 1} → statement M
 renew-spec =

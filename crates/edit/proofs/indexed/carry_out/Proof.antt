@@ -33,12 +33,15 @@ same-length-4 c = search needs
 
 returns : tie.Need-returns
 returns c =
-    let anew = c .before .before .before .before .before .before .before .before .before .before .before .before .before .before .before .before .before .before .before .before .before in
+    let done = c .before .before .before .before .before .before .before .before in
+    let anew = done .before .before .before .before .before .before .before .before .before .before .before .before .before in
     let start = anew .before .before .before .before .before .before .before .before .before .before .before .args in
     leaves-same
-    (ap (λ (list : EventList). runOne (start .event-limit) (now (start .day)) (now (start .series)) list (commandTold (start .at) (start .command)))
+    (ap
+    (λ (list : EventList).
+    runOne (start .event-limit) (now (start .day)) (now (start .series)) list (commandTold (start .at) (start .command)))
     (anew .renew .ensures .same))
-    (c .before .before .before .before .before .before .before .before .carry-out-indexed .ensures)
+    (done .carry-out-indexed .ensures)
 
 pub carry-out-spec : {M : Type 1} → statement M
 carry-out-spec =

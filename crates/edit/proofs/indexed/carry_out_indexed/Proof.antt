@@ -41,7 +41,9 @@ same-length-4 : tie.Need-same-length-4
 same-length-4 c = search needs
 
 returns : tie.Need-returns
-returns c = rw (c .before .before .before .before .before .before .before .before .before .before .before .before .command .given .1) (c .before .before .before .before .before .before .put-indexed .ensures)
+returns c =
+    let done = c .before .before .before .before .before .before in
+    rw (done .before .before .before .before .before .before .command .given .1) (done .put-indexed .ensures)
 
 same-length-5 : tie.Need-same-length-5
 same-length-5 c = search needs
@@ -57,8 +59,10 @@ same-length-8 c = search needs
 
 returns-2 : tie.Need-returns-2
 returns-2 c =
-    let start = c .before .before .before .before .before .before .before .before .before .before .before .before .before .before .before .before .before .before .before .before .args in
-    rw (c .before .before .before .before .before .before .before .before .before .before .before .before .command2 .given .1) (c .before .before .before .before .before .before .withdraw-indexed .ensures (start .event-limit) (now (start .day)) (now (start .series)))
+    let done = c .before .before .before .before .before .before in
+    let case = done .before .before .before .before .before .before in
+    let start = case .before .before .before .before .before .before .before .before .args in
+    rw (case .command2 .given .1) (done .withdraw-indexed .ensures (start .event-limit) (now (start .day)) (now (start .series)))
 
 same-length-9 : tie.Need-same-length-9
 same-length-9 c = search needs
@@ -74,8 +78,10 @@ same-length-12 c = search needs
 
 returns-3 : tie.Need-returns-3
 returns-3 c =
-    let start = c .before .before .before .before .before .before .before .before .before .before .before .before .before .before .before .before .before .before .before .before .args in
-    rw (c .before .before .before .before .before .before .before .before .before .before .before .before .command3 .given .1) (c .before .before .before .before .before .before .move-indexed .ensures (start .event-limit) (now (start .day)) (now (start .series)))
+    let done = c .before .before .before .before .before .before in
+    let case = done .before .before .before .before .before .before in
+    let start = case .before .before .before .before .before .before .before .before .args in
+    rw (case .command3 .given .1) (done .move-indexed .ensures (start .event-limit) (now (start .day)) (now (start .series)))
 
 returns-4 : tie.Need-returns-4
 returns-4 c =

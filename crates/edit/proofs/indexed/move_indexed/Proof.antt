@@ -39,13 +39,15 @@ module _ (c : tie.After-place-of) where
   place-some =
       omega (
         arith,
-        its-place 0 [] [] _ _ _ _ _ _ (began read .pre .0) 0 _ _ (read .before .before .before .slot-of .ensures) (read .before .before .if2 .left) _ (read .record-at .ensures) _
+        its-place 0 [] [] _ _ _ _ _ _ (began read .pre .0) 0 _ _
+            (read .before .before .before .slot-of .ensures) (read .before .before .if2 .left) _ (read .record-at .ensures) _
             (c .place-of .ensures),
       )
 
   place-within : c .place-of .result ≤ began (c .before .before .before .before .before .before .before .before) .args .count
   place-within =
-      some-records 0 [] [] _ _ _ _ _ _ (began read .pre .0) 0 _ _ (read .before .before .before .slot-of .ensures) (read .before .before .if2 .left) _ (read .record-at .ensures) _
+      some-records 0 [] [] _ _ _ _ _ _ (began read .pre .0) 0 _ _
+      (read .before .before .before .slot-of .ensures) (read .before .before .if2 .left) _ (read .record-at .ensures) _
       (c .place-of .ensures)
 
 is-start-requires : tie.Need-is-start-requires
@@ -116,7 +118,9 @@ place-left-requires : tie.Need-place-left-requires
 place-left-requires c κs = place-some (c .before .before .before .before .before .before .before)
 
 sub-add-record : tie.Need-sub-add-record
-sub-add-record c = omega (arith, place-some (c .before .before .before .before .before .before .before .before .before .before .before), place-within (c .before .before .before .before .before .before .before .before .before .before .before))
+sub-add-record c =
+    let found = c .before .before .before .before .before .before .before .before .before .before .before in
+    omega (arith, place-some found, place-within found)
 
 add-record-requires : tie.Need-add-record-requires
 add-record-requires c κs =
@@ -128,12 +132,15 @@ add-record-requires c κs =
     let size = start .pre .0 .index .slotsSize in (
       omega arith,
       omega arith,
-      id-within 0 [] [] _ _ _ _ _ _ (start .pre .0) 0 _ (start .args .start) (in-range (passed read)) _ (read .before .before .before .slot-of .ensures) (read .before .before .if2 .left)
+      id-within 0 [] [] _ _ _ _ _ _ (start .pre .0) 0 _ (start .args .start) (in-range (passed read))
+          _ (read .before .before .before .slot-of .ensures) (read .before .before .if2 .left)
           _ (read .record-at .ensures) _ (found .place-of .ensures) _ _ (out .take-out-record .ensures),
     )
 
 add-t23 : tie.Need-add-t23
-add-t23 c = omega (arith, began (c .before .before .before .before .before .before .before .before .before .before .before .before .before .before .before .before .before .before .before .before .before .before .before .before .before .before) .pre .1)
+add-t23 c =
+    let found = c .before .before .before .before .before .before .before .before .before .before .before .before .before .before .before .before .before .before in
+    omega (arith, began (found .before .before .before .before .before .before .before .before) .pre .1)
 
 same-length-5 : tie.Need-same-length-5
 same-length-5 c = search needs

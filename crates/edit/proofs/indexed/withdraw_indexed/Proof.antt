@@ -16,13 +16,15 @@ module _ (c : tie.After-place-of) where
   place-some =
       omega (
         arith,
-        its-place 0 [] [] _ _ _ _ _ _ (entry .pre) 0 _ _ (c .before .before .before .before .slot-of .ensures) (c .before .before .before .if1 .left) _ (c .before .before .record-at .ensures) _
+        its-place 0 [] [] _ _ _ _ _ _ (entry .pre) 0 _ _
+            (c .before .before .before .before .slot-of .ensures) (c .before .before .before .if1 .left) _ (c .before .before .record-at .ensures) _
             (c .place-of .ensures),
       )
 
   place-within : c .place-of .result ≤ entry .args .count
   place-within =
-      some-records 0 [] [] _ _ _ _ _ _ (entry .pre) 0 _ _ (c .before .before .before .before .slot-of .ensures) (c .before .before .before .if1 .left) _ (c .before .before .record-at .ensures) _
+      some-records 0 [] [] _ _ _ _ _ _ (entry .pre) 0 _ _
+      (c .before .before .before .before .slot-of .ensures) (c .before .before .before .if1 .left) _ (c .before .before .record-at .ensures) _
       (c .place-of .ensures)
 
 slot-of-requires : tie.Need-slot-of-requires
@@ -54,18 +56,23 @@ take-out-record-requires c κs =
     let start = entry found in
     omega (
       arith,
-      id-small 0 [] [] _ _ _ _ _ _ (start .pre) 0 _ _ (found .before .before .before .before .slot-of .ensures) (found .before .before .before .if1 .left),
+      id-small 0 [] [] _ _ _ _ _ _ (start .pre) 0 _ _ (found .before .before .before .before .slot-of .ensures)
+          (found .before .before .before .if1 .left),
       start .pre .index .idsSize,
     )
 
 sub-write-record : tie.Need-sub-write-record
-sub-write-record c = omega (arith, place-some (c .before .before .before .before .before .before .before .before), place-within (c .before .before .before .before .before .before .before .before))
+sub-write-record c =
+    let found = c .before .before .before .before .before .before .before .before in
+    omega (arith, place-some found, place-within found)
 
 write-record-requires : tie.Need-write-record-requires
 write-record-requires c κs = search needs
 
 sub-t16 : tie.Need-sub-t16
-sub-t16 c = omega (arith, place-some (c .before .before .before .before .before .before .before .before .before .before .before), place-within (c .before .before .before .before .before .before .before .before .before .before .before))
+sub-t16 c =
+    let found = c .before .before .before .before .before .before .before .before .before .before .before in
+    omega (arith, place-some found, place-within found)
 
 same-length-2 : tie.Need-same-length-2
 same-length-2 c = search needs
@@ -82,7 +89,8 @@ returns-2 c = λ limit day series.
     let found = out .before .before .before in
     let start = entry found in
     withdraw-present limit day series _ _ _ _ _ _ (start .pre) (start .args .at) _ _ (found .before .before .before .before .slot-of .ensures)
-    (found .before .before .before .if1 .left) _ (found .before .before .record-at .ensures) _ (found .place-of .ensures) _ _ _ (c .before .before .write-record .ensures)
+    (found .before .before .before .if1 .left) _ (found .before .before .record-at .ensures) _ (found .place-of .ensures) _ _ _
+    (c .before .before .write-record .ensures)
     (out .take-out-record .ensures)
 
 pub withdraw-indexed-spec : {M : Type 1} → statement M

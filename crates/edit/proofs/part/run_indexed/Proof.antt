@@ -58,16 +58,28 @@ number-of-requires : tie.Need-number-of-requires Inv-loop μ-loop
 number-of-requires c κs = search needs
 
 same-length : tie.Need-same-length Inv-loop μ-loop
-same-length c = c .before .before .before .before .before .before .before .before .before .list .given ∙ c .before .before .before .before .before .before .before .before .before .before .before .before .before .before .before .before .before .before .before .loop .inv .1 .same-size
+same-length c =
+    let written = c .before .before .before .before .before .before .before .before .before in
+    let head = written .before .before .before .before .before .before .before .before .before .before in
+    written .list .given ∙ head .loop .inv .1 .same-size
 
 same-length-2 : tie.Need-same-length-2 Inv-loop μ-loop
-same-length-2 c = c .before .before .before .before .before .before .before .before .before .before .carry-out .ensures .index .slotsSize ∙ sym (c .before .before .before .before .before .before .before .before .before .before .before .before .before .before .before .before .before .before .before .before .before .before .before .before .before .before .before .before .pre .4 .slotsSize)
+same-length-2 c =
+    let carries = c .before .before .before .before .before .before .before .before .before .before in
+    let entry = carries .before .before .before .before .before .before .before .before .before .before .before .before .before .before .before .before .before .before in
+    carries .carry-out .ensures .index .slotsSize ∙ sym (entry .pre .4 .slotsSize)
 
 same-length-3 : tie.Need-same-length-3 Inv-loop μ-loop
-same-length-3 c = c .before .before .before .before .before .before .before .before .before .before .carry-out .ensures .index .orderSize ∙ sym (c .before .before .before .before .before .before .before .before .before .before .before .before .before .before .before .before .before .before .before .before .before .before .before .before .before .before .before .before .pre .4 .orderSize)
+same-length-3 c =
+    let carries = c .before .before .before .before .before .before .before .before .before .before in
+    let entry = carries .before .before .before .before .before .before .before .before .before .before .before .before .before .before .before .before .before .before in
+    carries .carry-out .ensures .index .orderSize ∙ sym (entry .pre .4 .orderSize)
 
 same-length-4 : tie.Need-same-length-4 Inv-loop μ-loop
-same-length-4 c = c .before .before .before .before .before .before .before .before .before .before .carry-out .ensures .index .idsSize ∙ sym (c .before .before .before .before .before .before .before .before .before .before .before .before .before .before .before .before .before .before .before .before .before .before .before .before .before .before .before .before .pre .4 .idsSize)
+same-length-4 c =
+    let carries = c .before .before .before .before .before .before .before .before .before .before in
+    let entry = carries .before .before .before .before .before .before .before .before .before .before .before .before .before .before .before .before .before .before in
+    carries .carry-out .ensures .index .idsSize ∙ sym (entry .pre .4 .idsSize)
 
 -- the place lies among the commands
 among : (c : tie.In-loop Inv-loop μ-loop)
@@ -160,13 +172,19 @@ same-length-5 : tie.Need-same-length-5 Inv-loop μ-loop
 same-length-5 c = c .before .loop .inv .1 .same-size
 
 same-length-6 : tie.Need-same-length-6 Inv-loop μ-loop
-same-length-6 c = c .before .loop .inv .1 .index .slotsSize ∙ sym (c .before .before .before .before .before .before .before .before .before .before .pre .4 .slotsSize)
+same-length-6 c =
+    let entry = c .before .before .before .before .before .before .before .before .before .before in
+    c .before .loop .inv .1 .index .slotsSize ∙ sym (entry .pre .4 .slotsSize)
 
 same-length-7 : tie.Need-same-length-7 Inv-loop μ-loop
-same-length-7 c = c .before .loop .inv .1 .index .orderSize ∙ sym (c .before .before .before .before .before .before .before .before .before .before .pre .4 .orderSize)
+same-length-7 c =
+    let entry = c .before .before .before .before .before .before .before .before .before .before in
+    c .before .loop .inv .1 .index .orderSize ∙ sym (entry .pre .4 .orderSize)
 
 same-length-8 : tie.Need-same-length-8 Inv-loop μ-loop
-same-length-8 c = c .before .loop .inv .1 .index .idsSize ∙ sym (c .before .before .before .before .before .before .before .before .before .before .pre .4 .idsSize)
+same-length-8 c =
+    let entry = c .before .before .before .before .before .before .before .before .before .before in
+    c .before .loop .inv .1 .index .idsSize ∙ sym (entry .pre .4 .idsSize)
 
 returns-2 : tie.Need-returns-2 Inv-loop μ-loop
 returns-2 c =
