@@ -40,3 +40,5 @@ pub mod Only
 pub mod Demands
 -- three laws of Build's file
 pub mod BuiltFile
+-- the examples, computed
+pub mod Examples

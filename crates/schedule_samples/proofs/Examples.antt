@@ -16,8 +16,9 @@ use Rattle.sections.specs.Encode.{versionOf}
 use Rattle.schedule.specs.Plan.{plan}
 use Rattle.schedule.specs.Build.{build}
 use Rattle.schedule.specs.Given.{Given, Carries}
-use Rattle.schedule_samples.specs.SampleLists.{chainOf, row, bare, emptyFile}
-use Rattle.schedule_samples.specs.SampleCalls.{versioned}
+use Rattle.schedule.specs.ExampleLists.{row, bare}
+use Rattle.schedule.specs.ExampleCalls.{versioned}
+use Rattle.schedule_samples.specs.SampleLists.{chainOf, emptyFile}
 use Rattle.schedule_samples.specs.Examples.{Examples}
 use Rattle.schedule.proofs.Demands.{demands}
 
@@ -25,11 +26,6 @@ pub examples : Examples
 unfolding build plan edit formOf unstruckIn sound eventsOf recordsOf follows choose isChain crc32 versionOf chainOf row
 examples =
     record {
-      gap-cuts = refl;
-      gap-numbers = refl;
-      gap-ids = refl;
-      gap-plan = refl;
-      gap-build = refl;
       record-buffer = refl;
       three-cuts = refl;
       later-plan = refl;

@@ -16,7 +16,8 @@ use Rattle.sections.specs.Section.{eventOverhead}
 use Rattle.sections.specs.Encode.{versionOf}
 use Rattle.schedule.specs.Plan.{plan}
 use Rattle.schedule.specs.Build.{build}
-use Rattle.schedule_samples.specs.SampleLists.{chainOf, row, bare}
+use Rattle.schedule.specs.ExampleLists.{row, bare}
+use Rattle.schedule_samples.specs.SampleLists.{chainOf}
 use Rattle.schedule_samples.specs.SampleCalls.{answer}
 use Rattle.schedule_samples.specs.Samples.{Samples}
 

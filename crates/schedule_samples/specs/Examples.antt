@@ -1,28 +1,17 @@
--- Build and Plan computed, where document 01 has no sample marked P: a gap after a short segment, outputs at the limit, and
--- which refusal comes first. The value is in proofs/Examples.antt. Assumes nothing.
-use Prim.Native.Nat.{_+_, _*_}
+-- Build and Plan computed at broadcast's sizes, where document 01 has no sample marked P: outputs at the limit, and which refusal
+-- comes first. Gaps and short sections are in crate schedule. The value is in proofs/Examples.antt. Assumes nothing.
+use Prim.Native.Nat.{_*_}
 use mathlib.Core.Path.{_≡_}
 use mathlib.Core.List.{[], _∷_}
 use lib.ListN.{replicate}
-use Rattle.eit.specs.Sizes.{broadcast, sectionOverhead}
+use Rattle.eit.specs.Sizes.{broadcast}
 use Rattle.eit.specs.Records.{recordSize}
-use Rattle.sections.specs.Section.{eventOverhead}
-use Rattle.schedule_samples.specs.SampleLists.{bare, overlong, overlongLater, unsound, gap, emptyFile}
-use Rattle.schedule_samples.specs.SampleCalls.{buildOf, answer, headerAfter, planOf, cuts, numbers, ids, filled}
+use Rattle.schedule.specs.ExampleLists.{bare}
+use Rattle.schedule.specs.ExampleCalls.{filled}
+use Rattle.schedule_samples.specs.SampleLists.{overlong, overlongLater, unsound, emptyFile}
+use Rattle.schedule_samples.specs.SampleCalls.{buildOf, answer, headerAfter, planOf, cuts}
 
 pub record Examples : Type 0 where
-  -- a gap: section numbers 0, 1, 8 after a short segment, an empty segment, an empty table; tables end with their last events
-  pub gap-cuts :
-      cuts gap
-      ≡ (0x50, 0, 1) ∷ (0x50, 1, 1) ∷ (0x50, 8, 0) ∷ (0x50, 16, 1) ∷ (0x50, 17, 1)
-      ∷ (0x51, 0, 0) ∷ (0x52, 0, 0) ∷ (0x52, 8, 1) ∷ []
-  pub gap-numbers :
-      numbers gap
-      ≡ (0, 1, 17, 0x52) ∷ (1, 1, 17, 0x52) ∷ (8, 8, 17, 0x52) ∷ (16, 17, 17, 0x52) ∷ (17, 17, 17, 0x52)
-      ∷ (0, 0, 0, 0x52) ∷ (0, 0, 8, 0x52) ∷ (8, 8, 8, 0x52) ∷ []
-  pub gap-ids : ids gap ≡ (1 ∷ []) ∷ (2 ∷ []) ∷ [] ∷ (3 ∷ []) ∷ (4 ∷ []) ∷ [] ∷ [] ∷ (5 ∷ []) ∷ []
-  pub gap-plan : planOf gap ≡ filled ((2 ∷ 1 ∷ 2 ∷ []) ∷ (1 ∷ []) ∷ (1 ∷ 1 ∷ []) ∷ [])
-  pub gap-build : answer gap ≡ record { number = 11; value = 8 * sectionOverhead + (5 * eventOverhead + 2 * 4_055); output = [] }
   -- Read's record buffer in the demands
   pub record-buffer : broadcast .eventLimit * recordSize ≡ 12_288
   -- three sections in a segment, the first two full

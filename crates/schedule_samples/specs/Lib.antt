@@ -1,5 +1,5 @@
 -- What is computed, as tables of equations.
-pub mod SampleLists  -- chains and lists that are computed with
+pub mod SampleLists  -- long chains, and lists that are computed with
 pub mod SampleCalls  -- and what is asked of them
 pub mod Samples  -- the samples marked P
-pub mod Examples  -- gaps, limits and precedences computed
+pub mod Examples  -- limits and precedences computed

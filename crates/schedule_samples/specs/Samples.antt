@@ -9,9 +9,11 @@ use Rattle.eit.specs.Time.{startBytes, durationBytes}
 use Rattle.eit.specs.Crc.{crc32}
 use Rattle.sections.specs.Section.{eventOverhead}
 use Rattle.schedule.specs.Build.{fileOf}
-use Rattle.schedule_samples.specs.SampleLists.{bare, long, overlong, overlongs, pair, programme, zeros, emptyFile}
+use Rattle.schedule.specs.ExampleLists.{bare}
+use Rattle.schedule.specs.ExampleCalls.{filled}
+use Rattle.schedule_samples.specs.SampleLists.{long, overlong, overlongs, pair, programme, zeros, emptyFile}
 use Rattle.schedule_samples.specs.SampleCalls.{buildOf, answer, headerAfter, eventAfter, planOf, cuts, numbers, editOf}
-use Rattle.schedule_samples.specs.SampleCalls.{emptySegments, emptyTables, filled}
+use Rattle.schedule_samples.specs.SampleCalls.{emptySegments, emptyTables}
 
 pub record Samples : Type 0 where
   -- "1993-10-13 12:45:00 is C0 79 12 45 00 (EN 300 468, 5.2.4); 01:45:30 is 01 45 30." That day is MJD 49,273; then by a base day

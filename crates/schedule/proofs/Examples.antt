@@ -1,0 +1,31 @@
+-- The examples of specs/Examples.antt hold: each is computed. Assumes nothing.
+use mathlib.Core.Path.{refl}
+use Rattle.eit.specs.Crc.{crc32}
+use Rattle.eit.specs.Chain.{isChain}
+use Rattle.eit.specs.Pools.{choose}
+use Rattle.eit.specs.Records.{recordsOf}
+use Rattle.eit.specs.Events.{follows}
+use Rattle.eit.specs.Sound.{sound, eventsOf}
+use Rattle.sections.specs.Encode.{versionOf}
+use Rattle.schedule.specs.Plan.{plan}
+use Rattle.schedule.specs.Build.{build}
+use Rattle.schedule.specs.ExampleLists.{row}
+use Rattle.schedule.specs.Examples.{Examples}
+
+pub examples : Examples
+unfolding build plan sound eventsOf recordsOf follows choose isChain crc32 versionOf row
+examples =
+    record {
+      gap-sections = refl;
+      gap-plan = refl;
+      gap-file = refl;
+      gap-short = refl;
+      eight-packed = refl;
+      eight-plan = refl;
+      nine-unpackable = refl;
+      nine-plan = refl;
+      nine-packed = refl;
+      pairs-plan = refl;
+      chain-fits = refl;
+      chain-too-long = refl;
+    }
