@@ -25,6 +25,7 @@ examples =
       own-start = refl;
       descriptors = refl;
       undone = refl;
+      nearest-struck = refl;
       struck-for-form-only = refl;
       unsound = refl;
       unknown = refl;

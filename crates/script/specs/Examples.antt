@@ -60,6 +60,9 @@ pub record Examples : Type 0 where
   pub descriptors : said (actBytes (put (event 3 150 0 3))) ≡ (0, 3, 3)
   -- struck edits are not carried out, and leave no zeros behind
   pub undone : left (actBytes (put (plain 3 150)) ++ actBytes (withdraw 1) ++ undoByte ++ undoByte) ≡ list 2 .buffer
+  pub nearest-struck :
+      left (actBytes (withdraw 1) ++ actBytes (withdraw 2) ++ undoByte)
+      ≡ numbersOfAll (plain 2 200 ∷ []) ++ replicate 6 0 ++ replicate 8 7
   pub struck-for-form-only : said (actBytes (put (event 3 150 8 0)) ++ undoByte) ≡ (0, 2, 2)
   -- 12, 3 and 4 over the whole script, before any edit
   pub unsound : edit broadcast pools (list 4) (0x05 ∷ []) ≡ record { number = 12; value = 0; list = list 4 }

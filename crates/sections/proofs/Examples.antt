@@ -1,8 +1,10 @@
 -- The examples, computed. Assumes nothing.
 use mathlib.Core.Path.{refl}
+use native.Mathlib.Omega.{arith}
 use Rattle.eit.specs.Crc.{crc32}
 use Rattle.eit.specs.Chain.{isChain}
 use Rattle.eit.specs.Events.{follows}
+use Rattle.sections.specs.Section.{sectionEvents}
 use Rattle.sections.specs.Encode.{versionOf, fileBytes}
 use Rattle.sections.specs.JudgeHeader.{isFramed, isClosed, isHeader, isInPlace}
 use Rattle.sections.specs.JudgeEvents.{isEvent, isEventLoop, isWithinLimit}
@@ -11,7 +13,7 @@ use Rattle.sections.specs.Read.{read}
 use Rattle.sections.specs.Examples.{Examples}
 
 pub examples : Examples
-unfolding read versionOf isFramed isClosed isHeader isInPlace isEvent isEventLoop isWithinLimit crc32 isChain follows fileBytes sectionsCounted eventsCounted
+unfolding read versionOf isFramed isClosed isHeader isInPlace isEvent isEventLoop isWithinLimit crc32 isChain follows fileBytes sectionsCounted eventsCounted sectionEvents
 examples =
     record {
       places = (refl, refl, refl, refl, refl, refl);
@@ -27,4 +29,12 @@ examples =
       rival-accepted = refl;
       counted = (refl, refl, refl);
       held = (refl, refl);
+      current-next = refl;
+      skipped-segment = refl;
+      other-segment = refl;
+      same-id-apart = refl;
+      broken-behind-limit = refl;
+      buffer-short = refl;
+      ninth-section = λ keeps. omega (arith, keeps .eight);
+      earlier-start = λ keeps. keeps .rises;
     }

@@ -1,17 +1,19 @@
 -- Segments, sections and files computed (01, "The file of sections"): places of starts, bytes of data, records of bytes, counts in
--- segments, and files that a rival may have made. The value is in proofs/Examples.antt. Assumes nothing.
+-- segments, files that a rival may have made, and files that break a rule. The value is in proofs/Examples.antt. Assumes nothing.
 use Prim.Native.Nat.{ℕ}
 use mathlib.Core.Path.{_≡_}
-use mathlib.Core.Bool.{true}
+use mathlib.Core.Bool.{true, false}
 use mathlib.Core.List.{[], _∷_, _++_}
 use Rattle.eit.specs.Sizes.{broadcast}
 use Rattle.eit.specs.Events.{Event}
 use Rattle.eit.specs.declared.Identity.{Identity}
 use Rattle.sections.specs.Segment.{tableLeast, tableMost, segmentIndex, tableOf, firstSection, firstOf}
+use Rattle.sections.specs.Section.{Header}
 use Rattle.sections.specs.Encode.{eventBytes, fileBytes}
+use Rattle.sections.specs.Rules.{Numbered, Rules}
 use Rattle.sections.specs.Count.{sectionsCounted, eventsCounted}
-use Rattle.sections.specs.Read.{success, read}
-use Rattle.sections.specs.Files.{section, event, noon, rival, full, says}
+use Rattle.sections.specs.Read.{success, checkFile, read}
+use Rattle.sections.specs.Files.{section, withBits, event, withEvent, one, hour, bare, noon, rival, full, says, refusedWith}
 
 -- the table of a start, and the first section of its segment
 abbrev pub startPlace : ℕ → ℕ × ℕ
@@ -23,6 +25,22 @@ identity = record { «service_id» = 1; «transport_stream_id» = 2; «original_
 -- free CA, off air, and one descriptor
 abbrev pub sample : Event
 sample = record { id = 0x1234; start = 45_900; duration = 6_330; offAir = true; freeCa = true; chain = 0x4D ∷ 0x01 ∷ 0x09 ∷ [] }
+
+-- the header of a section of a file of one table: S, G and L
+abbrev pub numbered : ℕ → ℕ → ℕ → Header
+numbered S G L =
+    record {
+      tableId = 0x50;
+      sectionNumber = S;
+      lastSectionNumber = L;
+      segmentLastSectionNumber = G;
+      lastTableId = 0x50;
+      identity = identity;
+    }
+
+-- an event of a second without descriptors
+abbrev pub starting : ℕ → ℕ → Event
+starting id start = record { id = id; start = start; duration = 1; offAir = false; freeCa = false; chain = [] }
 
 pub record Examples : Type 0 where
   -- table and first section of the segment that a start lies in
@@ -89,7 +107,25 @@ pub record Examples : Type 0 where
       read broadcast 49_273 rival (0 ∷ 0 ∷ 0 ∷ 0 ∷ 0 ∷ 0 ∷ 0 ∷ 0 ∷ 0 ∷ 0 ∷ 0 ∷ 0 ∷ 0 ∷ 0 ∷ 0 ∷ 0 ∷ 0 ∷ 0 ∷ [])
       ≡ record {
         answer = success identity 3;
-        buffer = 1 ∷ 0 ∷ 3_600 ∷ 0 ∷ 26 ∷ 0 ∷ 2 ∷ 3_600 ∷ 3_600 ∷ 0 ∷ 56 ∷ 0 ∷ 3 ∷ 10_740 ∷ 3_600 ∷ 0 ∷ 68 ∷ 0 ∷ [];
+        buffer = 1 ∷ 0 ∷ 1 ∷ 0 ∷ 26 ∷ 0 ∷ 2 ∷ 3_600 ∷ 1 ∷ 0 ∷ 56 ∷ 0 ∷ 3 ∷ 10_740 ∷ 1 ∷ 0 ∷ 68 ∷ 0 ∷ [];
       }
   pub counted : (sectionsCounted 49_273 rival 0 ≡ 2) × (sectionsCounted 49_273 rival 1 ≡ 1) × (sectionsCounted 49_273 rival 2 ≡ 0)
   pub held : (eventsCounted 49_273 rival 0 1 ≡ 1) × (eventsCounted 49_273 rival 0 8 ≡ 3)
+  -- Read's refusals: current_next 0; a segment left out; an event of another segment; the id of an event in an earlier section; a
+  -- broken event loop that also passes the limit of events
+  pub current-next : says (withBits 0xF0 0xC0) ≡ refusedWith 22 0
+  pub skipped-segment : says (section 0x50 0 16 0 0x50 [] ++ section 0x50 16 16 16 0x50 []) ≡ refusedWith 23 18
+  pub other-segment : says (section 0x50 0 0 0 0x50 (event 1 0x03 0x00)) ≡ refusedWith 24 0
+  pub same-id-apart :
+      says (section 0x50 0 8 0 0x50 (event 1 0x00 0x00) ++ section 0x50 8 8 8 0x50 (event 1 0x03 0x00)) ≡ refusedWith 24 30
+  pub broken-behind-limit :
+      checkFile (record { sectionLimit = 4_096; eventLimit = 1 }) 49_273
+      (section 0x50 0 8 0 0x50 (event 1 0x00 0x00 ++ event 2 0x00 0x30 ++ event 1 0x00 0x59))
+      ≡ refusedWith 24 0
+  -- a record buffer that is one number short stays
+  pub buffer-short :
+      read broadcast 49_273 (withEvent one hour bare) (7 ∷ 7 ∷ 7 ∷ 7 ∷ 7 ∷ [])
+      ≡ record { answer = refusedWith 27 1; buffer = 7 ∷ 7 ∷ 7 ∷ 7 ∷ 7 ∷ [] }
+  -- sections as data that break a rule: a segment's ninth section, and an event that starts before the one before it
+  pub ninth-section : Numbered (numbered 0 8 8) → ⊥
+  pub earlier-start : Rules broadcast identity (record { header = numbered 0 0 0; events = starting 1 10 ∷ starting 2 9 ∷ [] } ∷ []) → ⊥

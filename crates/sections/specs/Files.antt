@@ -35,9 +35,9 @@ withIdentity service version stream network =
     ++ withCrc
     (0x50 ∷ 0xF0 ∷ 0x0F ∷ 0x00 ∷ service ∷ version ∷ 0x08 ∷ 0x08 ∷ 0x00 ∷ stream ∷ 0x00 ∷ network ∷ 0x08 ∷ 0x50 ∷ [])
 
--- an event of an hour without descriptors: id, the hour and the minute of its start as two digits each
+-- an event of a second without descriptors: id, the hour and the minute of its start as two digits each
 abbrev pub event : ℕ → ℕ → ℕ → List ℕ
-event id hour minute = 0x00 ∷ id ∷ 0xC0 ∷ 0x79 ∷ hour ∷ minute ∷ 0x00 ∷ 0x01 ∷ 0x00 ∷ 0x00 ∷ 0x00 ∷ 0x00 ∷ []
+event id hour minute = 0x00 ∷ id ∷ 0xC0 ∷ 0x79 ∷ hour ∷ minute ∷ 0x00 ∷ 0x00 ∷ 0x00 ∷ 0x01 ∷ 0x00 ∷ 0x00 ∷ []
 
 -- one event, with all behind its id given: MJD and hhmmss, duration, then running_status, free_CA, chain length and chain
 abbrev pub withEvent : List ℕ → List ℕ → List ℕ → List ℕ
@@ -92,3 +92,13 @@ full =
 -- what check says
 abbrev pub says : List ℕ → Answer
 says file = checkFile broadcast 49_273 file
+
+-- a refusal with its number and value, apart from Read's own words for it
+abbrev pub refusedWith : ℕ → ℕ → Answer
+refusedWith number value =
+    record {
+      number = number;
+      value = value;
+      identity = record { «service_id» = 0; «transport_stream_id» = 0; «original_network_id» = 0; version = 0 };
+      count = 0;
+    }
