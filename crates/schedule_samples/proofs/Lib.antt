@@ -1,5 +1,7 @@
 -- The tables hold.
 -- the samples marked P, computed
 pub mod Samples
--- the examples, computed
-pub mod Examples
+-- limits and precedences, computed
+pub mod Limits
+-- what the demands speak of is there
+pub mod Carried

@@ -1,4 +1,4 @@
--- Long chains, and lists for specs/Samples.antt and specs/Examples.antt. Assumes nothing.
+-- Long chains, and lists for specs/Samples.antt and specs/Limits.antt. Assumes nothing.
 use Prim.Native.Nat.{ℕ, _-_, _/_, _%_}
 use mathlib.Core.List.{List, [], _∷_, _++_}
 use lib.ListN.{replicate}

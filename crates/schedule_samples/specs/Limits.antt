@@ -1,5 +1,5 @@
--- Build and Plan computed at broadcast's sizes, where document 01 has no sample marked P: outputs at the limit, and which refusal
--- comes first. Gaps and short sections are in crate schedule. The value is in proofs/Examples.antt. Assumes nothing.
+-- Build and Plan at broadcast's limits, where document 01 has no sample marked P, and which refusal comes first. Gaps and cuts are
+-- among the examples of crate schedule. The value is in proofs/Limits.antt. Assumes nothing.
 use Prim.Native.Nat.{_*_}
 use mathlib.Core.Path.{_≡_}
 use mathlib.Core.List.{[], _∷_}
@@ -11,7 +11,7 @@ use Rattle.schedule.specs.ExampleCalls.{filled}
 use Rattle.schedule_samples.specs.SampleLists.{overlong, overlongLater, unsound, emptyFile}
 use Rattle.schedule_samples.specs.SampleCalls.{buildOf, answer, headerAfter, planOf, cuts}
 
-pub record Examples : Type 0 where
+pub record Limits : Type 0 where
   -- Read's record buffer in the demands
   pub record-buffer : broadcast .eventLimit * recordSize ≡ 12_288
   -- three sections in a segment, the first two full

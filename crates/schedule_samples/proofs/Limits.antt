@@ -1,0 +1,35 @@
+-- The rows of specs/Limits.antt hold: each is computed. Assumes nothing.
+use mathlib.Core.Path.{refl}
+use Rattle.eit.specs.Crc.{crc32}
+use Rattle.eit.specs.Chain.{isChain}
+use Rattle.eit.specs.Pools.{choose}
+use Rattle.eit.specs.Records.{recordsOf}
+use Rattle.eit.specs.Events.{follows}
+use Rattle.eit.specs.Sound.{sound, eventsOf}
+use Rattle.sections.specs.Encode.{versionOf}
+use Rattle.schedule.specs.Plan.{plan}
+use Rattle.schedule.specs.Build.{build}
+use Rattle.schedule.specs.ExampleLists.{row}
+use Rattle.schedule_samples.specs.SampleLists.{chainOf}
+use Rattle.schedule_samples.specs.Limits.{Limits}
+
+pub limits : Limits
+unfolding build plan sound eventsOf recordsOf follows choose isChain crc32 versionOf chainOf row
+limits =
+    record {
+      record-buffer = refl;
+      three-cuts = refl;
+      later-plan = refl;
+      later-build = refl;
+      version-most = refl;
+      just-enough = refl;
+      byte-short = refl;
+      unsound-plan = refl;
+      unsound-build = refl;
+      base = refl;
+      version = refl;
+      base-first = refl;
+      version-first = refl;
+      unsound-first = refl;
+      unpackable = refl;
+    }
