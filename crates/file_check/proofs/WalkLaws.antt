@@ -89,7 +89,8 @@ module _ {sizes : Sizes} {base : ℕ} {file words : List ℕ} {state : WalkState
         ∙ ap (walk sizes base (so-far .progress)) (next-piece refl)
         ∙ walk-refused sizes base (so-far .progress) section _ stepped)
         ∙ ap
-        (λ (n : ℕ). record { number = answerNumber answer; value = answerValue answer; identity = noIdentity; count = n })
+        (λ (n : ℕ).
+        record { number = answerNumber answer; value = answerValue answer; identity = noIdentity; count = n })
         (sym none)
 
     -- the walk goes on at the offset behind the section

@@ -1,5 +1,5 @@
--- The section at an offset of a file, by its length field alone, and the offset behind it (01, "The file of sections": a
--- file is sections joined). Laws: proofs/SectionAtLaws.antt. Assumes nothing.
+-- The section at an offset of a file, by its length field alone, and the offset behind it (01, "The file of sections":
+-- a file is sections joined). Laws: proofs/SectionAtLaws.antt. Assumes nothing.
 use Prim.Native.Nat.{ℕ, _+_}
 use mathlib.Core.List.{List}
 use lib.ListN.{length, take, drop}

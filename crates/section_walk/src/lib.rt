@@ -1,6 +1,6 @@
 // The walk over the sections of a file (01, "Build, Read": "The walk is a reader that carries the borrowed file and an
-// offset"). Who walks keeps the file and an offset, reads the section there through `read_section`, and advances through
-// `next_offset` alone. A loop cannot hold the reader itself, so each of the two makes it anew.
+// offset"). Who walks keeps the file and an offset, reads the section there through `read_section`, and advances
+// through `next_offset` alone. A loop cannot hold the reader itself, so each of the two makes it anew.
 use codec::fields;
 use eit::sizes::CRC_SIZE;
 use eit::sizes::HEADER_SIZE;

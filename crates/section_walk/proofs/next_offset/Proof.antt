@@ -1,7 +1,7 @@
 -- `next_offset` meets its contract: a walk of its MIR, by hand. The reader that `reader_at` returns is held in a local
--- and passed to `behind`, whose reader is held in another; its offset is the result. In a local of a body MIR erases the
--- lifetime of the struct's type, so each machine value is shown to have the type at `erased` (`typed`). The second is
--- rewritten as the struct of its fields, so that one of them can be read. Assumes nothing.
+-- and passed to `behind`, whose reader is held in another; its offset is the result. In a local of a body MIR erases
+-- the lifetime of the struct's type, so each machine value is shown to have the type at `erased` (`typed`). The second
+-- is rewritten as the struct of its fields, so that one of them can be read. Assumes nothing.
 use mathlib.Core.Path.{_≡_, refl, ap, _∙_}
 use Prim.Native.Nat.{ℕ, _<_, _^_}
 use mathlib.Core.List.{List, [], _∷_}

@@ -1,6 +1,7 @@
--- `read_section` meets its contract: a walk of its MIR, by hand. The reader that `reader_at` returns is held in a local and
--- passed to `section`, whose slice is the result. The reader's machine value is stored and passed on as it is: in a local of a
--- body MIR erases the lifetime of the struct's type, so the value is shown to have the type at `erased`. Assumes nothing.
+-- `read_section` meets its contract: a walk of its MIR, by hand. The reader that `reader_at` returns is held in a local
+-- and passed to `section`, whose slice is the result. The reader's machine value is stored and passed on as it is: in a
+-- local of a body MIR erases the lifetime of the struct's type, so the value is shown to have the type at `erased`.
+-- Assumes nothing.
 use mathlib.Core.Path.{_≡_, refl, ap, _∙_}
 use Prim.Native.Nat.{ℕ, _<_, _^_}
 use mathlib.Core.List.{List, [], _∷_}
@@ -160,8 +161,8 @@ module _ {M : Type 1} (𝓤 : URA M) (H : Heap 𝓤) (A : Atoms 𝓤) (W : Given
         → ent 𝓤 (⋆ 𝓤 H A (‵ (Slice .own r (u ∷ [])) ∷ (‵ (flft κ q) ⊛ ‵ ftrue) ∷ ‵ Own ∷ [])) (Post u)
     exits r u e =
         qed W (‵ (Slice .own r (u ∷ [])) ∷ (‵ (flft κ q) ⊛ ‵ ftrue) ∷ ‵ Own ∷ []) ∵
-        suffices ! _ (ends-at 𝓤 H A read-section.ended stayed Said W here u r (tt, (tt, tt)) (tt, (tt, tt))) $ says ! e $
-        move ! (1 ∷ []) $ frame ! $
+        suffices ! _ (ends-at 𝓤 H A read-section.ended stayed Said W here u r (tt, (tt, tt)) (tt, (tt, tt))) $
+        says ! e $ move ! (1 ∷ []) $ frame ! $
         -- [the result; what the file owns]: with the offset's facts, made anew, that is what the parameters own
         nothing ! $ owned ! usize (Is usize) (uint-makes 𝓤 H A W w64) offset _ (refl, fits) $ fjoin ! $
         move ! (2 ∷ 0 ∷ []) $ fjoin ! $ frame ! $ done !
