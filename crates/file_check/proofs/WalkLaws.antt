@@ -11,8 +11,8 @@ use Rattle.eit.specs.Limits.{baseMost}
 use Rattle.sections.specs.Decode.{cutFile}
 use Rattle.sections.specs.Walk.{Progress, atStart, passed, refused, step, walk}
 use Rattle.sections.specs.Read.{noIdentity, atEnd, checkFile}
-use Rattle.section_walk.specs.SectionAt.{sectionAt}
-use Rattle.section_walk.proofs.SectionAtLaws.{walk-end, walk-next, section-inside, section-some}
+use Rattle.section_walk.specs.SectionAt.{sectionAt, sectionEnd}
+use Rattle.section_walk.proofs.SectionAtLaws.{walk-end, walk-next, end-inside, end-is}
 use Rattle.section_checks.specs.declared.header.Kept.the-variants.{Nothing}
 use Rattle.event_checks.proofs.EventKeptLaws.{kept-start}
 use Rattle.read_answer.specs.Told.{answerNumber, answerValue, told}
@@ -64,46 +64,49 @@ walk-start sizes base file = record {
 
 module _ {sizes : Sizes} {base : ℕ} {file words : List ℕ} {state : WalkState} {offset : ℕ}
     (so-far : WalkSoFar sizes base file words state offset) where
-  module _ (here : offset < length file) {section : List ℕ} (is : section ≡ sectionAt file offset) where
+  module _ (here : offset < length file) {section : List ℕ} (is : section ≡ sectionAt file offset)
+      (verdict : SectionVerdict) (words′ : List ℕ)
+      (said : Said (offset + length section) verdict words′ (step sizes base (so-far .progress) section)) where
     -- the section is the next piece
-    next-piece : cutFile (drop offset file) ≡ section ∷ cutFile (drop (offset + length section) file)
-    next-piece =
-        walk-next file offset here
-        ∙ ap (λ (bs : List ℕ). bs ∷ cutFile (drop (offset + length bs) file)) (sym is)
+    next-piece : {end : ℕ} → end ≡ sectionEnd file offset
+        → cutFile (drop offset file) ≡ section ∷ cutFile (drop end file)
+    next-piece ends = walk-next file offset ends is here
 
-    pub walk-inside : offset + length section ≤ length file
-    walk-inside = omega (arith, section-inside file offset here, ap length is)
+    said-of : {v : SectionVerdict} → verdict ≡ v
+        → Said (offset + length section) v words′ (step sizes base (so-far .progress) section)
+    said-of e =
+        subst
+        (λ (v : SectionVerdict). Said (offset + length section) v words′ (step sizes base (so-far .progress) section))
+        e said
 
-    pub walk-some : 0 < length section
-    walk-some = omega (arith, section-some file offset here, ap length is)
+    pub walk-stops : {answer : ReadAnswer} → verdict ≡ Refused answer → base ≤ baseMost
+        → checkFile sizes base file ≡ told (record { answer = answer; identity = noIdentity })
+    walk-stops {answer} refuses legal =
+        let (stepped, none) = said-of refuses in
+        check-legal sizes base file legal
+        ∙ ap (atEnd (length file))
+        (so-far .walked
+        ∙ ap (walk sizes base (so-far .progress)) (next-piece refl)
+        ∙ walk-refused sizes base (so-far .progress) section _ stepped)
+        ∙ ap
+        (λ (n : ℕ).
+        record { number = answerNumber answer; value = answerValue answer; identity = noIdentity; count = n })
+        (sym none)
 
-    module _ (verdict : SectionVerdict) (words′ : List ℕ)
-        (said : Said (offset + length section) verdict words′ (step sizes base (so-far .progress) section)) where
-      pub walk-stops : {answer : ReadAnswer} → verdict ≡ Refused answer → base ≤ baseMost
-          → checkFile sizes base file ≡ told (record { answer = answer; identity = noIdentity })
-      walk-stops {answer} refuses legal =
-          let (stepped, none) =
-          subst (λ (v : SectionVerdict). Said (offset + length section) v words′ (step sizes base (so-far .progress) section)) refuses said in
-          check-legal sizes base file legal
-          ∙ ap (atEnd (length file))
-          (so-far .walked ∙ ap (walk sizes base (so-far .progress)) next-piece ∙ walk-refused sizes base (so-far .progress) section _ stepped)
-          ∙ ap
-          (λ (n : ℕ). record { number = answerNumber answer; value = answerValue answer; identity = noIdentity; count = n })
-          (sym none)
-
-      pub walk-more : {next : WalkState} → verdict ≡ Passed next → WalkSoFar sizes base file words′ next (offset + length section)
-      walk-more {next} passes =
-          let (q, stepped, tracks) =
-          subst (λ (v : SectionVerdict). Said (offset + length section) v words′ (step sizes base (so-far .progress) section)) passes said in
-          record {
-            progress = q;
-            tracks = tracks;
-            walked =
-                so-far .walked
-                ∙ ap (walk sizes base (so-far .progress)) next-piece
-                ∙ walk-passed sizes base (so-far .progress) section _ stepped;
-            inside = walk-inside;
-          }
+    -- the walk goes on at the offset behind the section
+    pub walk-more : {next : WalkState} {end : ℕ} → verdict ≡ Passed next → end ≡ sectionEnd file offset
+        → WalkSoFar sizes base file words′ next end
+    walk-more {next} passes ends =
+        let (q, stepped, tracks) = said-of passes in
+        record {
+          progress = q;
+          tracks = subst (λ (at : ℕ). Tracks at next words′ q) (sym (end-is file offset ends is)) tracks;
+          walked =
+              so-far .walked
+              ∙ ap (walk sizes base (so-far .progress)) (next-piece ends)
+              ∙ walk-passed sizes base (so-far .progress) section _ stepped;
+          inside = end-inside file offset ends here;
+        }
 
   pub walk-done : length file ≤ offset → base ≤ baseMost → (r : CheckedFile)
       → atEnd (length file) (passed (so-far .progress)) ≡ told r → checkFile sizes base file ≡ told r

@@ -56,7 +56,7 @@ pub fn check_within(
     };
     let mut offset = 0;
     while offset < file.len() {
-        let section = section_walk::next_section(file, offset);
+        let section = section_walk::read_section(file, offset);
         match section::check_section(
             section,
             offset,
@@ -70,7 +70,7 @@ pub fn check_within(
             SectionVerdict::Refused(said) => return read_answer::refused(said),
             SectionVerdict::Passed(next) => state = next,
         }
-        offset += section.len();
+        offset = section_walk::next_offset(file, offset);
     }
     at_end(state, file.len())
 }

@@ -1,10 +1,10 @@
 -- The lines of a listing that are left from an offset of the file on: the step of the walk. Assumes nothing.
-use Prim.Native.Nat.{ℕ, _+_, _≤_, _<_}
-use mathlib.Core.List.{List, _∷_, _++_, flatten, append-assoc}
-use mathlib.Core.Path.{_≡_, refl, sym, ap, _∙_}
+use Prim.Native.Nat.{ℕ, _≤_, _<_}
+use mathlib.Core.List.{List, _++_, flatten, append-assoc}
+use mathlib.Core.Path.{_≡_, refl, ap, _∙_}
 use lib.ListN.{length, drop}
 use Rattle.sections.specs.Decode.{headerIn, cutEvents, cutFile}
-use Rattle.section_walk.specs.SectionAt.{sectionAt}
+use Rattle.section_walk.specs.SectionAt.{sectionAt, sectionEnd}
 use Rattle.section_walk.proofs.SectionAtLaws.{walk-end, walk-next}
 use Rattle.listing.specs.Listing.{space, newline, numberThen, titleLine, sectionLine}
 use Rattle.listing.specs.Listing.{sectionLines, bytesWord, listing}
@@ -28,15 +28,12 @@ module _ (file : List ℕ) (offset : ℕ) where
   unfolding sectionLines flatten
   lines-end end = ap (λ (pieces : List (List ℕ)). sectionLines pieces ++ lastLine file) (walk-end file offset end)
 
-  pub lines-next : {section : List ℕ} → section ≡ sectionAt file offset → offset < length file
-      → linesFrom file offset ≡ sectionLine section ++ linesFrom file (offset + length section)
+  pub lines-next : {section : List ℕ} {end : ℕ} → section ≡ sectionAt file offset → end ≡ sectionEnd file offset
+      → offset < length file → linesFrom file offset ≡ sectionLine section ++ linesFrom file end
   unfolding sectionLines flatten
-  lines-next {section} met inside =
-      let rest : List (List ℕ) = cutFile (drop (offset + length section) file) in
-      ap (λ (pieces : List (List ℕ)). sectionLines pieces ++ lastLine file)
-      (walk-next file offset inside
-      ∙ ap (λ (bs : List ℕ). bs ∷ cutFile (drop (offset + length bs) file)) (sym met))
-      ∙ append-assoc (sectionLine section) (sectionLines rest) (lastLine file)
+  lines-next {section} {end} met ends inside =
+      ap (λ (pieces : List (List ℕ)). sectionLines pieces ++ lastLine file) (walk-next file offset ends met inside)
+      ∙ append-assoc (sectionLine section) (sectionLines (cutFile (drop end file))) (lastLine file)
 
 -- ---- one line
 

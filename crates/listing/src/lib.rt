@@ -26,9 +26,9 @@ pub fn write_listing(out: &mut [u8], file: &[u8]) -> usize
     let mut place = write_text(out, 0, b"table section events\n");
     let mut offset = 0;
     while offset < file.len() {
-        let section = section_walk::next_section(file, offset);
+        let section = section_walk::read_section(file, offset);
         place = write_line(out, place, section);
-        offset += section.len();
+        offset = section_walk::next_offset(file, offset);
     }
     let end = write_text(out, place, b"bytes ");
     write_number(out, end, file.len(), b'\n')

@@ -1,5 +1,5 @@
 -- The records of a file, section after section: what is left to write shrinks with each section. Assumes nothing.
-use mathlib.Core.Path.{_≡_, sym, ap, subst, _∙_}
+use mathlib.Core.Path.{_≡_, refl, sym, ap, subst, _∙_}
 use mathlib.Core.List.{List, _∷_, _++_, map}
 use Prim.Native.Nat.{ℕ, _+_, _-_, _*_, _≤_, _<_}
 use native.Mathlib.Omega.{arith}
@@ -17,8 +17,8 @@ use Rattle.sections.specs.Places.{recordsFrom}
 use Rattle.sections.specs.Read.{fileRecords}
 use Rattle.sections.proofs.Exact.{sections-are, records-are}
 use Rattle.codec.proofs.LeftLaws.{Left, left-all, left-fits, left-more, left-end}
-use Rattle.section_walk.specs.SectionAt.{sectionAt}
-use Rattle.section_walk.proofs.SectionAtLaws.{walk-end, walk-next, section-inside, section-some}
+use Rattle.section_walk.specs.SectionAt.{sectionAt, sectionEnd}
+use Rattle.section_walk.proofs.SectionAtLaws.{walk-end, walk-next, end-inside, end-is}
 use Rattle.read.specs.Fillable.{AreEvents, Fillable}
 use Rattle.read.proofs.FillLaws.{pieceRecords, piece-count}
 
@@ -67,17 +67,14 @@ module _ {base : ℕ} {file d out : List ℕ} {n offset : ℕ} (so-far : FileSoF
     abbrev behind : List (List ℕ)
     behind = cutFile (drop (offset + length section) file)
 
+    ends : offset + length section ≡ sectionEnd file offset
+    ends = sym (end-is file offset refl is)
+
     next-piece : cutFile (drop offset file) ≡ section ∷ behind
-    next-piece = walk-next file offset here ∙ ap (λ (bs : List ℕ). bs ∷ cutFile (drop (offset + length bs) file)) (sym is)
+    next-piece = walk-next file offset ends is here
 
     each : Every (Fillable base) (section ∷ behind)
     each = subst (Every (Fillable base)) next-piece (so-far .all)
-
-    pub file-inside : offset + length section ≤ length file
-    file-inside = omega (arith, section-inside file offset here, ap length is)
-
-    pub file-some : 0 < length section
-    file-some = omega (arith, section-some file offset here, ap length is)
 
     module _ {events : List ℕ} (loop : events ≡ eventLoop section) where
       abbrev pieces : List (List ℕ)
@@ -97,7 +94,7 @@ module _ {base : ℕ} {file d out : List ℕ} {n offset : ℕ} (so-far : FileSoF
             ap length loop,
             length-take (length section - sectionOverhead) (drop headerSize section),
             section-size base section (each .0),
-            file-inside,
+            end-inside file offset ends here,
           )
 
       parts : numbersOfAll (recordsFrom offset (map (sectionIn base) (cutFile (drop offset file))))
@@ -125,15 +122,18 @@ module _ {base : ℕ} {file d out : List ℕ} {n offset : ℕ} (so-far : FileSoF
             width,
           )
 
-      pub file-more : {out′ : List ℕ} {n′ : ℕ} → out′ ≡ overwrite out (n * recordSize) (numbersOfAll records)
-          → n′ ≡ n + length pieces → FileSoFar base file d out′ n′ (offset + length section)
-      file-more {n′ = n′} written counted =
+      -- the next turn is at the offset behind the section
+      pub file-more : {out′ : List ℕ} {n′ end : ℕ} → out′ ≡ overwrite out (n * recordSize) (numbersOfAll records)
+          → n′ ≡ n + length pieces → end ≡ sectionEnd file offset → FileSoFar base file d out′ n′ end
+      file-more {out′} {n′} written counted is-end =
+          subst (FileSoFar base file d out′ n′) (sym (end-is file offset is-end is))
           record {
             left =
-                left-more (so-far .left) (numbersOfAll records) (numbersOfAll (shownRecords base (offset + length section) behind)) parts
+                left-more (so-far .left) (numbersOfAll records)
+                (numbersOfAll (shownRecords base (offset + length section) behind)) parts
                 written (omega (arith, counted, width));
             all = each .1;
-            inside = file-inside;
+            inside = end-inside file offset ends here;
           }
 
   pub file-end : length file ≤ offset → out ≡ overwrite d 0 (numbersOfAll (fileRecords base file))

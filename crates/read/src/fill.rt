@@ -69,7 +69,7 @@ pub fn fill_file(records: &mut [u32], file: &[u8], base_day: u32)
     let mut n = 0;
     let mut offset = 0;
     while offset < file.len() {
-        let section = section_walk::next_section(file, offset);
+        let section = section_walk::read_section(file, offset);
         n = fill_events(
             records,
             n,
@@ -77,6 +77,6 @@ pub fn fill_file(records: &mut [u32], file: &[u8], base_day: u32)
             offset + HEADER_SIZE,
             base_day,
         );
-        offset += section.len();
+        offset = section_walk::next_offset(file, offset);
     }
 }

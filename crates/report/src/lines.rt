@@ -79,9 +79,9 @@ pub fn print_cuts(file: &[u8]) {
     print(b"offset table section segment_last last events\n");
     let mut offset = 0;
     while offset < file.len() {
-        let section = section_walk::next_section(file, offset);
+        let section = section_walk::read_section(file, offset);
         print_cut(offset, section);
-        offset += section.len();
+        offset = section_walk::next_offset(file, offset);
     }
 }
 

@@ -9,7 +9,7 @@ use lib.Seq.{drop-append-seam, drop-drop}
 use Rattle.sections.specs.Decode.{statedSectionSize, cutFile}
 use Rattle.sections.specs.Cut.{cut}
 use Rattle.sections.proofs.Cut.{cut-nil, cut-next}
-use Rattle.section_walk.specs.SectionAt.{sectionAt}
+use Rattle.section_walk.specs.SectionAt.{sectionAt, sectionEnd}
 
 -- what stands behind the first n bytes, counted by the bytes that there are
 behind-front : (n : ℕ) (bs : List ℕ) → drop n bs ≡ drop (length (take n bs)) bs
@@ -23,10 +23,10 @@ module _ (file : List ℕ) (offset : ℕ) where
   walk-end end = ap (cut statedSectionSize) (drop-of-length-le file end) ∙ cut-nil statedSectionSize
 
   -- before it there is one, and the walk goes on behind it
-  pub walk-next : offset < length file
-      → cutFile (drop offset file) ≡ sectionAt file offset ∷ cutFile (drop (offset + length (sectionAt file offset)) file)
+  first-piece : offset < length file
+      → cutFile (drop offset file) ≡ sectionAt file offset ∷ cutFile (drop (sectionEnd file offset) file)
   unfolding cutFile
-  walk-next inside =
+  first-piece inside =
       let rest : List ℕ = drop offset file in
       let size : ℕ = statedSectionSize rest in
       let some : 0 < length rest = simp length-drop (omega arith) in
@@ -34,9 +34,21 @@ module _ (file : List ℕ) (offset : ℕ) where
       ∙ ap (λ (next : List ℕ). sectionAt file offset ∷ cut statedSectionSize next)
       (behind-front size rest ∙ drop-drop (length (sectionAt file offset)) offset file)
 
-  -- a section lies in the file, and has at least a byte
-  pub section-inside : offset < length file → offset + length (sectionAt file offset) ≤ length file
-  section-inside inside = simp (length-take, length-drop) (omega arith)
+  -- what is above the offset and the file's length is above the end: so the code's sum fits
+  pub end-below : {n : ℕ} → offset < n → length file < n → sectionEnd file offset < n
+  end-below below short = simp (length-take, length-drop) (omega arith)
 
-  pub section-some : offset < length file → 0 < length (sectionAt file offset)
-  section-some inside = simp (length-take, length-drop) (omega arith)
+  module _ {end : ℕ} (ends : end ≡ sectionEnd file offset) where
+    -- a section ends in the file, and behind its offset: so a walk ends
+    pub end-inside : offset < length file → end ≤ length file
+    end-inside inside = rw ends (simp (length-take, length-drop) (omega arith))
+
+    pub end-past : offset < length file → offset < end
+    end-past inside = rw ends (simp (length-take, length-drop) (omega arith))
+
+    module _ {section : List ℕ} (is : section ≡ sectionAt file offset) where
+      pub end-is : end ≡ offset + length section
+      end-is = ends ∙ ap (λ (bs : List ℕ). offset + length bs) (sym is)
+
+      pub walk-next : offset < length file → cutFile (drop offset file) ≡ section ∷ cutFile (drop end file)
+      walk-next inside = first-piece inside ∙ (λ i. sym is i ∷ cutFile (drop (sym ends i) file))

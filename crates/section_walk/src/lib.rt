@@ -1,11 +1,12 @@
-// The walk over the sections of a file (01, "Build, Read": "The walk is a reader that carries the borrowed file and an offset").
-// Who walks keeps the offset, and gets each section through `next_section`, and through `event_loop` the bytes of its events.
+// The walk over the sections of a file (01, "Build, Read": "The walk is a reader that carries the borrowed file and an
+// offset"). Who walks keeps the file and an offset, reads the section there through `read_section`, and advances
+// through `next_offset` alone. A loop cannot hold the reader itself, so each of the two makes it anew.
 use codec::fields;
 use eit::sizes::CRC_SIZE;
 use eit::sizes::HEADER_SIZE;
 ghost use mathlib.Core.Path.{_≡_};
 ghost use Rattle.sections.specs.Decode.{statedSectionSize, eventLoop};
-ghost use Rattle.section_walk.specs.SectionAt.{sectionAt};
+ghost use Rattle.section_walk.specs.SectionAt.{sectionAt, sectionEnd};
 
 // How many bytes the section at the front of the bytes has, by section_length: the bytes after its field.
 pub fn stated_size(bytes: &[u8]) -> usize
@@ -30,6 +31,13 @@ pub fn section_at(file: &[u8], offset: usize) -> &[u8]
     }
 }
 
+// The offset behind the section at an offset; where the file has ended, the offset itself.
+pub fn section_end(file: &[u8], offset: usize) -> usize
+    ensures { λ r. ⌜ r ≡ sectionEnd (now (file .entry)) offset ⌝ }
+{
+    offset + section_at(file, offset).len()
+}
+
 // A reader that carries the borrowed file and an offset.
 pub struct SectionReader<'a> {
     pub file: &'a [u8],
@@ -50,12 +58,30 @@ pub fn section<'a>(reader: SectionReader<'a>) -> &'a [u8]
     section_at(reader.file, reader.offset)
 }
 
-// The section at an offset of a file, through the reader: the form that 01 names, with plain parameters. Loops go on through it,
-// from the offset behind the section.
-pub fn next_section<'a>(file: &'a [u8], offset: usize) -> &'a [u8]
+// The reader behind its section.
+pub fn behind<'a>(reader: SectionReader<'a>) -> SectionReader<'a>
+    ensures { λ r. ⌜
+        (r .file ≡ reader .entry .file)
+        × (r .offset ≡ sectionEnd (now (reader .entry .file)) (reader .entry .offset)) ⌝ }
+{
+    SectionReader {
+        file: reader.file,
+        offset: section_end(reader.file, reader.offset),
+    }
+}
+
+// The section at an offset of a file, through the reader: the form that 01 names, with plain parameters.
+pub fn read_section<'a>(file: &'a [u8], offset: usize) -> &'a [u8]
     ensures { λ r. ⌜ now r ≡ sectionAt (now (file .entry)) offset ⌝ }
 {
     section(reader_at(file, offset))
+}
+
+// The offset of the reader behind the section at an offset of a file: where the walk goes on.
+pub fn next_offset<'a>(file: &'a [u8], offset: usize) -> usize
+    ensures { λ r. ⌜ r ≡ sectionEnd (now (file .entry)) offset ⌝ }
+{
+    behind(reader_at(file, offset)).offset
 }
 
 // The bytes between a section's header and its CRC_32; none where they would be fewer.

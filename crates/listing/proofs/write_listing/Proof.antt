@@ -1,12 +1,12 @@
 -- `listing::write_listing` meets its contract: in each turn the lines of the sections from `offset` on are left to write, and the
 -- last line behind them. Assumes nothing.
-use Prim.Native.Nat.{_+_, _-_, _≤_, _<_}
+use Prim.Native.Nat.{_-_, _≤_}
 use mathlib.Core.Path.{sym, ap, _∙_}
 use native.Mathlib.Omega.{arith}
 use denote.Ref.{now}
 use borrow.Author.Needs.{needs}
 use lib.ListN.{length}
-use Rattle.section_walk.proofs.SectionAtLaws.{section-inside, section-some}
+use Rattle.section_walk.proofs.SectionAtLaws.{end-inside, end-past}
 use Rattle.listing.specs.Fill.{Fills}
 use Rattle.listing.proofs.FillLaws.{Unwritten, unwritten-all, unwritten-more, unwritten-last}
 use Rattle.listing.proofs.FillLaws.{filled-length, filled-two, filled-same}
@@ -31,8 +31,8 @@ write-text-requires c κs = search needs
 loop-holds : tie.Need-loop-holds Inv-loop μ-loop
 loop-holds c = (omega arith, unwritten-all _ _ _)
 
-next-section-requires : tie.Need-next-section-requires Inv-loop μ-loop
-next-section-requires c κs = search needs
+read-section-requires : tie.Need-read-section-requires Inv-loop μ-loop
+read-section-requires c κs = search needs
 
 write-line-requires : tie.Need-write-line-requires Inv-loop μ-loop
 write-line-requires c κs = search needs
@@ -44,36 +44,28 @@ titled c = c .before .before .before
 abbrev start : tie.At-loop Inv-loop μ-loop → tie.Start Inv-loop μ-loop
 start c = titled c .before .before .before .before .before
 
--- the section that a turn meets lies in the file, and has at least a byte
-met : (c : tie.After-next-section Inv-loop μ-loop)
-    → let turn = c .before .before in
-    let size = length (c .next-section .result .now) in
-    (turn .loop .offset + size ≤ length (now (start turn .args .file))) × (0 < size)
-met c =
-    let turn = c .before .before in
-    let file = now (start turn .args .file) in
-    let size = ap length (c .next-section .ensures) in (
-      omega (arith, size, section-inside file (turn .loop .offset) (c .before .loop-test .taken)),
-      omega (arith, size, section-some file (turn .loop .offset) (c .before .loop-test .taken)),
-    )
-
-add-offset : tie.Need-add-offset Inv-loop μ-loop
-add-offset c = omega (arith, met (c .before .before .before .before) .0)
+next-offset-requires : tie.Need-next-offset-requires Inv-loop μ-loop
+next-offset-requires c κs = search needs
 
 loop-less : tie.Need-loop-less Inv-loop μ-loop
-loop-less c = let walked = c .before .before .before .before in omega (arith, met walked .0, met walked .1)
+loop-less c =
+    let walked = c .before .before .before .before .before in
+    let here = walked .before .loop-test .taken in
+    omega (arith, here, end-past _ (walked .before .before .loop .offset) (c .next-offset .ensures) here)
 
 loop-again : tie.Need-loop-again Inv-loop μ-loop
 loop-again c =
-    let walked = c .before .before .before .before in
+    let walked = c .before .before .before .before .before in
     let turn = walked .before .before in
-    let offset = turn .loop .offset in
     let file = now (start turn .args .file) in
-    let section = walked .next-section .result .now in
-    let parts = lines-next file offset (walked .next-section .ensures) (walked .before .loop-test .taken) in (
-      met walked .0,
-      unwritten-more (turn .loop .inv .1) (sectionLine section) (linesFrom file (offset + length section)) parts
-          (c .before .before .write-line .ensures),
+    let offset = turn .loop .offset in
+    let here = walked .before .loop-test .taken in
+    let ends = c .next-offset .ensures in
+    let section = walked .read-section .result .now in
+    let parts = lines-next file offset (walked .read-section .ensures) ends here in (
+      end-inside file offset ends here,
+      unwritten-more (turn .loop .inv .1) (sectionLine section) (linesFrom file (c .next-offset .result)) parts
+          (c .before .before .before .write-line .ensures),
     )
 
 slice-aggregate-write-text-2 : tie.Need-slice-aggregate-write-text-2 Inv-loop μ-loop
@@ -121,9 +113,9 @@ write-listing-spec =
     slice-aggregate-write-text
     write-text-requires
     loop-holds
-    next-section-requires
+    read-section-requires
     write-line-requires
-    add-offset
+    next-offset-requires
     loop-less
     loop-again
     slice-aggregate-write-text-2

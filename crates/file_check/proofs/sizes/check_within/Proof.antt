@@ -6,7 +6,8 @@ use lib.ListN.{length}
 use Rattle.eit.specs.Sizes.{sized}
 use Rattle.sections.proofs.Read.{check-base}
 use Rattle.read_answer.specs.Told.{told}
-use Rattle.file_check.proofs.WalkLaws.{WalkSoFar, walk-start, walk-inside, walk-some, walk-stops, walk-more, walk-done}
+use Rattle.section_walk.proofs.SectionAtLaws.{end-past}
+use Rattle.file_check.proofs.WalkLaws.{WalkSoFar, walk-start, walk-stops, walk-more, walk-done}
 use native.Mathlib.Omega.{arith}
 use borrow.Author.Needs.{needs}
 use Rattle.file_check.proofs.sizes.check_within.Statement.{statement}
@@ -31,8 +32,8 @@ tables-requires c κs = search needs
 loop-holds : tie.Need-loop-holds Inv-loop μ-loop
 loop-holds c = walk-start _ _ _
 
-next-section-requires : tie.Need-next-section-requires Inv-loop μ-loop
-next-section-requires c κs = search needs
+read-section-requires : tie.Need-read-section-requires Inv-loop μ-loop
+read-section-requires c κs = search needs
 
 slice-aggregate-check-section : tie.Need-slice-aggregate-check-section Inv-loop μ-loop
 slice-aggregate-check-section c = search needs
@@ -51,34 +52,30 @@ returns-2 c =
     let verdict = c .before .before .before .before .before in
     let turn = verdict .before .before .before .before .before in
     walk-stops (turn .loop .inv) (verdict .before .before .before .before .loop-test .taken)
-    (verdict .before .before .before .next-section .ensures)
+    (verdict .before .before .before .read-section .ensures)
     _ _ (verdict .check-section .ensures _ (turn .loop .inv .tracks)) (c .before .before .said .given .1) (turn .before .before .if1 .left)
     ∙ sym (ap told (c .refused2 .ensures))
 
 enum-known-next : tie.Need-enum-known-next Inv-loop μ-loop
 enum-known-next c = search needs
 
-add-offset : tie.Need-add-offset Inv-loop μ-loop
-add-offset c =
-    let walked = c .before .before .before .before .before .before .before in
-    omega (arith, walk-inside (walked .before .before .loop .inv) (walked .before .loop-test .taken) (walked .next-section .ensures))
+next-offset-requires : tie.Need-next-offset-requires Inv-loop μ-loop
+next-offset-requires c κs = search needs
 
 loop-less : tie.Need-loop-less Inv-loop μ-loop
 loop-less c =
-    let walked = c .before .before .before .before .before .before .before in
-    omega (
-      arith,
-      walked .before .loop-test .taken,
-      walk-some (walked .before .before .loop .inv) (walked .before .loop-test .taken) (walked .next-section .ensures),
-    )
+    let walked = c .before .before .before .before .before .before .before .before in
+    let here = walked .before .loop-test .taken in
+    omega (arith, here, end-past _ (walked .before .before .loop .offset) (c .next-offset .ensures) here)
 
 loop-again : tie.Need-loop-again Inv-loop μ-loop
 loop-again c =
-    let verdict = c .before .before .before .before in
+    let verdict = c .before .before .before .before .before in
     let walked = verdict .before .before .before in
     let turn = walked .before .before in
-    walk-more (turn .loop .inv) (walked .before .loop-test .taken) (walked .next-section .ensures) _ _
-    (verdict .check-section .ensures _ (turn .loop .inv .tracks)) (c .before .next .given .1)
+    walk-more (turn .loop .inv) (walked .before .loop-test .taken) (walked .read-section .ensures) _ _
+    (verdict .check-section .ensures _ (turn .loop .inv .tracks)) (c .before .before .next .given .1)
+    (c .next-offset .ensures)
 
 at-end-requires : tie.Need-at-end-requires Inv-loop μ-loop
 at-end-requires c κs = search needs
@@ -99,14 +96,14 @@ check-within-spec =
     returns
     tables-requires
     loop-holds
-    next-section-requires
+    read-section-requires
     slice-aggregate-check-section
     check-section-requires
     enum-known-said
     refused-requires-2
     returns-2
     enum-known-next
-    add-offset
+    next-offset-requires
     loop-less
     loop-again
     at-end-requires

@@ -2,17 +2,9 @@
 -- left of the file. Assumes nothing.
 use Prim.Native.Nat.{_-_}
 use lib.ListN.{length}
-use Rattle.read.proofs.FileLaws.{
-  FileSoFar,
-  file-start,
-  file-inside,
-  file-some,
-  file-room,
-  events-are,
-  events-inside,
-  file-more,
-  file-end,
-}
+use Rattle.section_walk.proofs.SectionAtLaws.{end-past}
+use Rattle.read.proofs.FileLaws.{FileSoFar, file-start, file-room, file-more, file-end}
+use Rattle.read.proofs.FileLaws.{events-are, events-inside}
 use native.Mathlib.Omega.{arith}
 use borrow.Author.Needs.{needs}
 use Rattle.read.proofs.fill.fill_file.Statement.{statement}
@@ -27,8 +19,8 @@ abbrev μ-loop : tie.MeasureT-loop
 loop-holds : tie.Need-loop-holds Inv-loop μ-loop
 loop-holds c = let start = c .before .before in file-start _ _ _ (start .pre .0) (start .pre .1)
 
-next-section-requires : tie.Need-next-section-requires Inv-loop μ-loop
-next-section-requires c κs = search needs
+read-section-requires : tie.Need-read-section-requires Inv-loop μ-loop
+read-section-requires c κs = search needs
 
 event-loop-requires : tie.Need-event-loop-requires Inv-loop μ-loop
 event-loop-requires c κs = search needs
@@ -43,34 +35,30 @@ fill-events-requires c κs =
     let walked = c .before .before in
     let turn = walked .before .before in
     let here = walked .before .loop-test .taken in
-    let is = walked .next-section .ensures in
+    let is = walked .read-section .ensures in
     let loop = c .event-loop .ensures in (
       events-are (turn .loop .inv) here is loop,
       file-room (turn .loop .inv) here is loop,
       omega (arith, events-inside (turn .loop .inv) here is loop, turn .before .before .before .pre .2),
     )
 
-add-offset : tie.Need-add-offset Inv-loop μ-loop
-add-offset c =
-    let walked = c .before .before .before .before .before in
-    omega (arith, file-inside (walked .before .before .loop .inv) (walked .before .loop-test .taken) (walked .next-section .ensures))
+next-offset-requires : tie.Need-next-offset-requires Inv-loop μ-loop
+next-offset-requires c κs = search needs
 
 loop-less : tie.Need-loop-less Inv-loop μ-loop
 loop-less c =
-    let walked = c .before .before .before .before .before in
-    omega (
-      arith,
-      walked .before .loop-test .taken,
-      file-some (walked .before .before .loop .inv) (walked .before .loop-test .taken) (walked .next-section .ensures),
-    )
+    let walked = c .before .before .before .before .before .before in
+    let here = walked .before .loop-test .taken in
+    omega (arith, here, end-past _ (walked .before .before .loop .offset) (c .next-offset .ensures) here)
 
 loop-again : tie.Need-loop-again Inv-loop μ-loop
 loop-again c =
-    let filled = c .before .before in
+    let filled = c .before .before .before in
     let looped = filled .before in
     let walked = looped .before .before in
-    file-more (walked .before .before .loop .inv) (walked .before .loop-test .taken) (walked .next-section .ensures) (looped .event-loop .ensures)
-    (filled .fill-events .ensures .0) (filled .fill-events .ensures .1)
+    file-more (walked .before .before .loop .inv) (walked .before .loop-test .taken) (walked .read-section .ensures)
+    (looped .event-loop .ensures) (filled .fill-events .ensures .0) (filled .fill-events .ensures .1)
+    (c .next-offset .ensures)
 
 same-length : tie.Need-same-length Inv-loop μ-loop
 same-length c = c .before .loop .inv .left .size
@@ -85,11 +73,11 @@ fill-file-spec =
     Inv-loop
     μ-loop
     loop-holds
-    next-section-requires
+    read-section-requires
     event-loop-requires
     add-fill-events
     fill-events-requires
-    add-offset
+    next-offset-requires
     loop-less
     loop-again
     same-length

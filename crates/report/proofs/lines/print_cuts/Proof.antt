@@ -1,11 +1,10 @@
--- `report::lines::print_cuts` meets its contract: each turn meets a section in the file, of at least a byte. Assumes nothing.
-use Prim.Native.Nat.{_+_, _-_, _≤_, _<_}
-use mathlib.Core.Path.{ap}
+-- `report::lines::print_cuts` meets its contract: each turn goes on to an offset in the file, behind its own. Assumes
+-- nothing.
+use Prim.Native.Nat.{_-_, _≤_}
 use native.Mathlib.Omega.{arith}
-use denote.Ref.{now}
 use borrow.Author.Needs.{needs}
 use lib.ListN.{length}
-use Rattle.section_walk.proofs.SectionAtLaws.{section-inside, section-some}
+use Rattle.section_walk.proofs.SectionAtLaws.{end-inside, end-past}
 use Rattle.report.proofs.lines.print_cuts.Statement.{statement}
 use Rattle.report.proofs.lines.print_cuts.Tie as tie
 
@@ -24,37 +23,25 @@ print-requires c κs = search needs
 loop-holds : tie.Need-loop-holds Inv-loop μ-loop
 loop-holds c = search needs
 
-next-section-requires : tie.Need-next-section-requires Inv-loop μ-loop
-next-section-requires c κs = search needs
+read-section-requires : tie.Need-read-section-requires Inv-loop μ-loop
+read-section-requires c κs = search needs
 
 print-cut-requires : tie.Need-print-cut-requires Inv-loop μ-loop
 print-cut-requires c κs = search needs
 
--- back from the loop to the call
-abbrev start : tie.At-loop Inv-loop μ-loop → tie.Start Inv-loop μ-loop
-start c = c .before .before .before .before
-
--- the section that a turn meets lies in the file, and has at least a byte
-met : (c : tie.After-next-section Inv-loop μ-loop)
-    → let turn = c .before .before in
-    let size = length (c .next-section .result .now) in
-    (turn .loop .offset + size ≤ length (now (start turn .args .file))) × (0 < size)
-met c =
-    let turn = c .before .before in
-    let file = now (start turn .args .file) in
-    let size = ap length (c .next-section .ensures) in (
-      omega (arith, size, section-inside file (turn .loop .offset) (c .before .loop-test .taken)),
-      omega (arith, size, section-some file (turn .loop .offset) (c .before .loop-test .taken)),
-    )
-
-add-offset : tie.Need-add-offset Inv-loop μ-loop
-add-offset c = omega (arith, met (c .before) .0)
+next-offset-requires : tie.Need-next-offset-requires Inv-loop μ-loop
+next-offset-requires c κs = search needs
 
 loop-less : tie.Need-loop-less Inv-loop μ-loop
-loop-less c = omega (arith, met (c .before) .0, met (c .before) .1)
+loop-less c =
+    let turn = c .before .before .before .before in
+    let here = c .before .before .before .loop-test .taken in
+    omega (arith, here, end-past _ (turn .loop .offset) (c .next-offset .ensures) here)
 
 loop-again : tie.Need-loop-again Inv-loop μ-loop
-loop-again c = met (c .before) .0
+loop-again c =
+    let turn = c .before .before .before .before in
+    end-inside _ (turn .loop .offset) (c .next-offset .ensures) (c .before .before .before .loop-test .taken)
 
 returns : tie.Need-returns Inv-loop μ-loop
 returns c = search needs
@@ -68,9 +55,9 @@ print-cuts-spec =
     slice-aggregate-print
     print-requires
     loop-holds
-    next-section-requires
+    read-section-requires
     print-cut-requires
-    add-offset
+    next-offset-requires
     loop-less
     loop-again
     returns)

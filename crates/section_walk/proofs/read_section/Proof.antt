@@ -1,6 +1,7 @@
--- `next_section` meets its contract: a walk of its MIR, by hand. The reader that `reader_at` returns is held in a local and
--- passed to `section`, whose slice is the result. The reader's machine value is stored and passed on as it is: in a local of a
--- body MIR erases the lifetime of the struct's type, so the value is shown to have the type at `erased`. Assumes nothing.
+-- `read_section` meets its contract: a walk of its MIR, by hand. The reader that `reader_at` returns is held in a local
+-- and passed to `section`, whose slice is the result. The reader's machine value is stored and passed on as it is: in a
+-- local of a body MIR erases the lifetime of the struct's type, so the value is shown to have the type at `erased`.
+-- Assumes nothing.
 use mathlib.Core.Path.{_≡_, refl, ap, _∙_}
 use Prim.Native.Nat.{ℕ, _<_, _^_}
 use mathlib.Core.List.{List, [], _∷_}
@@ -52,23 +53,23 @@ use Rattle.section_walk.proofs.section as section
 use Rattle.section_walk.proofs.section.Symbol as section-def
 use Rattle.section_walk.proofs.section.Symbol.{name as #section}
 use Rattle.section_walk.proofs.section.Met as section-thm
-use Rattle.section_walk.proofs.next_section.Key.{name as #next-section}
-use Rattle.section_walk.proofs.next_section as next-section
-use Rattle.section_walk.proofs.next_section.Statement as stated
-use Rattle.section_walk.proofs.next_section.Code as code
+use Rattle.section_walk.proofs.read_section.Key.{name as #read-section}
+use Rattle.section_walk.proofs.read_section as read-section
+use Rattle.section_walk.proofs.read_section.Statement as stated
+use Rattle.section_walk.proofs.read_section.Code as code
 
 -- the struct's type, over the signature's lifetimes
 abbrev B : Lfts 1 → RattleType
 B κs = T.the-row (namedLft 1 0 tt κs)
 
 -- what is had of the parameters at exit: each as it was passed
-abbrev stayed : Stays (next-section.ended .signature .params) (next-section.ended .kept)
+abbrev stayed : Stays (read-section.ended .signature .params) (read-section.ended .kept)
 stayed = (stay-none-slice (0 ∷ []) tt (plain (λ _. u8)) yes, (stay-none (λ _. usize) yes, tt))
 
 module _ {M : Type 1} (𝓤 : URA M) (H : Heap 𝓤) (A : Atoms 𝓤) (W : Given 𝓤 H A)
     (mem : Memory → SProp 𝓤) (run : Routine → Fun 𝓤) where
-  abbrev Said : Clauses 𝓤 next-section.ended
-  Said = next-section.clauses 𝓤 H A mem run
+  abbrev Said : Clauses 𝓤 read-section.ended
+  Said = read-section.clauses 𝓤 H A mem run
 
   -- the contracts that the proof cites
   abbrev ReaderAt : Contract 𝓤
@@ -93,17 +94,17 @@ module _ {M : Type 1} (𝓤 : URA M) (H : Heap 𝓤) (A : Atoms 𝓤) (W : Given
     abbrev Own : Fml
     Own = Slice .own file (v ∷ [])
 
-    abbrev passed : Vals next-section.signature (κ, tt)
+    abbrev passed : Vals read-section.signature (κ, tt)
     passed = (v ∷ [], (vint w64 offset ∷ [], tt))
 
-    abbrev here : walkOf 𝓤 H A next-section.ended stayed Said .Ghost
+    abbrev here : walkOf 𝓤 H A read-section.ended stayed Said .Ghost
     here = (((κ, tt), (q, tt), tt, (file, (offset, tt)), passed), tt)
 
     abbrev Entry : SProp 𝓤
-    Entry = onEntry 𝓤 H A next-section.signature (κ, tt) (q, tt) (file, (offset, tt)) passed
+    Entry = onEntry 𝓤 H A read-section.signature (κ, tt) (q, tt) (file, (offset, tt)) passed
 
     abbrev Post : Val → SProp 𝓤
-    Post = walkOf 𝓤 H A next-section.ended stayed Said .post here
+    Post = walkOf 𝓤 H A read-section.ended stayed Said .post here
 
     -- the call of `reader_at`: what it is passed, what it asks, and what is known of its result
     abbrev to-reader : ReaderAt .Ghost
@@ -160,8 +161,8 @@ module _ {M : Type 1} (𝓤 : URA M) (H : Heap 𝓤) (A : Atoms 𝓤) (W : Given
         → ent 𝓤 (⋆ 𝓤 H A (‵ (Slice .own r (u ∷ [])) ∷ (‵ (flft κ q) ⊛ ‵ ftrue) ∷ ‵ Own ∷ [])) (Post u)
     exits r u e =
         qed W (‵ (Slice .own r (u ∷ [])) ∷ (‵ (flft κ q) ⊛ ‵ ftrue) ∷ ‵ Own ∷ []) ∵
-        suffices ! _ (ends-at 𝓤 H A next-section.ended stayed Said W here u r (tt, (tt, tt)) (tt, (tt, tt))) $ says ! e $
-        move ! (1 ∷ []) $ frame ! $
+        suffices ! _ (ends-at 𝓤 H A read-section.ended stayed Said W here u r (tt, (tt, tt)) (tt, (tt, tt))) $
+        says ! e $ move ! (1 ∷ []) $ frame ! $
         -- [the result; what the file owns]: with the offset's facts, made anew, that is what the parameters own
         nothing ! $ owned ! usize (Is usize) (uint-makes 𝓤 H A W w64) offset _ (refl, fits) $ fjoin ! $
         move ! (2 ∷ 0 ∷ []) $ fjoin ! $ frame ! $ done !
@@ -206,28 +207,28 @@ module _ {M : Type 1} (𝓤 : URA M) (H : Heap 𝓤) (A : Atoms 𝓤) (W : Given
           move ! (3 ∷ 4 ∷ []) $ free1 ! $ free0 ! $ by ! (exits r u′ (found-here d r made found))))))))))))))
 
   walks : (C : Calls 𝓤 H) (Λ : Loops 𝓤 H) → FmC 𝓤 H (W .laws) C → Triple 𝓤 (C #reader-at) ReaderAt → Triple 𝓤 (C #section) Section
-      → Walks 𝓤 H A next-section.ended stayed (WpFn 𝓤 H C Λ code.function) Said
+      → Walks 𝓤 H A read-section.ended stayed (WpFn 𝓤 H C Λ code.function) Said
   walks C Λ fm known-reader known-section =
-      walked 𝓤 H A next-section.ended stayed Said (WpFn 𝓤 H C Λ code.function)
+      walked 𝓤 H A read-section.ended stayed Said (WpFn 𝓤 H C Λ code.function)
       (λ κs. (slice-vals, (uint-vals w64, tt))) (λ κs. (shr-slice-tells (named 0) (κs .0) u8, (uint-tells w64, tt)))
       (λ κs qs bounds a g are.
       via 𝓤 _ (fst∗ 𝓤 _ (emp 𝓤))
       (walk (κs .0) (qs .0) (a .0) (a .1 .0) (are .1 .0 .1) C Λ fm known-reader known-section (are .0)))
 
   meets : (𝓣 : Tables 𝓤 H) → Triple 𝓤 (𝓣 .C #reader-at) ReaderAt → Triple 𝓤 (𝓣 .C #section) Section
-      → Meets 𝓤 H A next-section.signature (WpFn 𝓤 H (𝓣 .C) (𝓣 .Λ) code.function) (next-section.spec 𝓤 H A mem run)
+      → Meets 𝓤 H A read-section.signature (WpFn 𝓤 H (𝓣 .C) (𝓣 .Λ) code.function) (read-section.spec 𝓤 H A mem run)
   meets 𝓣 known-reader known-section =
-      walk-meets 𝓤 H A next-section.ended stayed W
+      walk-meets 𝓤 H A read-section.ended stayed W
       (goes-none-slice 𝓤 H A W 1 (0 ∷ []) tt (plain (λ _. u8)) yes, (goes-none 𝓤 H A W 1 (λ _. usize) yes (λ κs x f. refl), tt))
       Said (WpFn 𝓤 H (𝓣 .C) (𝓣 .Λ) code.function) (WpFn-mono 𝓤 H (W .laws) 𝓣 code.function)
       (walks (𝓣 .C) (𝓣 .Λ) (fmOf 𝓤 H (W .laws) 𝓣) known-reader known-section)
 
-pub next-section-spec : {M : Type 1} → stated.statement M
+pub read-section-spec : {M : Type 1} → stated.statement M
 unfolding code.routine tablesOf
-next-section-spec 𝓤 H 𝓜 𝓖 𝓡 =
+read-section-spec 𝓤 H 𝓜 𝓖 𝓡 =
     let W = givenOf 𝓤 H 𝓜 𝓖 in
-    entered 𝓤 H (tripleOf 𝓤 H (𝓖 .A) next-section.signature (next-section.spec 𝓤 H (𝓖 .A) (𝓜 .mem) (𝓡 .run)))
-    (tables 𝓤 H 𝓜 𝓡 code.env .C) (tables 𝓤 H 𝓜 𝓡 code.env .Λ) #next-section code.function (code.unfolded 𝓤 H 𝓜 𝓡)
+    entered 𝓤 H (tripleOf 𝓤 H (𝓖 .A) read-section.signature (read-section.spec 𝓤 H (𝓖 .A) (𝓜 .mem) (𝓡 .run)))
+    (tables 𝓤 H 𝓜 𝓡 code.env .C) (tables 𝓤 H 𝓜 𝓡 code.env .Λ) #read-section code.function (code.unfolded 𝓤 H 𝓜 𝓡)
     (meets 𝓤 H (𝓖 .A) W (𝓜 .mem) (𝓡 .run) (tablesOf 𝓤 H 𝓜 (tables 𝓤 H 𝓜 𝓡 code.env))
     (cited 𝓤 H (ReaderAt 𝓤 H (𝓖 .A) W (𝓜 .mem) (𝓡 .run)) 𝓜 𝓡 code.env #reader-at reader-at-def.routine
     code.calls-section-walk·reader-at (reader-at-thm.met 𝓤 H 𝓜 𝓖 𝓡))
