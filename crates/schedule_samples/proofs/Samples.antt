@@ -16,6 +16,7 @@ use Rattle.sections.specs.Section.{eventOverhead}
 use Rattle.sections.specs.Encode.{versionOf}
 use Rattle.schedule.specs.Plan.{plan}
 use Rattle.schedule.specs.Build.{build}
+use Rattle.calendar.specs.Date.{dateOf}
 use Rattle.schedule_samples.specs.SampleLists.{chainOf, row, bare}
 use Rattle.schedule_samples.specs.SampleCalls.{answer}
 use Rattle.schedule_samples.specs.Samples.{Samples}
@@ -29,9 +30,10 @@ unfolding build sound eventsOf recordsOf follows choose isChain row
 bare-340 = refl
 
 pub samples : Samples
-unfolding build plan edit formOf unstruckIn sound eventsOf recordsOf follows choose isChain crc32 versionOf chainOf row
+unfolding build plan edit formOf unstruckIn sound eventsOf recordsOf follows choose isChain crc32 versionOf chainOf row dateOf
 samples =
     record {
+      day = refl;
       date = refl;
       date-later = refl;
       lasting = refl;
