@@ -30,7 +30,8 @@ unfolding build sound eventsOf recordsOf follows choose isChain row
 bare-340 = refl
 
 pub samples : Samples
-unfolding build plan edit formOf unstruckIn sound eventsOf recordsOf follows choose isChain crc32 versionOf chainOf row dateOf
+unfolding build plan edit formOf unstruckIn sound eventsOf recordsOf follows choose isChain crc32 versionOf chainOf row
+    dateOf
 samples =
     record {
       day = refl;
