@@ -11,6 +11,7 @@ use lib.Dec.{T, leb, ltb, leb→le, le→leb, ltb→lt, lt→ltb}
 use lib.ListN.{length}
 use Rattle.eit.specs.Fields.{Bytes, bigEndian, valueOf}
 use Rattle.eit.specs.Limits.{startLimit, durationLeast, durationMost, baseMost}
+use Rattle.eit.specs.Limits.{startHoursMost, durationHoursMost, minutesMost, secondsMost}
 use Rattle.eit.specs.Time.{timeOf, toBcd, timeBytes, durationBytes, secondsOfDay, startBytes}
 use Rattle.eit.specs.Time.{isBcd, ofBcd, isBcdUpTo, isTime, secondsOf, isDurationBytes, startOf, isStartBytes}
 use Rattle.eit.specs.declared.Time.{Time}
@@ -69,10 +70,10 @@ module _ (t : Time) (shown : Shown t) where
   shown-hours : (h : ℕ) → t .hours ≤ h → T (isTime h (timeBytes t))
   shown-hours h small =
       let first : Bool = isBcdUpTo h (toBcd (t .hours)) in
-      let second : Bool = isBcdUpTo 59 (toBcd (t .minutes)) in
-      let third : Bool = isBcdUpTo 59 (toBcd (t .seconds)) in
-      let minutes : T second = up-to 59 (t .minutes) (omega arith) (omega arith) in
-      let seconds : T third = up-to 59 (t .seconds) (omega arith) (omega arith) in
+      let second : Bool = isBcdUpTo minutesMost (toBcd (t .minutes)) in
+      let third : Bool = isBcdUpTo secondsMost (toBcd (t .seconds)) in
+      let minutes : T second = up-to minutesMost (t .minutes) (omega arith) (omega arith) in
+      let seconds : T third = up-to secondsMost (t .seconds) (omega arith) (omega arith) in
       and-both first (second && third) (up-to h (t .hours) small (shown .0)) (and-both second third minutes seconds)
 
 -- the two cases of `timeOf`
@@ -121,11 +122,11 @@ time-only h [] three t = absurd (omega arith)
 time-only h (a ∷ []) three t = absurd (omega arith)
 time-only h (a ∷ b ∷ []) three t = absurd (omega arith)
 time-only h (a ∷ b ∷ c ∷ []) three t =
-    let (first, rest) = and-parts (isBcdUpTo h a) (isBcdUpTo 59 b && isBcdUpTo 59 c) t in
-    let (second, third) = and-parts (isBcdUpTo 59 b) (isBcdUpTo 59 c) rest in
+    let (first, rest) = and-parts (isBcdUpTo h a) (isBcdUpTo minutesMost b && isBcdUpTo secondsMost c) t in
+    let (second, third) = and-parts (isBcdUpTo minutesMost b) (isBcdUpTo secondsMost c) rest in
     let (same-a, hours, few) = up-to-only h a first in
-    let (same-b, minutes, few-b) = up-to-only 59 b second in
-    let (same-c, seconds, few-c) = up-to-only 59 c third in (
+    let (same-b, minutes, few-b) = up-to-only minutesMost b second in
+    let (same-c, seconds, few-c) = up-to-only secondsMost c third in (
       ap timeBytes (time-parts (ofBcd a) (ofBcd b) (ofBcd c) few (omega arith) (omega arith))
           ∙ (λ i. same-a i ∷ same-b i ∷ same-c i ∷ []),
       omega arith,
@@ -140,15 +141,15 @@ duration-back d most = time-back d most
 pub duration-is : (d : ℕ) → durationLeast ≤ d → d ≤ durationMost → T (isDurationBytes (durationBytes d))
 duration-is d least most =
     let enough : durationLeast ≤ secondsOf (durationBytes d) = rw (duration-back d most) least in
-    and-both (isTime 99 (durationBytes d)) (leb durationLeast (secondsOf (durationBytes d)))
-    (time-hours 99 d (omega arith))
+    and-both (isTime durationHoursMost (durationBytes d)) (leb durationLeast (secondsOf (durationBytes d)))
+    (time-hours durationHoursMost d (omega arith))
     (le→leb _ _ enough)
 
 pub duration-only : (bs : List ℕ) → length bs ≡ 3 → T (isDurationBytes bs)
     → (durationBytes (secondsOf bs) ≡ bs) × (durationLeast ≤ secondsOf bs) × (secondsOf bs ≤ durationMost)
 duration-only bs three t =
-    let (time, least) = and-parts (isTime 99 bs) (leb durationLeast (secondsOf bs)) t in
-    let (same, few) = time-only 99 bs three time in
+    let (time, least) = and-parts (isTime durationHoursMost bs) (leb durationLeast (secondsOf bs)) t in
+    let (same, few) = time-only durationHoursMost bs three time in
     (same, leb→le durationLeast (secondsOf bs) least, omega arith)
 
 -- ---- a start, as a day and a time of that day
@@ -173,8 +174,8 @@ module _ (base s : ℕ) (inside : base ≤ baseMost) (few : s < startLimit) wher
       let start : ℕ = startOf base (startBytes base s) in
       let later : base ≤ day = rw start-day (omega arith) in
       let soon : start < startLimit = rw start-back few in
-      and-both (isTime 23 time) (leb base day && ltb start startLimit)
-      (time-hours 23 (s % secondsOfDay) (omega arith))
+      and-both (isTime startHoursMost time) (leb base day && ltb start startLimit)
+      (time-hours startHoursMost (s % secondsOfDay) (omega arith))
       (and-both (leb base day) (ltb start startLimit) (le→leb _ _ later) (lt→ltb _ _ soon))
 
 -- back from the seconds to the day and the time of that day
@@ -190,9 +191,9 @@ start-only base (a ∷ []) five bytes t = absurd (omega arith)
 start-only base (a ∷ b ∷ bs) five bytes t =
     let day : ℕ = valueOf (a ∷ b ∷ []) in
     let start : ℕ = startOf base (a ∷ b ∷ bs) in
-    let (time, rest) = and-parts (isTime 23 bs) (leb base day && ltb start startLimit) t in
+    let (time, rest) = and-parts (isTime startHoursMost bs) (leb base day && ltb start startLimit) t in
     let (later, soon) = and-parts (leb base day) (ltb start startLimit) rest in
-    let (same-time, few) = time-only 23 bs (omega arith) time in
+    let (same-time, few) = time-only startHoursMost bs (omega arith) time in
     let (the-day, the-time) = start-parts base day (secondsOf bs) (leb→le base day later) few in (
       (λ i. bigEndian 2 (the-day i) ++ timeBytes (timeOf (the-time i)))
           ∙ (λ i. big-endian-value (a ∷ b ∷ []) (bytes .0, (bytes .1 .0, tt)) i ++ same-time i),

@@ -4,6 +4,7 @@ use Prim.Native.Nat.{ℕ}
 use mathlib.Core.Path.{_≡_}
 use mathlib.Core.Bool.{Bool, true, false}
 use mathlib.Core.List.{List, [], _∷_}
+use lib.ListN.{replicate}
 use Rattle.eit.specs.Sizes.{broadcast, limitedTo}
 use Rattle.eit.specs.Records.{EventList, lentList, recordsOf}
 use Rattle.eit.specs.Pools.{Pools, lentPools, poolOf}
@@ -35,7 +36,11 @@ pub record Examples : Type 0 where
   pub marks-above : isSound 1 (0 ∷ 0 ∷ 1 ∷ 8 ∷ 0 ∷ 0 ∷ []) ≡ false
   pub outside : isSound 1 (0 ∷ 0 ∷ 1 ∷ 0 ∷ 1 ∷ 3 ∷ []) ≡ false
   pub empty-outside : isSound 1 (0 ∷ 0 ∷ 1 ∷ 0 ∷ 4 ∷ 0 ∷ []) ≡ false
+  pub outside-wrapped : isSound 1 (0 ∷ 0 ∷ 1 ∷ 0 ∷ 4_294_967_295 ∷ 1 ∷ []) ≡ false
   pub no-chain : isSound 1 (0 ∷ 0 ∷ 1 ∷ 0 ∷ 0 ∷ 2 ∷ []) ≡ false
+  -- a chain that no section can hold: 2,034 descriptors without a byte
+  pub long-chain :
+      sound broadcast (lentPools (replicate 4_068 0) []) (lentList (0 ∷ 0 ∷ 1 ∷ 0 ∷ 0 ∷ 4_068 ∷ []) 1) ≡ true
   pub overlap : isSound 2 (1 ∷ 0 ∷ 60 ∷ 0 ∷ 0 ∷ 0 ∷ 2 ∷ 1 ∷ 60 ∷ 0 ∷ 0 ∷ 0 ∷ []) ≡ true
   pub same-start : isSound 2 (1 ∷ 5 ∷ 60 ∷ 0 ∷ 0 ∷ 0 ∷ 2 ∷ 5 ∷ 60 ∷ 0 ∷ 0 ∷ 0 ∷ []) ≡ false
   pub same-id : isSound 2 (1 ∷ 0 ∷ 60 ∷ 0 ∷ 0 ∷ 0 ∷ 1 ∷ 5 ∷ 60 ∷ 0 ∷ 0 ∷ 0 ∷ []) ≡ false

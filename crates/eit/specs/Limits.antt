@@ -1,5 +1,5 @@
--- The ranges of a record's values, of the base day and of the version (01, "Event record and sound list", "When a call says no").
--- Assumes nothing.
+-- The ranges of a record's values, of the base day, of a time's digits and of the version (01, "Event record and sound
+-- list", "The file of sections"). Assumes nothing.
 use Prim.Native.Nat.{ℕ}
 
 -- id (at most 65,535)
@@ -24,6 +24,19 @@ marksMost = 7
 -- 01's term: base day. A Modified Julian Date of 0 to 65,472
 abbrev pub baseMost : ℕ
 baseMost = 65_472
+
+-- start hours are at most 23, duration hours at most 99, minutes and seconds at most 59
+abbrev pub startHoursMost : ℕ
+startHoursMost = 23
+
+abbrev pub durationHoursMost : ℕ
+durationHoursMost = 99
+
+abbrev pub minutesMost : ℕ
+minutesMost = 59
+
+abbrev pub secondsMost : ℕ
+secondsMost = 59
 
 -- version (5 bits, 0 to 31)
 abbrev pub versionMost : ℕ

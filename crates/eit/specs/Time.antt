@@ -7,6 +7,7 @@ use lib.Dec.{leb, ltb}
 use lib.ListN.{getD, take, drop}
 use Rattle.eit.specs.Fields.{bigEndian, valueOf}
 use Rattle.eit.specs.Limits.{startLimit, durationLeast, durationMost}
+use Rattle.eit.specs.Limits.{startHoursMost, durationHoursMost, minutesMost, secondsMost}
 use Rattle.eit.specs.declared.Time.{Time}
 
 -- the time type makes itself from seconds; above 359,999 it is 99:59:59
@@ -14,7 +15,7 @@ abbrev pub timeOf : ℕ → Time
 timeOf s =
     elim (leb s durationMost) [
       | true ↦ record { hours = s / 3600; minutes = s / 60 % 60; seconds = s % 60 }
-      | false ↦ record { hours = 99; minutes = 59; seconds = 59 }
+      | false ↦ record { hours = durationHoursMost; minutes = minutesMost; seconds = secondsMost }
     ]
 
 -- two BCD digits in a byte
@@ -50,9 +51,10 @@ ofBcd b = b / 16 * 10 + b % 16
 abbrev pub isBcdUpTo : ℕ → ℕ → Bool
 isBcdUpTo most b = isBcd b && leb (ofBcd b) most
 
--- start hours are at most 23, duration hours at most 99, minutes and seconds at most 59
+-- six BCD digits hhmmss, with hours of at most `hoursMost`
 abbrev pub isTime : ℕ → List ℕ → Bool
-isTime hoursMost bs = isBcdUpTo hoursMost (getD bs 0 0) && (isBcdUpTo 59 (getD bs 1 0) && isBcdUpTo 59 (getD bs 2 0))
+isTime hoursMost bs =
+    isBcdUpTo hoursMost (getD bs 0 0) && (isBcdUpTo minutesMost (getD bs 1 0) && isBcdUpTo secondsMost (getD bs 2 0))
 
 -- the seconds of six BCD digits hhmmss
 abbrev pub secondsOf : List ℕ → ℕ
@@ -60,7 +62,7 @@ secondsOf bs = ofBcd (getD bs 0 0) * 3600 + ofBcd (getD bs 1 0) * 60 + ofBcd (ge
 
 -- a duration stays in a record's range: its digits show at most 99:59:59
 abbrev pub isDurationBytes : List ℕ → Bool
-isDurationBytes bs = isTime 99 bs && leb durationLeast (secondsOf bs)
+isDurationBytes bs = isTime durationHoursMost bs && leb durationLeast (secondsOf bs)
 
 -- the seconds after t0 of a start's five bytes; the day comes from its MJD
 abbrev pub startOf : ℕ → List ℕ → ℕ
@@ -68,4 +70,5 @@ startOf base bs = (valueOf (take 2 bs) - base) * secondsOfDay + secondsOf (drop 
 
 -- a start stays in a record's range: not before t0, and below 5,529,600
 abbrev pub isStartBytes : ℕ → List ℕ → Bool
-isStartBytes base bs = isTime 23 (drop 2 bs) && (leb base (valueOf (take 2 bs)) && ltb (startOf base bs) startLimit)
+isStartBytes base bs =
+    isTime startHoursMost (drop 2 bs) && (leb base (valueOf (take 2 bs)) && ltb (startOf base bs) startLimit)

@@ -44,6 +44,14 @@ impl Time {
     pub const DURATION_LEAST: u32 = 1;
     // And at most 99:59:59.
     pub const DURATION_MOST: u32 = 359_999;
+    // The most hours of a start.
+    pub const START_HOURS_MOST: u8 = 23;
+    // The most hours of a duration.
+    pub const DURATION_HOURS_MOST: u8 = 99;
+    // The most minutes of either.
+    pub const MINUTES_MOST: u8 = 59;
+    // And the most seconds.
+    pub const SECONDS_MOST: u8 = 59;
 
     // A start in a record's range: seconds after t0.
     pub fn is_start(seconds: u32) -> bool
@@ -65,9 +73,9 @@ impl Time {
     {
         if Self::DURATION_MOST < seconds {
             return Time {
-                hours: 99,
-                minutes: 59,
-                seconds: 59,
+                hours: Self::DURATION_HOURS_MOST,
+                minutes: Self::MINUTES_MOST,
+                seconds: Self::SECONDS_MOST,
             };
         }
         Time {

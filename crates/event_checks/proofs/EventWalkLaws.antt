@@ -9,7 +9,7 @@ use native.Mathlib.Omega.{arith}
 use lib.Dec.{T, eqb, leb, eqb→eq, ltb→lt}
 use lib.ListN.{length, take, drop, length-take, length-drop}
 use lib.Seq.{take-all, length-take-le}
-use Rattle.eit.specs.Limits.{startLimit}
+use Rattle.eit.specs.Limits.{startLimit, startHoursMost}
 use Rattle.eit.specs.Fields.{bytesAt, valueOf}
 use Rattle.eit.specs.Time.{isTime, isStartBytes, isDurationBytes, startOf}
 use Rattle.eit.specs.Chain.{isChain}
@@ -42,7 +42,8 @@ module _ (base : ℕ) (bs : List ℕ) (whole : T (isWholeEvent base bs)) where
   whole-soon =
       let starts : T (isStartBytes base (bytesAt 2 5 bs)) =
       and-left (isStartBytes base (bytesAt 2 5 bs)) _ (and-right (eqb (length bs) (statedEventSize bs)) _ whole) in
-      ltb→lt _ startLimit (and-right (leb base (valueOf (take 2 (bytesAt 2 5 bs)))) _ (and-right (isTime 23 (drop 2 (bytesAt 2 5 bs))) _ starts))
+      ltb→lt _ startLimit
+      (and-right (leb base (valueOf (take 2 (bytesAt 2 5 bs)))) _ (and-right (isTime startHoursMost (drop 2 (bytesAt 2 5 bs))) _ starts))
 
 module _ (base : ℕ) (bs : List ℕ) {r : Record} (read : eventRead base bs ≡ Whole r) where
   holds : T (isWholeEvent base (frontEvent bs))

@@ -17,6 +17,7 @@ use Rattle.sections.specs.Encode.{versionOf}
 use Rattle.schedule.specs.Plan.{plan}
 use Rattle.schedule.specs.Build.{build}
 use Rattle.schedule.specs.ExampleLists.{row, bare}
+use Rattle.calendar.specs.Date.{dateOf}
 use Rattle.schedule_samples.specs.SampleLists.{chainOf}
 use Rattle.schedule_samples.specs.SampleCalls.{answer}
 use Rattle.schedule_samples.specs.Samples.{Samples}
@@ -31,8 +32,10 @@ bare-340 = refl
 
 pub samples : Samples
 unfolding build plan edit formOf unstruckIn sound eventsOf recordsOf follows choose isChain crc32 versionOf chainOf row
+    dateOf
 samples =
     record {
+      day = refl;
       date = refl;
       date-later = refl;
       lasting = refl;

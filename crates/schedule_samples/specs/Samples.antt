@@ -11,13 +11,16 @@ use Rattle.sections.specs.Section.{eventOverhead}
 use Rattle.schedule.specs.Build.{fileOf}
 use Rattle.schedule.specs.ExampleLists.{bare}
 use Rattle.schedule.specs.ExampleCalls.{filled}
+use Rattle.calendar.specs.Date.{dateOf}
+use Rattle.calendar.specs.Calendar.{on}
 use Rattle.schedule_samples.specs.SampleLists.{long, overlong, overlongs, pair, programme, zeros, emptyFile}
 use Rattle.schedule_samples.specs.SampleCalls.{buildOf, answer, headerAfter, eventAfter, planOf, cuts, numbers, editOf}
 use Rattle.schedule_samples.specs.SampleCalls.{emptySegments, emptyTables}
 
 pub record Samples : Type 0 where
-  -- "1993-10-13 12:45:00 is C0 79 12 45 00 (EN 300 468, 5.2.4); 01:45:30 is 01 45 30." That day is MJD 49,273; then by a base day
-  -- two days before it; then as an event of Build's file, after four empty segments and after twenty
+  -- "1993-10-13 12:45:00 is C0 79 12 45 00 (EN 300 468, 5.2.4); 01:45:30 is 01 45 30." The day's MJD; then by that base day
+  -- and by one two days before it; then as an event of Build's file, after four empty segments and after twenty
+  pub day : dateOf 49_273 ≡ on 1993 10 13
   pub date : startBytes 49_273 45_900 ≡ 0xC0 ∷ 0x79 ∷ 0x12 ∷ 0x45 ∷ 0x00 ∷ []
   pub date-later : startBytes 49_271 (2 * 86_400 + 45_900) ≡ 0xC0 ∷ 0x79 ∷ 0x12 ∷ 0x45 ∷ 0x00 ∷ []
   pub lasting : durationBytes 6_330 ≡ 0x01 ∷ 0x45 ∷ 0x30 ∷ []

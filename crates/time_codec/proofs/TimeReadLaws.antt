@@ -12,6 +12,7 @@ use lib.Dec.{T, leb, ltb, leb→le}
 use lib.ListN.{length, take, drop, getD}
 use lib.Seq.{getD-take, getD-drop, take-take, drop-drop}
 use Rattle.eit.specs.Limits.{startLimit, durationLeast, durationMost}
+use Rattle.eit.specs.Limits.{startHoursMost, durationHoursMost, minutesMost, secondsMost}
 use Rattle.eit.specs.Fields.{bytesAt, field}
 use Rattle.eit.specs.Time.{timeOf, secondsOfDay, ofBcd, isBcdUpTo, isTime, secondsOf, isDurationBytes, startOf, isStartBytes}
 use Rattle.eit.specs.declared.Time.{Time}
@@ -56,7 +57,8 @@ module _ (most at : ℕ) (bs : List ℕ) where
 
   -- where the three bytes are there, their digits decide
   module _ (fits : at + 3 ≤ length bs) {b : Bool}
-      (test : b ≡ (isBcdUpTo most (getD bs at 0) && (isBcdUpTo 59 (getD bs (at + 1) 0) && isBcdUpTo 59 (getD bs (at + 2) 0)))) where
+      (test : b ≡ (isBcdUpTo most (getD bs at 0)
+      && (isBcdUpTo minutesMost (getD bs (at + 1) 0) && isBcdUpTo secondsMost (getD bs (at + 2) 0)))) where
     first : getD (bytesAt at 3 bs) 0 0 ≡ getD bs at 0
     first = byte 0 (omega arith) ∙ ap (λ (k : ℕ). getD bs k 0) (add-zero at)
 
@@ -85,25 +87,25 @@ time-small s t is =
 -- ---- a duration
 
 module _ (at : ℕ) (bs : List ℕ) where
-  pub duration-no-time : timeAt 99 at bs ≡ Broken → durationAt at bs ≡ Broken
+  pub duration-no-time : timeAt durationHoursMost at bs ≡ Broken → durationAt at bs ≡ Broken
   unfolding timeAt durationAt
   duration-no-time none =
       let fits : Bool = leb (at + 3) (length bs) in
-      let time : Bool = isTime 99 (bytesAt at 3 bs) in
+      let time : Bool = isTime durationHoursMost (bytesAt at 3 bs) in
       let least : Bool = leb durationLeast (secondsOf (bytesAt at 3 bs)) in
       rw (and-no fits time least (broken-only (fits && time) (secondsOf (bytesAt at 3 bs)) none))
 
   -- a time of up to 99 hours is a duration if it is in range; it is never too long
-  pub duration-time : (n : ℕ) → timeAt 99 at bs ≡ Seconds n
+  pub duration-time : (n : ℕ) → timeAt durationHoursMost at bs ≡ Seconds n
       → durationAt at bs ≡ secondsIf (leb durationLeast n && leb n durationMost) n
   unfolding timeAt durationAt
   duration-time n is =
       let fits : Bool = leb (at + 3) (length bs) in
-      let time : Bool = isTime 99 (bytesAt at 3 bs) in
+      let time : Bool = isTime durationHoursMost (bytesAt at 3 bs) in
       let (passed, same) = seconds-only (fits && time) (secondsOf (bytesAt at 3 bs)) n is in
       let (room, shown) = and-parts fits time passed in
       let three : length (bytesAt at 3 bs) ≡ 3 = field-length bs at 3 (leb→le (at + 3) (length bs) room) in
-      let few : secondsOf (bytesAt at 3 bs) < 100 * 3600 = time-only 99 (bytesAt at 3 bs) three shown .1 in
+      let few : secondsOf (bytesAt at 3 bs) < 100 * 3600 = time-only durationHoursMost (bytesAt at 3 bs) three shown .1 in
       let most : n ≤ durationMost = omega arith in
       rw (true-is fits room, true-is time shown, same, le-leb n durationMost most, and-true (leb durationLeast n))
 
@@ -139,7 +141,7 @@ module _ (base at : ℕ) (bs : List ℕ) where
   start-parts : at + 5 ≤ length bs
       → startAt base at bs
       ≡ secondsIf
-      (isTime 23 (bytesAt (at + 2) 3 bs)
+      (isTime startHoursMost (bytesAt (at + 2) 3 bs)
       && (leb base (field at 2 bs)
       && ltb ((field at 2 bs - base) * secondsOfDay + secondsOf (bytesAt (at + 2) 3 bs)) startLimit))
       ((field at 2 bs - base) * secondsOfDay + secondsOf (bytesAt (at + 2) 3 bs))
@@ -150,20 +152,20 @@ module _ (base at : ℕ) (bs : List ℕ) where
     inside : leb (at + 2 + 3) (length bs) ≡ true
     inside = le-leb (at + 2 + 3) (length bs) (omega arith)
 
-    pub start-no-time : timeAt 23 (at + 2) bs ≡ Broken → startAt base at bs ≡ Broken
+    pub start-no-time : timeAt startHoursMost (at + 2) bs ≡ Broken → startAt base at bs ≡ Broken
     unfolding timeAt
     start-no-time none =
-        let time : Bool = isTime 23 (bytesAt (at + 2) 3 bs) in
+        let time : Bool = isTime startHoursMost (bytesAt (at + 2) 3 bs) in
         let fails : time ≡ false = sym (ap (λ (b : Bool). b && time) inside) ∙ broken-only (leb (at + 2 + 3) (length bs) && time) _ none in
         start-parts fits ∙ rw fails
 
     -- a day and a time that were read
-    module _ {day n : ℕ} (is-day : day ≡ field at 2 bs) (is-time : timeAt 23 (at + 2) bs ≡ Seconds n) where
+    module _ {day n : ℕ} (is-day : day ≡ field at 2 bs) (is-time : timeAt startHoursMost (at + 2) bs ≡ Seconds n) where
       start-read : startAt base at bs
           ≡ secondsIf (leb base day && ltb ((day - base) * secondsOfDay + n) startLimit) ((day - base) * secondsOfDay + n)
       unfolding timeAt
       start-read =
-          let time : Bool = isTime 23 (bytesAt (at + 2) 3 bs) in
+          let time : Bool = isTime startHoursMost (bytesAt (at + 2) 3 bs) in
           let (passed, same) = seconds-only (leb (at + 2 + 3) (length bs) && time) (secondsOf (bytesAt (at + 2) 3 bs)) n is-time in
           let (room, shown) = and-parts (leb (at + 2 + 3) (length bs)) time passed in
           start-parts fits ∙ rw (true-is time shown, same, is-day)

@@ -5,6 +5,7 @@ use eit::Time;
 ghost use mathlib.Core.Path.{_≡_};
 ghost use mathlib.Core.Bool.{_&&_};
 ghost use Prim.Native.Nat.{_+_, _*_, _<_};
+ghost use Rattle.eit.specs.Limits.{minutesMost, secondsMost};
 ghost use Rattle.eit.specs.Time.{timeOf, toBcd, timeBytes, startBytes, durationBytes, isBcd, ofBcd, isBcdUpTo};
 ghost use Rattle.codec.specs.Write.{writeAt};
 ghost use Rattle.time_codec.specs.TimeRead.{timeAt, durationAt, startAt};
@@ -17,15 +18,6 @@ pub enum TimeRead {
 }
 
 const SECONDS_OF_DAY: u32 = 86_400;
-
-// The most hours of a start and of a duration, and the most minutes and seconds of either.
-const START_HOURS_MOST: u32 = 23;
-
-const DURATION_HOURS_MOST: u32 = 99;
-
-const MINUTES_MOST: u32 = 59;
-
-const SECONDS_MOST: u32 = 59;
 
 // Two BCD digits.
 fn to_bcd(n: u8) -> u8
@@ -71,10 +63,10 @@ pub fn write_start(out: &mut [u8], at: usize, base_day: u32, start: u32)
 }
 
 // The number that two BCD digits show.
-fn of_bcd(byte: u8) -> u32
+fn of_bcd(byte: u8) -> u8
     ensures { λ r. ⌜ r ≡ ofBcd byte ⌝ }
 {
-    (byte / 16) as u32 * 10 + (byte % 16) as u32
+    byte / 16 * 10 + byte % 16
 }
 
 // Whether both halves of the byte are decimal digits.
@@ -85,29 +77,29 @@ fn is_bcd(byte: u8) -> bool
 }
 
 // And the number that they show is at most `most`.
-fn is_bcd_up_to(most: u32, byte: u8) -> bool
+fn is_bcd_up_to(most: u8, byte: u8) -> bool
     ensures { λ r. ⌜ r ≡ isBcdUpTo most byte ⌝ }
 {
     is_bcd(byte) && of_bcd(byte) <= most
 }
 
 // Whether three bytes are six BCD digits hhmmss with hours of at most `most`.
-fn is_time(most: u32, hours: u8, minutes: u8, seconds: u8) -> bool
-    ensures { λ r. ⌜ r ≡ (isBcdUpTo most hours && (isBcdUpTo 59 minutes && isBcdUpTo 59 seconds)) ⌝ }
+fn is_time(most: u8, hours: u8, minutes: u8, seconds: u8) -> bool
+    ensures { λ r. ⌜ r ≡ (isBcdUpTo most hours && (isBcdUpTo minutesMost minutes && isBcdUpTo secondsMost seconds)) ⌝ }
 {
     is_bcd_up_to(most, hours)
-        && (is_bcd_up_to(MINUTES_MOST, minutes) && is_bcd_up_to(SECONDS_MOST, seconds))
+        && (is_bcd_up_to(Time::MINUTES_MOST, minutes) && is_bcd_up_to(Time::SECONDS_MOST, seconds))
 }
 
 // The seconds of six BCD digits hhmmss.
 fn seconds_of(hours: u8, minutes: u8, seconds: u8) -> u32
     ensures { λ r. ⌜ r ≡ ofBcd hours * 3600 + ofBcd minutes * 60 + ofBcd seconds ⌝ }
 {
-    of_bcd(hours) * 3600 + of_bcd(minutes) * 60 + of_bcd(seconds)
+    of_bcd(hours) as u32 * 3600 + of_bcd(minutes) as u32 * 60 + of_bcd(seconds) as u32
 }
 
 // A time with hours of at most `most`.
-fn read_time(bytes: &[u8], at: usize, most: u32) -> TimeRead
+fn read_time(bytes: &[u8], at: usize, most: u8) -> TimeRead
     ensures { λ r. ⌜ r ≡ timeAt most at (now (bytes .entry)) ⌝ }
 {
     if !fields::is_within(bytes.len(), at, 3) {
@@ -126,7 +118,7 @@ fn read_time(bytes: &[u8], at: usize, most: u32) -> TimeRead
 pub fn read_duration(bytes: &[u8], at: usize) -> TimeRead
     ensures { λ r. ⌜ r ≡ durationAt at (now (bytes .entry)) ⌝ }
 {
-    let TimeRead::Seconds(duration) = read_time(bytes, at, DURATION_HOURS_MOST) else {
+    let TimeRead::Seconds(duration) = read_time(bytes, at, Time::DURATION_HOURS_MOST) else {
         return TimeRead::Broken;
     };
     if Time::is_duration(duration) {
@@ -143,7 +135,7 @@ pub fn read_start(bytes: &[u8], at: usize, base_day: u32) -> TimeRead
     if !fields::is_within(bytes.len(), at, 5) {
         return TimeRead::Broken;
     }
-    let TimeRead::Seconds(time) = read_time(bytes, at + 2, START_HOURS_MOST) else {
+    let TimeRead::Seconds(time) = read_time(bytes, at + 2, Time::START_HOURS_MOST) else {
         return TimeRead::Broken;
     };
     let day = fields::read_field(bytes, at, 2);
