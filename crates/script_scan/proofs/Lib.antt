@@ -9,3 +9,5 @@ pub mod StrikeLaws
 pub mod PartLaws
 -- what the answers of the passes say of a script
 pub mod ScanLaws
+-- the examples, computed
+pub mod Examples

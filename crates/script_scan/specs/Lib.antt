@@ -1,2 +1,3 @@
 -- What the contracts of this crate say beyond the model's definitions.
 pub mod Commands  -- forms, UNDOs and commands as the model has them; the commands from an offset on
+pub mod Examples  -- the commands of a short script, computed

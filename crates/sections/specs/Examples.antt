@@ -12,8 +12,9 @@ use Rattle.sections.specs.Section.{Header}
 use Rattle.sections.specs.Encode.{eventBytes, fileBytes}
 use Rattle.sections.specs.Rules.{Numbered, Rules}
 use Rattle.sections.specs.Count.{sectionsCounted, eventsCounted}
-use Rattle.sections.specs.Read.{success, checkFile, read}
-use Rattle.sections.specs.Files.{section, withBits, event, withEvent, one, hour, bare, noon, rival, full, says, refusedWith}
+use Rattle.sections.specs.Read.{checkFile, read}
+use Rattle.sections.specs.Files.{section, withBits, event, withEvent, one, hour, bare, noon, rival, full}
+use Rattle.sections.specs.Files.{says, acceptedWith, refusedWith}
 
 -- the table of a start, and the first section of its segment
 abbrev pub startPlace : ℕ → ℕ × ℕ
@@ -72,24 +73,9 @@ pub record Examples : Type 0 where
       ∷ 0x11 ∷ 0xA6 ∷ 0x7E ∷ 0x17 ∷ []
   pub one-event :
       read broadcast 49_273 noon (9 ∷ 9 ∷ 9 ∷ 9 ∷ 9 ∷ 9 ∷ 9 ∷ [])
-      ≡ record { answer = success identity 1; buffer = 1 ∷ 45_900 ∷ 6_330 ∷ 0 ∷ 98 ∷ 0 ∷ 9 ∷ [] }
-  -- answers in full
-  pub answered :
-      says (section 0x50 0 0 0 0x50 (event 1 0x00 0x00))
-      ≡ record {
-        number = 0;
-        value = 1;
-        identity = record { «service_id» = 1; «transport_stream_id» = 2; «original_network_id» = 3; version = 0 };
-        count = 1;
-      }
-  pub refused :
-      says (section 0x50 0 0 0 0x50 [] ++ (0x50 ∷ []))
-      ≡ record {
-        number = 20;
-        value = 18;
-        identity = record { «service_id» = 0; «transport_stream_id» = 0; «original_network_id» = 0; version = 0 };
-        count = 0;
-      }
+      ≡ record { answer = acceptedWith 1; buffer = 1 ∷ 45_900 ∷ 6_330 ∷ 0 ∷ 98 ∷ 0 ∷ 9 ∷ [] }
+  pub answered : says (section 0x50 0 0 0 0x50 (event 1 0x00 0x00)) ≡ acceptedWith 1
+  pub refused : says (section 0x50 0 0 0 0x50 [] ++ (0x50 ∷ [])) ≡ refusedWith 20 18
   pub full-accepted :
       says full
       ≡ record {
@@ -102,11 +88,11 @@ pub record Examples : Type 0 where
       read broadcast 49_273 (section 0x50 0 0 0 0x50
       (0x12 ∷ 0x34 ∷ 0xC0 ∷ 0x79 ∷ 0x02 ∷ 0x45 ∷ 0x00 ∷ 0x01 ∷ 0x45 ∷ 0x30 ∷ 0xB0 ∷ 0x03 ∷ 0x4D ∷ 0x01 ∷ 0x09 ∷ []))
       (0 ∷ 0 ∷ 0 ∷ 0 ∷ 0 ∷ 0 ∷ [])
-      ≡ record { answer = success identity 1; buffer = 0x1234 ∷ 9_900 ∷ 6_330 ∷ 5 ∷ 26 ∷ 3 ∷ [] }
+      ≡ record { answer = acceptedWith 1; buffer = 0x1234 ∷ 9_900 ∷ 6_330 ∷ 5 ∷ 26 ∷ 3 ∷ [] }
   pub rival-accepted :
       read broadcast 49_273 rival (0 ∷ 0 ∷ 0 ∷ 0 ∷ 0 ∷ 0 ∷ 0 ∷ 0 ∷ 0 ∷ 0 ∷ 0 ∷ 0 ∷ 0 ∷ 0 ∷ 0 ∷ 0 ∷ 0 ∷ 0 ∷ [])
       ≡ record {
-        answer = success identity 3;
+        answer = acceptedWith 3;
         buffer = 1 ∷ 0 ∷ 1 ∷ 0 ∷ 26 ∷ 0 ∷ 2 ∷ 3_600 ∷ 1 ∷ 0 ∷ 56 ∷ 0 ∷ 3 ∷ 10_740 ∷ 1 ∷ 0 ∷ 68 ∷ 0 ∷ [];
       }
   pub counted : (sectionsCounted 49_273 rival 0 ≡ 2) × (sectionsCounted 49_273 rival 1 ≡ 1) × (sectionsCounted 49_273 rival 2 ≡ 0)

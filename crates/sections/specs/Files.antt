@@ -93,7 +93,17 @@ full =
 abbrev pub says : List ℕ → Answer
 says file = checkFile broadcast 49_273 file
 
--- a refusal with its number and value, apart from Read's own words for it
+-- an answer apart from Read's own words for it: success with so many events under the identity above
+abbrev pub acceptedWith : ℕ → Answer
+acceptedWith events =
+    record {
+      number = 0;
+      value = events;
+      identity = record { «service_id» = 1; «transport_stream_id» = 2; «original_network_id» = 3; version = 0 };
+      count = events;
+    }
+
+-- a refusal with its number and value
 abbrev pub refusedWith : ℕ → ℕ → Answer
 refusedWith number value =
     record {
