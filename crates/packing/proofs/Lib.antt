@@ -2,3 +2,5 @@
 pub mod Greedy
 -- what parts hold tells the parts
 pub mod Joined
+-- the examples, computed
+pub mod Examples

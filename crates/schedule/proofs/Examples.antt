@@ -1,4 +1,4 @@
--- The examples of specs/Examples.antt hold: each is computed. Assumes nothing.
+-- The rows of specs/Examples.antt and specs/Answers.antt hold: each is computed. Assumes nothing.
 use mathlib.Core.Path.{refl}
 use Rattle.eit.specs.Crc.{crc32}
 use Rattle.eit.specs.Chain.{isChain}
@@ -11,6 +11,7 @@ use Rattle.schedule.specs.Plan.{plan}
 use Rattle.schedule.specs.Build.{build}
 use Rattle.schedule.specs.ExampleLists.{row}
 use Rattle.schedule.specs.Examples.{Examples}
+use Rattle.schedule.specs.Answers.{Answers}
 
 pub examples : Examples
 unfolding build plan sound eventsOf recordsOf follows choose isChain crc32 versionOf row
@@ -26,6 +27,26 @@ examples =
       nine-plan = refl;
       nine-packed = refl;
       pairs-plan = refl;
+      nine-last = refl;
+      two-together = refl;
+      two-apart = refl;
       chain-fits = refl;
       chain-too-long = refl;
+    }
+
+pub answers : Answers
+unfolding build plan sound eventsOf recordsOf follows choose isChain crc32 versionOf row
+answers =
+    record {
+      version-written = refl;
+      byte-short = refl;
+      base = refl;
+      version = refl;
+      unsound-list = refl;
+      unpackable = refl;
+      base-first = refl;
+      version-first = refl;
+      unsound-first = refl;
+      unpackable-first = refl;
+      unsound-plan = refl;
     }

@@ -40,5 +40,5 @@ pub mod Only
 pub mod Demands
 -- three laws of Build's file
 pub mod BuiltFile
--- the examples, computed
+-- the examples and answers, computed
 pub mod Examples

@@ -50,6 +50,14 @@ crowded =
     (10_800 ∷ 10_801 ∷ 10_802 ∷ 10_803 ∷ 10_804 ∷ 10_805 ∷ 10_806 ∷ 10_807 ∷ 10_808
     ∷ 356_400 ∷ 356_401 ∷ 356_402 ∷ 356_403 ∷ 356_404 ∷ 356_405 ∷ 356_406 ∷ 356_407 ∷ 356_408 ∷ [])
 
--- one event, with a chain of two bytes
+-- an event with a chain of two bytes
 abbrev pub described : Case
 described = chained (0x4D ∷ 0x00 ∷ []) (0 ∷ [])
+
+-- and one without descriptors behind it: 26 bytes together
+abbrev pub uneven : Case
+uneven = caseOf (0x4D ∷ 0x00 ∷ []) [] (event 1 0 0 2 ∷ event 2 1 0 0 ∷ [])
+
+-- an unsound list, two events with one start
+abbrev pub unsound : Case
+unsound = chained (0x4D ∷ 0x00 ∷ []) (0 ∷ 0 ∷ [])

@@ -7,7 +7,7 @@ use mathlib.Core.List.{List, [], _∷_, _++_}
 use lib.ListN.{replicate}
 use Rattle.eit.specs.Sizes.{Sizes}
 use Rattle.schedule.specs.Build.{Built}
-use Rattle.schedule.specs.ExampleLists.{Case, bare, gap, crowded, described}
+use Rattle.schedule.specs.ExampleLists.{Case, bare, gap, crowded, described, uneven}
 use Rattle.schedule.specs.ExampleCalls.{buildWith, planWith, sectionsWith, sectionRow, filled}
 
 -- sections of at most so many bytes
@@ -72,6 +72,11 @@ pub record Examples : Type 0 where
   -- the same events, two to a section
   pub nine-packed : answer 42 crowded ≡ record { number = 11; value = 432; output = [] }
   pub pairs-plan : planWith (sectionsOfAtMost 42) crowded ≡ filled ((1 ∷ 5 ∷ []) ∷ (1 ∷ 5 ∷ []) ∷ [])
+  -- nine in the last segment alone
+  pub nine-last : answer 30 (bare 356_400 9) ≡ record { number = 10; value = 33; output = [] }
+  -- two events that fill their section, and two that are a byte too long for one
+  pub two-together : planWith (sectionsOfAtMost 44) uneven ≡ filled ((1 ∷ []) ∷ [])
+  pub two-apart : planWith (sectionsOfAtMost 43) uneven ≡ filled ((2 ∷ []) ∷ [])
   -- an event that fills its section, and one that is a byte too long
   pub chain-fits : answer 32 described ≡ record { number = 11; value = 32; output = [] }
   pub chain-too-long : answer 31 described ≡ record { number = 10; value = 0; output = [] }

@@ -10,3 +10,4 @@ pub mod Demands  -- demands 2 and 3, and demand 1's refusals, as one record type
 pub mod ExampleLists  -- lists to compute with
 pub mod ExampleCalls  -- and what is asked of them
 pub mod Examples  -- Build and Plan computed on short lists
+pub mod Answers  -- Build's answers, and which comes first

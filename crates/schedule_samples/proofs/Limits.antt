@@ -21,15 +21,5 @@ limits =
       three-cuts = refl;
       later-plan = refl;
       later-build = refl;
-      version-most = refl;
-      just-enough = refl;
-      byte-short = refl;
-      unsound-plan = refl;
-      unsound-build = refl;
-      base = refl;
-      version = refl;
-      base-first = refl;
-      version-first = refl;
-      unsound-first = refl;
       unpackable = refl;
     }

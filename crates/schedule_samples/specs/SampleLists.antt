@@ -29,10 +29,6 @@ overlongs = chained (chainOf 4_067) (0 ∷ 356_400 ∷ [])
 abbrev pub overlongLater : Case
 overlongLater = caseOf (chainOf 4_067) [] (event 1 0 0 0 ∷ event 2 356_400 0 4_067 ∷ [])
 
--- an unsound list, two events with one start; with chains of 4,067 bytes, too
-abbrev pub unsound : Case
-unsound = chained (chainOf 4_067) (0 ∷ 0 ∷ [])
-
 -- two events in segment 0 with chains of so many bytes, the second in the series pool
 abbrev pub pair : ℕ → ℕ → Case
 pair first second = caseOf (chainOf first) (chainOf second) (event 1 0 0 first ∷ event 2 1 2 second ∷ [])

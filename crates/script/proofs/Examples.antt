@@ -16,13 +16,17 @@ examples =
     record {
       paper-script = refl;
       operands = refl;
+      withdraw-operand = refl;
       put-between = refl;
       withdraw-frees = refl;
       move-re-places = refl;
+      move-to-front = refl;
+      move-keeps = refl;
       one-more = refl;
       one-less = refl;
       as-many = refl;
       own-start = refl;
+      id-zero = refl;
       descriptors = refl;
       undone = refl;
       nearest-struck = refl;
@@ -52,5 +56,6 @@ examples =
       keeps-the-earlier = refl;
       moved-late = refl;
       moved-absent = refl;
+      moved-when-full = refl;
       moved-onto = refl;
     }

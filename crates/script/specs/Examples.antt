@@ -49,14 +49,21 @@ pub record Examples : Type 0 where
   pub operands : formOf (0x01 ∷ 1 ∷ 2 ∷ 0 ∷ 0 ∷ 3 ∷ 4 ∷ 0 ∷ 0 ∷ 5 ∷ 6 ∷ 7 ∷ 0 ∷ 0 ∷ 8 ∷ 9 ∷ 10 ∷ 11 ∷ 0x04 ∷ 0x03 ∷ 1 ∷ 2 ∷ 0 ∷ 0 ∷ 3 ∷ 4 ∷ [])
       ≡ commands (doEdit (record { at = 0; act = put (record { id = 258; start = 772; duration = 1_286; marks = 7; offset = 2_057; «chain_length» = 2_571 }) })
       ∷ undo 18 ∷ doEdit (record { at = 19; act = move 258 772 }) ∷ [])
+  pub withdraw-operand : formOf (0x02 ∷ 1 ∷ 2 ∷ []) ≡ commands (doEdit (record { at = 0; act = withdraw 258 }) ∷ [])
   -- what each command does
   pub put-between : left (actBytes (put (plain 3 150))) ≡ numbersOfAll (plain 1 100 ∷ plain 3 150 ∷ plain 2 200 ∷ []) ++ (7 ∷ 7 ∷ [])
   pub withdraw-frees : left (actBytes (withdraw 1)) ≡ numbersOfAll (plain 2 200 ∷ []) ++ replicate 6 0 ++ replicate 8 7
   pub move-re-places : left (actBytes (move 1 300)) ≡ numbersOfAll (plain 2 200 ∷ plain 1 300 ∷ []) ++ replicate 8 7
+  pub move-to-front : left (actBytes (move 2 50)) ≡ numbersOfAll (plain 2 50 ∷ plain 1 100 ∷ []) ++ replicate 8 7
+  -- MOVE changes nothing but the start
+  pub move-keeps :
+      left (actBytes (put (event 3 150 5 3)) ++ actBytes (move 3 300))
+      ≡ numbersOfAll (plain 1 100 ∷ plain 2 200 ∷ event 3 300 5 3 ∷ []) ++ (7 ∷ 7 ∷ [])
   pub one-more : said (actBytes (put (plain 3 150))) ≡ (0, 3, 3)
   pub one-less : said (actBytes (withdraw 1)) ≡ (0, 1, 1)
   pub as-many : said (actBytes (move 1 300)) ≡ (0, 2, 2)
   pub own-start : said (actBytes (move 1 100)) ≡ (0, 2, 2)
+  pub id-zero : said (actBytes (put (plain 0 150)) ++ actBytes (withdraw 0)) ≡ (0, 2, 2)
   pub descriptors : said (actBytes (put (event 3 150 0 3))) ≡ (0, 3, 3)
   -- struck edits are not carried out, and leave no zeros behind
   pub undone : left (actBytes (put (plain 3 150)) ++ actBytes (withdraw 1) ++ undoByte ++ undoByte) ≡ list 2 .buffer
@@ -92,4 +99,5 @@ pub record Examples : Type 0 where
   pub keeps-the-earlier : left (actBytes (withdraw 1) ++ actBytes (withdraw 1)) ≡ numbersOfAll (plain 2 200 ∷ []) ++ replicate 6 0 ++ replicate 8 7
   pub moved-late : said (actBytes (move 9 startLimit)) ≡ (5, 0, 2)
   pub moved-absent : said (actBytes (move 9 200)) ≡ (6, 0, 2)
+  pub moved-when-full : said (actBytes (put (plain 3 300)) ++ actBytes (move 3 400)) ≡ (0, 3, 3)
   pub moved-onto : said (actBytes (move 1 200)) ≡ (7, 0, 2)

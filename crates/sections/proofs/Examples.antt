@@ -1,5 +1,6 @@
 -- The examples, computed. Assumes nothing.
 use mathlib.Core.Path.{refl}
+use mathlib.Core.Logic.{⊎-elim}
 use native.Mathlib.Omega.{arith}
 use Rattle.eit.specs.Crc.{crc32}
 use Rattle.eit.specs.Chain.{isChain}
@@ -11,21 +12,22 @@ use Rattle.sections.specs.JudgeEvents.{isEvent, isEventLoop, isWithinLim
 use Rattle.sections.specs.Count.{sectionsCounted, eventsCounted}
 use Rattle.sections.specs.Read.{read}
 use Rattle.sections.specs.Examples.{Examples}
+use Rattle.sections.specs.Broken.{Broken}
 
 pub examples : Examples
-unfolding read versionOf isFramed isClosed isHeader isInPlace isEvent isEventLoop isWithinLimit crc32 isChain follows fileBytes sectionsCounted eventsCounted sectionEvents
+unfolding read versionOf isFramed isClosed isHeader isInPlace isEvent isEventLoop isWithinLimit crc32 isChain follows fileBytes sectionsCounted eventsCounted
 examples =
     record {
       places = (refl, refl, refl, refl, refl, refl);
       tables = (refl, refl);
       firsts = (refl, refl, refl);
-      event-bytes = refl;
+      event-bytes = (refl, refl, refl);
       section-bytes = refl;
       one-event = refl;
       answered = refl;
       refused = refl;
       full-accepted = refl;
-      marks-and-chain = refl;
+      marks-read = (refl, refl, refl);
       rival-accepted = refl;
       counted = (refl, refl, refl);
       held = (refl, refl);
@@ -35,6 +37,17 @@ examples =
       same-id-apart = refl;
       broken-behind-limit = refl;
       buffer-short = refl;
+    }
+
+pub broken : Broken
+unfolding follows sectionEvents
+broken =
+    record {
       ninth-section = λ keeps. omega (arith, keeps .eight);
+      last-in-segment =
+          λ keeps. ⊎-elim (λ same. omega (arith, same)) (λ later. omega (arith, later)) (keeps .whole);
+      empty-before-other = λ keeps. omega (arith, keeps .alone refl .last);
       earlier-start = λ keeps. keeps .rises;
+      id-twice = λ keeps. keeps .differ;
+      one-too-many = λ keeps. omega (arith, keeps .few);
     }

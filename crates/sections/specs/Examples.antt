@@ -1,16 +1,14 @@
 -- Segments, sections and files computed (01, "The file of sections"): places of starts, bytes of data, records of bytes, counts in
--- segments, files that a rival may have made, and files that break a rule. The value is in proofs/Examples.antt. Assumes nothing.
+-- segments, files that a rival may have made, and some that Read refuses. The value is in proofs/Examples.antt. Assumes nothing.
 use Prim.Native.Nat.{ℕ}
 use mathlib.Core.Path.{_≡_}
-use mathlib.Core.Bool.{true, false}
-use mathlib.Core.List.{[], _∷_, _++_}
+use mathlib.Core.Bool.{Bool, true, false}
+use mathlib.Core.List.{List, [], _∷_, _++_}
 use Rattle.eit.specs.Sizes.{broadcast}
 use Rattle.eit.specs.Events.{Event}
 use Rattle.eit.specs.declared.Identity.{Identity}
 use Rattle.sections.specs.Segment.{tableLeast, tableMost, segmentIndex, tableOf, firstSection, firstOf}
-use Rattle.sections.specs.Section.{Header}
 use Rattle.sections.specs.Encode.{eventBytes, fileBytes}
-use Rattle.sections.specs.Rules.{Numbered, Rules}
 use Rattle.sections.specs.Count.{sectionsCounted, eventsCounted}
 use Rattle.sections.specs.Read.{checkFile, read}
 use Rattle.sections.specs.Files.{section, withBits, event, withEvent, one, hour, bare, noon, rival, full}
@@ -23,25 +21,18 @@ startPlace start = (tableOf (segmentIndex start), firstSection (segmentIndex sta
 abbrev pub identity : Identity
 identity = record { «service_id» = 1; «transport_stream_id» = 2; «original_network_id» = 3; version = 0 }
 
--- free CA, off air, and one descriptor
-abbrev pub sample : Event
-sample = record { id = 0x1234; start = 45_900; duration = 6_330; offAir = true; freeCa = true; chain = 0x4D ∷ 0x01 ∷ 0x09 ∷ [] }
+-- an event with one descriptor, off air or not, and with free_CA_mode or not; and its bytes, but for the one that says so
+abbrev pub marked : Bool → Bool → Event
+marked offAir freeCa =
+    record { id = 0x1234; start = 9_900; duration = 6_330; offAir = offAir; freeCa = freeCa; chain = 0x4D ∷ 0x01 ∷ 0x09 ∷ [] }
 
--- the header of a section of a file of one table: S, G and L
-abbrev pub numbered : ℕ → ℕ → ℕ → Header
-numbered S G L =
-    record {
-      tableId = 0x50;
-      sectionNumber = S;
-      lastSectionNumber = L;
-      segmentLastSectionNumber = G;
-      lastTableId = 0x50;
-      identity = identity;
-    }
+abbrev pub markedBytes : ℕ → List ℕ
+markedBytes status =
+    0x12 ∷ 0x34 ∷ 0xC0 ∷ 0x79 ∷ 0x02 ∷ 0x45 ∷ 0x00 ∷ 0x01 ∷ 0x45 ∷ 0x30 ∷ status ∷ 0x03 ∷ 0x4D ∷ 0x01 ∷ 0x09 ∷ []
 
--- an event of a second without descriptors
-abbrev pub starting : ℕ → ℕ → Event
-starting id start = record { id = id; start = start; duration = 1; offAir = false; freeCa = false; chain = [] }
+-- what Read leaves of six zeros for a file of that event
+abbrev pub markedRead : ℕ → List ℕ
+markedRead status = read broadcast 49_273 (section 0x50 0 0 0 0x50 (markedBytes status)) (0 ∷ 0 ∷ 0 ∷ 0 ∷ 0 ∷ 0 ∷ []) .buffer
 
 pub record Examples : Type 0 where
   -- table and first section of the segment that a start lies in
@@ -49,9 +40,9 @@ pub record Examples : Type 0 where
       × (startPlace 345_599 ≡ (0x50, 248)) × (startPlace 345_600 ≡ (0x51, 0)) × (startPlace 5_529_599 ≡ (0x5F, 248))
   pub tables : (tableLeast ≡ 0x50) × (tableMost ≡ 0x5F)
   pub firsts : (firstOf 7 ≡ 0) × (firstOf 8 ≡ 8) × (firstOf 255 ≡ 248)
-  pub event-bytes :
-      eventBytes 49_273 sample
-      ≡ 0x12 ∷ 0x34 ∷ 0xC0 ∷ 0x79 ∷ 0x12 ∷ 0x45 ∷ 0x00 ∷ 0x01 ∷ 0x45 ∷ 0x30 ∷ 0xB0 ∷ 0x03 ∷ 0x4D ∷ 0x01 ∷ 0x09 ∷ []
+  -- running_status 5 for off air, free_CA, and both
+  pub event-bytes : (eventBytes 49_273 (marked true false) ≡ markedBytes 0xA0)
+      × (eventBytes 49_273 (marked false true) ≡ markedBytes 0x10) × (eventBytes 49_273 (marked true true) ≡ markedBytes 0xB0)
   -- version 5 in table 0x51 of 0x52, section 9 of segment 1, whose last is 10, and of a table whose last is 16
   pub section-bytes :
       fileBytes 49_273
@@ -84,11 +75,10 @@ pub record Examples : Type 0 where
         identity = record { «service_id» = 1; «transport_stream_id» = 2; «original_network_id» = 3; version = 31 };
         count = 8;
       }
-  pub marks-and-chain :
-      read broadcast 49_273 (section 0x50 0 0 0 0x50
-      (0x12 ∷ 0x34 ∷ 0xC0 ∷ 0x79 ∷ 0x02 ∷ 0x45 ∷ 0x00 ∷ 0x01 ∷ 0x45 ∷ 0x30 ∷ 0xB0 ∷ 0x03 ∷ 0x4D ∷ 0x01 ∷ 0x09 ∷ []))
-      (0 ∷ 0 ∷ 0 ∷ 0 ∷ 0 ∷ 0 ∷ [])
-      ≡ record { answer = acceptedWith 1; buffer = 0x1234 ∷ 9_900 ∷ 6_330 ∷ 5 ∷ 26 ∷ 3 ∷ [] }
+  -- marks 4 for off air, 1 for free_CA_mode, and both
+  pub marks-read : (markedRead 0xA0 ≡ 0x1234 ∷ 9_900 ∷ 6_330 ∷ 4 ∷ 26 ∷ 3 ∷ [])
+      × (markedRead 0x10 ≡ 0x1234 ∷ 9_900 ∷ 6_330 ∷ 1 ∷ 26 ∷ 3 ∷ [])
+      × (markedRead 0xB0 ≡ 0x1234 ∷ 9_900 ∷ 6_330 ∷ 5 ∷ 26 ∷ 3 ∷ [])
   pub rival-accepted :
       read broadcast 49_273 rival (0 ∷ 0 ∷ 0 ∷ 0 ∷ 0 ∷ 0 ∷ 0 ∷ 0 ∷ 0 ∷ 0 ∷ 0 ∷ 0 ∷ 0 ∷ 0 ∷ 0 ∷ 0 ∷ 0 ∷ 0 ∷ [])
       ≡ record {
@@ -112,6 +102,3 @@ pub record Examples : Type 0 where
   pub buffer-short :
       read broadcast 49_273 (withEvent one hour bare) (7 ∷ 7 ∷ 7 ∷ 7 ∷ 7 ∷ [])
       ≡ record { answer = refusedWith 27 1; buffer = 7 ∷ 7 ∷ 7 ∷ 7 ∷ 7 ∷ [] }
-  -- sections as data that break a rule: a segment's ninth section, and an event that starts before the one before it
-  pub ninth-section : Numbered (numbered 0 8 8) → ⊥
-  pub earlier-start : Rules broadcast identity (record { header = numbered 0 0 0; events = starting 1 10 ∷ starting 2 9 ∷ [] } ∷ []) → ⊥

@@ -15,3 +15,4 @@ pub mod Read  -- Read and check
 pub mod Exact  -- what "Read is exact" speaks of
 pub mod Files  -- short files in raw bytes
 pub mod Examples  -- sections and files computed
+pub mod Broken  -- sections that break one of the rules
