@@ -1,5 +1,5 @@
--- Read's refusals 1 and 20 to 23 computed, each rule broken on its own, and which comes first (01, "When a call says no"). Some more
--- are among the examples of crate sections. The value is in proofs/Refused.antt. Assumes nothing.
+-- Read's refusals 1 and 20 to 23 computed, each rule broken on its own, and which comes first (01, "When a call says
+-- no"). Some more are among the examples of crate sections. The value is in proofs/Refused.antt. Assumes nothing.
 use mathlib.Core.Path.{_≡_}
 use mathlib.Core.List.{[], _∷_, _++_}
 use lib.ListN.{take}

@@ -1,5 +1,5 @@
--- Build's answers computed: outputs at the limit, the version, and which refusal comes first (01, "When a call says no": "Build: 1,
--- 2, 12, 10, 11"). The value is in proofs/Examples.antt. Assumes nothing.
+-- Build's answers computed: outputs at the limit, the version, and which refusal comes first (01, "When a call says
+-- no": "Build: 1, 2, 12, 10, 11"). The value is in proofs/Examples.antt. Assumes nothing.
 use Prim.Native.Nat.{ℕ}
 use mathlib.Core.Path.{_≡_}
 use mathlib.Core.List.{List, [], _∷_}

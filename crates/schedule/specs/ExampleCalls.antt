@@ -1,5 +1,5 @@
--- What specs/Examples.antt and the tables of crate schedule_samples ask of Build and Plan, and short forms of what they want.
--- Service, stream and network are 1, 2 and 3. Assumes nothing.
+-- What the tables ask of Build and Plan, here and in crate schedule_samples, and short forms of what they want. Service,
+-- stream and network are 1, 2 and 3. Assumes nothing.
 use Prim.Native.Nat.{ℕ}
 use mathlib.Core.List.{List, _++_, map}
 use lib.ListN.{take, replicate}

@@ -1,5 +1,5 @@
--- Lists to compute with, for specs/Examples.antt and for the tables of crate schedule_samples. Events last a second, so none
--- overlaps the next. Assumes nothing.
+-- Lists to compute with, for specs/Examples.antt, specs/Answers.antt and the tables of crate schedule_samples. Events
+-- last a second, so that in a sound one none overlaps the next. Assumes nothing.
 use Prim.Native.Nat.{ℕ, zero, suc}
 use mathlib.Core.List.{List, [], _∷_}
 use lib.ListN.{length}
@@ -39,7 +39,8 @@ chained chain starts = caseOf chain [] (starting 1 (length chain) starts)
 abbrev pub bare : ℕ → ℕ → Case
 bare start n = chained [] (row start n)
 
--- four events in segment 0 of table 0x50, none in segment 1, one in segment 2; none in table 0x51; one in segment 1 of table 0x52
+-- four events in segment 0 of table 0x50, none in segment 1, one in segment 2; none in table 0x51; one in segment 1
+-- of table 0x52
 abbrev pub gap : Case
 gap = chained [] (0 ∷ 1 ∷ 2 ∷ 3 ∷ 21_600 ∷ 702_000 ∷ [])
 

@@ -1,6 +1,6 @@
--- Build and Plan computed on short lists, in sections so short that they hold one to three events without descriptors: where a
--- section ends, its numbers, when a segment is unpackable, the need, Plan's counts, and a file byte by byte. The value is in
--- proofs/Examples.antt. Assumes nothing.
+-- Build and Plan computed on short lists, in sections so short that they hold one to three events without
+-- descriptors: where a section ends, its numbers, when a segment is unpackable, the need, Plan's counts, and a file
+-- byte by byte. The value is in proofs/Examples.antt. Assumes nothing.
 use Prim.Native.Nat.{ℕ}
 use mathlib.Core.Path.{_≡_}
 use mathlib.Core.List.{List, [], _∷_, _++_}
@@ -43,8 +43,9 @@ gapFile =
     ∷ 0xB1 ∷ 0xB7 ∷ 0x4C ∷ 0x36 ∷ []
 
 pub record Examples : Type 0 where
-  -- three events fill a section of 54 bytes, and the fourth stands in the next; section numbers 0, 1, 8, 16 after a short segment
-  -- and an empty one; an empty table; tables end with their last events. Each section's table_id; S, G, L, last_table_id; ids
+  -- three events fill a section of 54 bytes, and the fourth stands in the next; section numbers 0, 1, 8, 16 after
+  -- a short segment and an empty one; an empty table; tables end with their last events. Each section's table_id;
+  -- S, G, L, last_table_id; ids
   pub gap-sections :
       sectionsWith sectionRow (sectionsOfAtMost 54) gap
       ≡ (0x50, (0, 1, 16, 0x52), 1 ∷ 2 ∷ 3 ∷ [])

@@ -1,5 +1,5 @@
--- Build and Plan at broadcast's limits, where document 01 has no sample marked P. Gaps, cuts and answers are computed on short lists
--- in crate schedule. The value is in proofs/Limits.antt. Assumes nothing.
+-- Build and Plan at broadcast's limits, where document 01 has no sample marked P. Gaps, cuts and answers are
+-- computed on short lists in crate schedule. The value is in proofs/Limits.antt. Assumes nothing.
 use Prim.Native.Nat.{_*_}
 use mathlib.Core.Path.{_≡_}
 use mathlib.Core.List.{[], _∷_}

@@ -1,5 +1,5 @@
--- The commands from an offset on and the offset behind some of them, computed from raw bytes (01, "Edit"). The value is in
--- proofs/Examples.antt. Assumes nothing.
+-- The commands from an offset on and the offset behind some of them, computed from raw bytes (01, "Edit"). The value
+-- is in proofs/Examples.antt. Assumes nothing.
 use Prim.Native.Nat.{ℕ}
 use mathlib.Core.Path.{_≡_}
 use mathlib.Core.List.{List, [], _∷_}

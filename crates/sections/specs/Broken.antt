@@ -1,4 +1,5 @@
--- Sections as data that break one of the rules (specs/Rules.antt). The value is in proofs/Examples.antt. Assumes nothing.
+-- Sections as data that break one of the rules (specs/Rules.antt). The value is in proofs/Examples.antt. Assumes
+-- nothing.
 use Prim.Native.Nat.{ℕ}
 use mathlib.Core.Bool.{false}
 use mathlib.Core.List.{List, [], _∷_}
@@ -29,7 +30,8 @@ twoEvents (id, start) (otherId, otherStart) =
     record { header = numbered 0 0 0; events = bareEvent id start ∷ bareEvent otherId otherStart ∷ [] } ∷ []
 
 pub record Broken : Type 0 where
-  -- a ninth section in a segment; a table that ends within a segment's eight numbers; an empty section that is not alone
+  -- a ninth section in a segment; a table that ends within a segment's eight numbers; an empty section that is not
+  -- alone
   pub ninth-section : Numbered (numbered 0 8 8) → ⊥
   pub last-in-segment : Numbered (numbered 0 0 7) → ⊥
   pub empty-before-other : SectionRules broadcast identity 0x50 (record { header = numbered 0 1 1; events = [] }) → ⊥

@@ -1,5 +1,6 @@
--- Segments, sections and files computed (01, "The file of sections"): places of starts, bytes of data, records of bytes, counts in
--- segments, files that a rival may have made, and some that Read refuses. The value is in proofs/Examples.antt. Assumes nothing.
+-- Segments, sections and files computed (01, "The file of sections"): places of starts, bytes of data, records of
+-- bytes, counts in segments, files that a rival may have made, and some that Read refuses. The value is in
+-- proofs/Examples.antt. Assumes nothing.
 use Prim.Native.Nat.{ℕ}
 use mathlib.Core.Path.{_≡_}
 use mathlib.Core.Bool.{Bool, true, false}
@@ -21,7 +22,8 @@ startPlace start = (tableOf (segmentIndex start), firstSection (segmentIndex sta
 abbrev pub identity : Identity
 identity = record { «service_id» = 1; «transport_stream_id» = 2; «original_network_id» = 3; version = 0 }
 
--- an event with one descriptor, off air or not, and with free_CA_mode or not; and its bytes, but for the one that says so
+-- an event with one descriptor, off air or not, and with free_CA_mode or not; and its bytes, but for the one that
+-- says so
 abbrev pub marked : Bool → Bool → Event
 marked offAir freeCa =
     record { id = 0x1234; start = 9_900; duration = 6_330; offAir = offAir; freeCa = freeCa; chain = 0x4D ∷ 0x01 ∷ 0x09 ∷ [] }
@@ -87,8 +89,8 @@ pub record Examples : Type 0 where
       }
   pub counted : (sectionsCounted 49_273 rival 0 ≡ 2) × (sectionsCounted 49_273 rival 1 ≡ 1) × (sectionsCounted 49_273 rival 2 ≡ 0)
   pub held : (eventsCounted 49_273 rival 0 1 ≡ 1) × (eventsCounted 49_273 rival 0 8 ≡ 3)
-  -- Read's refusals: current_next 0; a segment left out; an event of another segment; the id of an event in an earlier section; a
-  -- broken event loop that also passes the limit of events
+  -- Read's refusals: current_next 0; a segment left out; an event of another segment; the id of an event in an
+  -- earlier section; a broken event loop that also passes the limit of events
   pub current-next : says (withBits 0xF0 0xC0) ≡ refusedWith 22 0
   pub skipped-segment : says (section 0x50 0 16 0 0x50 [] ++ section 0x50 16 16 16 0x50 []) ≡ refusedWith 23 18
   pub other-segment : says (section 0x50 0 0 0 0x50 (event 1 0x03 0x00)) ≡ refusedWith 24 0

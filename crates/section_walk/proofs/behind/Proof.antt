@@ -1,8 +1,8 @@
 -- `behind` meets its contract: a walk of its MIR, by hand. The struct is taken apart, `section_end` is called on the
--- file and the offset, and a reader is made of the file and the number that it returns. The struct is Copy: what it owns
--- is had twice; of one copy what the file owns goes to the callee, beside the lifetime's token, which comes back; the
--- other is had twice again, for the parameter at exit and, with the number's facts in the place of the offset's, for
--- the result. Assumes nothing.
+-- file and the offset, and a reader is made of the file and the number that it returns. The struct is Copy: what it
+-- owns is had twice; of one copy what the file owns goes to the callee, beside the lifetime's token, which comes
+-- back; the other is had twice again, for the parameter at exit and, with the number's facts in the place of the
+-- offset's, for the result. Assumes nothing.
 use mathlib.Core.Path.{_≡_, refl, ap}
 use Prim.Native.Nat.{ℕ, _<_, _^_}
 use mathlib.Core.List.{[], _∷_}
