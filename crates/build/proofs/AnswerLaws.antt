@@ -31,11 +31,11 @@ use Rattle.schedule.proofs.Packable.{packable-or}
 use Rattle.schedule.proofs.Plan.{plan-sound}
 use Rattle.schedule.proofs.ByIndex.{flat-plan}
 use Rattle.schedule.proofs.Build.{build-unsound, build-sound, events-refused, events-written, written-short, written-fits}
-use Rattle.section_counts.specs.Counting.{indexOr512, needOf, countedOf}
-use Rattle.section_counts.specs.declared.count.Counted.{Counted}
-use Rattle.section_counts.proofs.WalkLaws.{events-are}
-use Rattle.section_counts.proofs.CountEnd.{soundWith, sound-is, counted-sound}
-use Rattle.section_counts.proofs.NeedLaws.{need-is}
+use Rattle.build_counts.specs.Counting.{indexOr512, needOf, countedOf}
+use Rattle.build_counts.specs.declared.count.Counted.{Counted}
+use Rattle.build_counts.proofs.WalkLaws.{events-are}
+use Rattle.build_counts.proofs.CountEnd.{soundWith, sound-is, counted-sound}
+use Rattle.build_counts.proofs.NeedLaws.{need-is}
 use Rattle.build.specs.Writing.{Writable}
 
 index-found : (o : Option ℕ) {n : ℕ} → n ≡ indexOr512 o → n < 512 → o ≡ some n

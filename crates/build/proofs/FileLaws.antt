@@ -18,10 +18,10 @@ use Rattle.sections.specs.Encode.{fileBytes}
 use Rattle.sections.proofs.RowBytes.{file-none, file-append}
 use Rattle.sections.proofs.Lengths.{file-length}
 use Rattle.codec.proofs.LeftLaws.{Left, left-all, left-fits, left-more, left-end}
-use Rattle.section_codec.specs.HeaderRead.{heldHeader}
-use Rattle.section_codec.specs.declared.header.SectionHeader.{SectionHeader}
-use Rattle.section_counts.specs.Between.{eventsBetween, leading}
-use Rattle.section_counts.proofs.WalkLaws.{SegmentWalk, heldEvents, walk-start, walk-past, walk-events, walk-on}
+use Rattle.codec_section.specs.HeaderRead.{heldHeader}
+use Rattle.codec_section.specs.declared.header.SectionHeader.{SectionHeader}
+use Rattle.build_counts.specs.Between.{eventsBetween, leading}
+use Rattle.build_counts.proofs.WalkLaws.{SegmentWalk, heldEvents, walk-start, walk-past, walk-events, walk-on}
 use Rattle.schedule.specs.Each.{each}
 use Rattle.schedule.specs.Extent.{lastTable, lastTableIdOf, lastSegment, isInside}
 use Rattle.schedule.specs.SectionsOf.{packedSegment, tableLast, headerOf, sectionsOf}

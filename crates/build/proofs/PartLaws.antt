@@ -11,7 +11,7 @@ use Rattle.packing.specs.Greedy.{fit, greedy}
 use Rattle.sections.specs.Segment.{tableOf, firstSection}
 use Rattle.sections.specs.Section.{Header, Section, eventSize}
 use Rattle.sections.specs.Count.{segmentEvents}
-use Rattle.section_codec.specs.HeaderRead.{heldHeader}
+use Rattle.codec_section.specs.HeaderRead.{heldHeader}
 use Rattle.schedule.specs.Extent.{lastTableIdOf}
 use Rattle.schedule.specs.SectionsOf.{packed, packedSegment, segmentLast, tableLast, headerOf, numberedFrom, sectionsOfSegment}
 use Rattle.schedule.proofs.Numbers.{segment-last-is}

@@ -11,7 +11,7 @@ use Rattle.eit.specs.Sound.{sound, eventsOf}
 use Rattle.eit.proofs.Test.{test-or}
 use Rattle.schedule.specs.Plan.{sectionCount, tabled, plan}
 use Rattle.schedule.proofs.Plan.{plan-sound, plan-unsound}
-use Rattle.plan_tables.proofs.TableLaws.{tabled-tables, tabled-joined}
+use Rattle.build_plan.proofs.TableLaws.{tabled-tables, tabled-joined}
 
 pub plan-of-counts : (sizes : Sizes) (pools : Pools) (list : EventList) (counts : List ℕ)
     → counts ≡ flatten (plan sizes pools list) → tabled (λ (index : ℕ). getD counts index 0) ≡ plan sizes pools list

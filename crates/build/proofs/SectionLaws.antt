@@ -20,12 +20,12 @@ use Rattle.sections.proofs.RowBytes.{loop-none, loop-more}
 use Rattle.sections.proofs.SectionBack.{section-is, covered-is}
 use Rattle.sections.proofs.Lengths.{event-length, header-length, covered-length}
 use Rattle.codec.specs.Write.{writeAt}
-use Rattle.crc_codec.specs.CrcTables.{crcTables, crcBy}
+use Rattle.codec_crc.specs.CrcTables.{crcTables, crcBy}
 use Rattle.codec.proofs.WriteLaws.{write-fits}
 use Rattle.codec.proofs.LeftLaws.{Left, left-fits, left-more, left-end}
-use Rattle.crc_codec.proofs.BlockLaws.{crc32-by-tables}
-use Rattle.section_counts.specs.Between.{eventsBetween}
-use Rattle.section_counts.proofs.BetweenLaws.{between-more, between-end}
+use Rattle.codec_crc.proofs.BlockLaws.{crc32-by-tables}
+use Rattle.build_counts.specs.Between.{eventsBetween}
+use Rattle.build_counts.proofs.BetweenLaws.{between-more, between-end}
 
 -- ---- the events
 

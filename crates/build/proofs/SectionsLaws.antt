@@ -15,12 +15,12 @@ use Rattle.sections.specs.Encode.{sectionBytes, fileBytes}
 use Rattle.sections.proofs.RowBytes.{file-none, file-cons}
 use Rattle.sections.proofs.Lengths.{section-length, file-length}
 use Rattle.codec.proofs.LeftLaws.{Left, left-all, left-fits, left-more, left-end}
-use Rattle.section_codec.specs.HeaderRead.{heldHeader}
-use Rattle.section_codec.specs.declared.header.SectionHeader.{SectionHeader}
-use Rattle.section_counts.specs.Between.{eventsBetween}
-use Rattle.section_counts.specs.Cutting.{cutOf}
-use Rattle.section_counts.specs.declared.cut.Cut.{Cut}
-use Rattle.section_counts.proofs.BetweenLaws.{between-drop, between-front}
+use Rattle.codec_section.specs.HeaderRead.{heldHeader}
+use Rattle.codec_section.specs.declared.header.SectionHeader.{SectionHeader}
+use Rattle.build_counts.specs.Between.{eventsBetween}
+use Rattle.build_counts.specs.Cutting.{cutOf}
+use Rattle.build_counts.specs.declared.cut.Cut.{Cut}
+use Rattle.build_counts.proofs.BetweenLaws.{between-drop, between-front}
 use Rattle.build.specs.Sections.{sectionOf, sectionSizeOf, nextHeader, sectionsFrom}
 
 module _ (room : ℕ) (h : Header) where

@@ -9,8 +9,8 @@ use Rattle.eit.specs.declared.Identity.{Identity}
 use Rattle.packing.specs.Greedy.{fit}
 use Rattle.sections.specs.Segment.{tableOf, firstSection}
 use Rattle.sections.specs.Section.{Header, Section, eventSize, eventSizes}
-use Rattle.section_codec.specs.HeaderRead.{heldHeader}
-use Rattle.section_codec.specs.declared.header.SectionHeader.{SectionHeader}
+use Rattle.codec_section.specs.HeaderRead.{heldHeader}
+use Rattle.codec_section.specs.declared.header.SectionHeader.{SectionHeader}
 
 -- the section with a header as the code has it, and its bytes
 abbrev pub sectionOf : SectionHeader → List Event → Section

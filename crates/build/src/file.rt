@@ -1,13 +1,13 @@
 // The file written: its segments one behind the other (01, "The file of sections", "Build, Read").
 use crate::section;
+use build_counts::count;
+use build_counts::cut;
+use build_counts::segment;
+use build_counts::segment::SEGMENTS;
+use build_counts::segment::TABLE_SEGMENTS;
+use codec_section::header::SectionHeader;
 use eit::Identity;
 use eit::sizes::SECTION_OVERHEAD;
-use section_codec::header::SectionHeader;
-use section_counts::count;
-use section_counts::cut;
-use section_counts::segment;
-use section_counts::segment::SEGMENTS;
-use section_counts::segment::TABLE_SEGMENTS;
 ghost use mathlib.Core.Path.{_≡_};
 ghost use Prim.Native.Nat.{_+_, _≤_, _<_};
 ghost use lib.ListN.{length, drop};
@@ -18,9 +18,9 @@ ghost use Rattle.eit.specs.Records.{recordsIn};
 ghost use Rattle.eit.specs.Events.{eventsIn};
 ghost use Rattle.sections.specs.Section.{sectionSizes};
 ghost use Rattle.sections.specs.Encode.{fileBytes};
-ghost use Rattle.crc_codec.specs.CrcTables.{crcTables};
-ghost use Rattle.section_codec.specs.HeaderRead.{heldHeader};
-ghost use Rattle.section_counts.specs.Between.{eventsBetween};
+ghost use Rattle.codec_crc.specs.CrcTables.{crcTables};
+ghost use Rattle.codec_section.specs.HeaderRead.{heldHeader};
+ghost use Rattle.build_counts.specs.Between.{eventsBetween};
 ghost use Rattle.schedule.specs.SectionsOf.{sectionsOf};
 ghost use Rattle.build.specs.Sections.{firstHeader, sectionsFrom};
 ghost use Rattle.build.specs.Rows.{IsRow, rowLast};
@@ -151,7 +151,7 @@ pub fn write_file<'a>(
         (eventsIn (lentPools (now (day .entry)) (now (series .entry))) (recordsIn count (now (list .entry)))))) ⌝ }
 {
     let room = count::room_of(section_size);
-    let crc_tables = crc_codec::tables();
+    let crc_tables = codec_crc::tables();
     let last_table_id = (TABLE_LEAST + segment::last_index(list, count) / TABLE_SEGMENTS) as u8;
     let mut last: u8 = 0;
     let mut at = 0;

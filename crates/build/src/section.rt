@@ -2,14 +2,14 @@
 // output.
 use codec::fields;
 use codec::pools;
-use crc_codec::CRC_FIRST;
+use codec_crc::CRC_FIRST;
+use codec_section::event;
+use codec_section::header;
+use codec_section::header::SectionHeader;
 use eit::sizes::CRC_SIZE;
 use eit::sizes::EVENT_OVERHEAD;
 use eit::sizes::HEADER_SIZE;
-use event_list::records;
-use section_codec::event;
-use section_codec::header;
-use section_codec::header::SectionHeader;
+use list_records::records;
 ghost use mathlib.Core.Path.{_≡_};
 ghost use Prim.Native.Nat.{_+_, _≤_};
 ghost use lib.ListN.{length};
@@ -17,8 +17,8 @@ ghost use Rattle.eit.specs.Overwrite.{overwrite};
 ghost use Rattle.eit.specs.Pools.{lentPools};
 ghost use Rattle.sections.specs.Section.{eventSizes};
 ghost use Rattle.sections.specs.Encode.{eventLoopBytes, sectionBytes};
-ghost use Rattle.crc_codec.specs.CrcTables.{crcTables};
-ghost use Rattle.section_counts.specs.Between.{eventsBetween};
+ghost use Rattle.codec_crc.specs.CrcTables.{crcTables};
+ghost use Rattle.build_counts.specs.Between.{eventsBetween};
 ghost use Rattle.build.specs.Sections.{sectionOf, sectionSizeOf};
 
 // The events from `from` to `to`, written from `at` on. Returns the place behind them.
@@ -77,6 +77,6 @@ pub fn write_section<'a>(
 {
     header::write_header(out, at, size, header);
     let end = write_events(out, at + HEADER_SIZE, base_day, list, from, to, day, series);
-    let crc = crc_codec::crc_by(crc_tables, CRC_FIRST, &out[at..end]);
+    let crc = codec_crc::crc_by(crc_tables, CRC_FIRST, &out[at..end]);
     fields::write_field(out, end, CRC_SIZE, crc as usize);
 }

@@ -1,10 +1,10 @@
 // Plan and Build with the sizes as numbers.
 use crate::file;
 use build_answer::BuildAnswer;
+use build_counts::count;
+use build_counts::segment::SEGMENTS;
 use eit::Identity;
 use eit::sizes::BASE_DAY_MOST;
-use section_counts::count;
-use section_counts::segment::SEGMENTS;
 ghost use mathlib.Core.Path.{_≡_};
 ghost use Rattle.eit.specs.Sizes.{sized};
 ghost use Rattle.eit.specs.Pools.{lentPools};
@@ -32,7 +32,7 @@ pub fn plan_within<'a>(
 {
     let counted = count::count_sections(list, count, day, series, section_size, event_limit);
     let counts = counted.counts;
-    plan_tables::tables_of(&counts)
+    build_plan::tables_of(&counts)
 }
 
 // Build: each refusal is excluded before anything is written.

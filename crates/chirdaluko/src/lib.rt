@@ -112,7 +112,7 @@ pub extern "C" fn eit_plan<'a>(
         now (counts .exit)
         ≡ flatten (plan broadcast (lentPools (now (day .entry)) (now (series .entry))) (lentList (now (list .entry)) count)) ⌝ }
 {
-    *counts = plan_tables::flat_of(build::plan(list, count, day, series));
+    *counts = build_plan::flat_of(build::plan(list, count, day, series));
 }
 
 // An answer of Read as numbers.
@@ -146,7 +146,7 @@ pub extern "C" fn eit_read(file: &[u8], base_day: u32, records: &mut [u32]) -> E
 pub extern "C" fn eit_check(file: &[u8], base_day: u32) -> EitReading
     ensures { λ r. ⌜ checkFile broadcast «base_day» (now (file .entry)) ≡ answerOf r ⌝ }
 {
-    reading_of(file_check::check(file, base_day))
+    reading_of(read_check::check(file, base_day))
 }
 
 // CRC_32.
@@ -154,5 +154,5 @@ pub extern "C" fn eit_check(file: &[u8], base_day: u32) -> EitReading
 pub extern "C" fn eit_crc32(bytes: &[u8]) -> u32
     ensures { λ r. ⌜ r ≡ crc32 (now (bytes .entry)) ⌝ }
 {
-    crc_codec::crc32(bytes)
+    codec_crc::crc32(bytes)
 }

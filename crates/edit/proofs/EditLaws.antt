@@ -16,10 +16,10 @@ use Rattle.script.specs.Struck.{unstruckIn, passed, live}
 use Rattle.script.specs.Edit.{edit, run, refusal}
 use Rattle.script.proofs.Edit.{edit-unsound, edit-broken, edit-nothing, edit-runs}
 use Rattle.script.proofs.Struck.{struck-enough}
-use Rattle.script_scan.specs.Commands.{formTold, strikesTold, commandsAt}
-use Rattle.script_scan.specs.declared.scan.Form.the-variants.{Whole, Broken}
-use Rattle.script_scan.specs.declared.scan.Strikes.the-variants.{Enough, NothingAt}
-use Rattle.script_scan.proofs.ScanLaws.{form-whole-is, form-count-is, form-broken-is, strikes-enough-is, strikes-nothing-is}
+use Rattle.edit_scan.specs.Commands.{formTold, strikesTold, commandsAt}
+use Rattle.edit_scan.specs.declared.scan.Form.the-variants.{Whole, Broken}
+use Rattle.edit_scan.specs.declared.scan.Strikes.the-variants.{Enough, NothingAt}
+use Rattle.edit_scan.proofs.ScanLaws.{form-whole-is, form-count-is, form-broken-is, strikes-enough-is, strikes-nothing-is}
 use Rattle.edit.specs.Run.{runPart}
 use Rattle.edit.proofs.RunLaws.{none-done}
 

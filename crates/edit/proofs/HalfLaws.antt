@@ -16,8 +16,8 @@ use Rattle.script.specs.Struck.{live, passed}
 use Rattle.script.specs.Edit.{Edited, run}
 use Rattle.script.proofs.Struck.{live-append}
 use Rattle.script.proofs.Edit.{run-append, run-sound}
-use Rattle.script_scan.specs.Commands.{commandsAt, offsetBehind}
-use Rattle.script_scan.proofs.PartLaws.{behind-drops}
+use Rattle.edit_scan.specs.Commands.{commandsAt, offsetBehind}
+use Rattle.edit_scan.proofs.PartLaws.{behind-drops}
 use Rattle.edit.specs.Run.{runPart}
 use Rattle.edit.proofs.PendingLaws.{live-none}
 use Rattle.edit.proofs.RunLaws.{none-done, run-ends}

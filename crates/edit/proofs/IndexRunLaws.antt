@@ -14,7 +14,7 @@ use Rattle.eit.specs.Sound.{sound}
 use Rattle.codec.specs.Seen.{isSeen}
 use Rattle.script.specs.Form.{Command}
 use Rattle.edit_answer.specs.Told.{answerNumber}
-use Rattle.slot_index.specs.Index.{Index, indexedList}
+use Rattle.edit_index.specs.Index.{Index, indexedList}
 use Rattle.edit.specs.Run.{runOne}
 use Rattle.edit.specs.Indexed.{Kept, Leaves}
 use Rattle.edit.specs.declared.indexed.Reached.{Reached}

@@ -26,15 +26,15 @@ use Rattle.script.specs.Machine.{step, done, refused, find, without, zeroRecord
 use Rattle.script.specs.Edit as model
 use Rattle.script.proofs.Placing.{without-length}
 use Rattle.script.proofs.Steps.{withdraw-6, withdraw-passes}
-use Rattle.event_list.specs.Written.{recordWritten}
-use Rattle.event_list.proofs.WriteLaws.{over-ahead, written-is}
+use Rattle.list_records.specs.Written.{recordWritten}
+use Rattle.list_records.proofs.WriteLaws.{over-ahead, written-is}
 use Rattle.edit_answer.specs.Told.{told}
 use Rattle.edit_answer.specs.declared.EditAnswer.{EditAnswer}
 use Rattle.edit_answer.specs.declared.EditAnswer.the-variants.{Done, WrongId}
-use Rattle.slot_index.specs.Index.{idLimit, slotRecord, recordsAt, Ordered, Index, indexedNumbers, indexedList}
-use Rattle.slot_index.proofs.IndexLaws.{held-length, index-records, id-absent, id-present, id-record, take-out-records, take-out-index}
-use Rattle.slot_index.proofs.SlotLaws.{below-more}
-use Rattle.slot_index.proofs.RiseLaws.{own-place}
+use Rattle.edit_index.specs.Index.{idLimit, slotRecord, recordsAt, Ordered, Index, indexedNumbers, indexedList}
+use Rattle.edit_index.proofs.IndexLaws.{held-length, index-records, id-absent, id-present, id-record, take-out-records, take-out-index}
+use Rattle.edit_index.proofs.SlotLaws.{below-more}
+use Rattle.edit_index.proofs.RiseLaws.{own-place}
 use Rattle.edit.specs.Run.{runOne}
 use Rattle.edit.specs.Indexed.{TakenOut, Kept, Leaves}
 use Rattle.edit.specs.declared.indexed.Reached.{Reached}

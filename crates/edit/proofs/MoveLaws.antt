@@ -27,9 +27,9 @@ use Rattle.script.proofs.Places.{insert-place}
 use Rattle.script.proofs.Steps.{move-5, move-6, move-7, move-passes}
 use Rattle.edit_answer.specs.declared.EditAnswer.{EditAnswer}
 use Rattle.edit_answer.specs.declared.EditAnswer.the-variants.{Done, OutOfRange, WrongId, StartTaken}
-use Rattle.slot_index.specs.Index.{slotLimit, slotRecord, recordsAt, Index, indexedNumbers, indexedList}
-use Rattle.slot_index.proofs.IndexLaws.{held-length, add-records, add-index}
-use Rattle.slot_index.proofs.RiseLaws.{without-starts, own-start, place-left-before, place-left-behind}
+use Rattle.edit_index.specs.Index.{slotLimit, slotRecord, recordsAt, Index, indexedNumbers, indexedList}
+use Rattle.edit_index.proofs.IndexLaws.{held-length, add-records, add-index}
+use Rattle.edit_index.proofs.RiseLaws.{without-starts, own-start, place-left-before, place-left-behind}
 use Rattle.edit.specs.Indexed.{placeIn, placeLeft, Added, TakenOut, Kept, Leaves}
 use Rattle.edit.specs.declared.index.Place.{Place}
 use Rattle.edit.proofs.IndexedLaws.{does, stands-records, records-length, refuses, stays, passes, written-over, absent, id-small, present}

@@ -12,10 +12,10 @@ use lib.ListN.{length, getD, take}
 use Rattle.eit.proofs.Test.{le-or-lt, eq-or-not}
 use Rattle.script.specs.Form.{Command, doEdit, undo, operandBytes}
 use Rattle.script.specs.Struck.{passed, unlessStruck, live}
-use Rattle.script_scan.specs.Commands.{isWholeAt, commandsAt}
-use Rattle.script_scan.proofs.CommandLaws.{commands-edit, commands-undo}
-use Rattle.script_scan.proofs.PartLaws.{take-more}
-use Rattle.script_scan.proofs.StrikeLaws.{byte-few}
+use Rattle.edit_scan.specs.Commands.{isWholeAt, commandsAt}
+use Rattle.edit_scan.proofs.CommandLaws.{commands-edit, commands-undo}
+use Rattle.edit_scan.proofs.PartLaws.{take-more}
+use Rattle.edit_scan.proofs.StrikeLaws.{byte-few}
 
 -- ---- UNDOs that are enough to strike all
 

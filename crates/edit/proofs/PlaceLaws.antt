@@ -16,9 +16,9 @@ use Rattle.eit.proofs.Test.{eq-or-not}
 use Rattle.codec.specs.Seen.{isSeen, withSeen}
 use Rattle.codec.proofs.SeenLaws.{seenBit, bit-shifted, with-seen-new, with-seen-room, seen-length, seen-same, seen-other}
 use Rattle.script.specs.Form.{Command, doEdit, undo, operandBytes, commandOf}
-use Rattle.script_scan.specs.Commands.{isWholeAt, commandsAt}
-use Rattle.script_scan.proofs.CommandLaws.{commands-next, commands-edit, commands-undo, whole-here, whole-inside}
-use Rattle.script_scan.proofs.PartLaws.{part-whole, count-next, take-more}
+use Rattle.edit_scan.specs.Commands.{isWholeAt, commandsAt}
+use Rattle.edit_scan.proofs.CommandLaws.{commands-next, commands-edit, commands-undo, whole-here, whole-inside}
+use Rattle.edit_scan.proofs.PartLaws.{part-whole, count-next, take-more}
 use Rattle.edit.specs.Live.{beginsUndo, withPlaceIf, NoPlaces, UndoPlaces}
 
 -- ---- offsets

@@ -27,8 +27,8 @@ use Rattle.script.proofs.Steps.{put-5, put-9, put-6, put-7, put-8, put-passes}
 use Rattle.eit.proofs.Find.{place-length}
 use Rattle.edit_answer.specs.declared.EditAnswer.{EditAnswer}
 use Rattle.edit_answer.specs.declared.EditAnswer.the-variants.{Done, OutOfRange, WrongId, StartTaken, ListFull, NoChain}
-use Rattle.slot_index.specs.Index.{slotLimit, orderLimit, idLimit, recordsAt, indexedNumbers, indexedList}
-use Rattle.slot_index.proofs.IndexLaws.{add-records, add-index}
+use Rattle.edit_index.specs.Index.{slotLimit, orderLimit, idLimit, recordsAt, indexedNumbers, indexedList}
+use Rattle.edit_index.proofs.IndexLaws.{add-records, add-index}
 use Rattle.edit.specs.Indexed.{placeIn, Added, Kept, Leaves}
 use Rattle.edit.specs.declared.index.Place.{Place}
 use Rattle.edit.proofs.IndexedLaws.{does, stands-records, records-length, refuses, stays, passes, written-over, absent, present}

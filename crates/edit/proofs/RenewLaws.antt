@@ -18,9 +18,9 @@ use Rattle.eit.proofs.Overwrite.{over-length}
 use Rattle.eit.proofs.Records.{records-length, record-at, numbers-length}
 use Rattle.eit.proofs.Sound.{RecordFacts, sound-list, valid-at, range-facts}
 use Rattle.script.specs.Machine.{zeroRecord}
-use Rattle.slot_index.specs.Index.{slotLimit, orderLimit, idLimit, slotRecord, recordsAt, Index, Loadable, Loaded, indexedNumbers, indexedList}
-use Rattle.slot_index.proofs.IndexLaws.{held-length, index-records, index-none, indexed-own}
-use Rattle.slot_index.proofs.RiseLaws.{rising-starts}
+use Rattle.edit_index.specs.Index.{slotLimit, orderLimit, idLimit, slotRecord, recordsAt, Index, Loadable, Loaded, indexedNumbers, indexedList}
+use Rattle.edit_index.proofs.IndexLaws.{held-length, index-records, index-none, indexed-own}
+use Rattle.edit_index.proofs.RiseLaws.{rising-starts}
 use Rattle.edit.specs.Indexed.{Kept, Renewed}
 
 -- ---- from soundness

@@ -14,8 +14,8 @@ use Rattle.eit.specs.Sound.{idsOf, startsOf}
 use Rattle.eit.specs.declared.Record.{Record}
 use Rattle.script.specs.Edit as model
 use Rattle.edit_answer.specs.Told.{told}
-use Rattle.slot_index.specs.Order.{withSlot, withoutSlot}
-use Rattle.slot_index.specs.Index.{slotLimit, idLimit, recordsAt, Rises, Index, indexedNumbers, indexedList}
+use Rattle.edit_index.specs.Order.{withSlot, withoutSlot}
+use Rattle.edit_index.specs.Index.{slotLimit, idLimit, recordsAt, Rises, Index, indexedNumbers, indexedList}
 use Rattle.edit.specs.declared.index.Place.{Place}
 use Rattle.edit.specs.declared.indexed.Reached.{Reached}
 

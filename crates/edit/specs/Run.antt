@@ -9,7 +9,7 @@ use Rattle.eit.specs.Records.{EventList}
 use Rattle.script.specs.Form.{Edit, Command, doEdit, undo}
 use Rattle.script.specs.Struck.{live}
 use Rattle.script.specs.Edit.{Edited, run}
-use Rattle.script_scan.specs.Commands.{commandsAt}
+use Rattle.edit_scan.specs.Commands.{commandsAt}
 
 -- an UNDO carries nothing out: it strikes by the script, before anything runs
 abbrev pub editsOf : Command → List Edit

@@ -1,14 +1,14 @@
-// An index of the list's records (what it is: slot_index, specs/Index.antt): looked up, a record put in and taken out, made from the
+// An index of the list's records (what it is: edit_index, specs/Index.antt): looked up, a record put in and taken out, made from the
 // list and written back to it.
 use eit::Record;
-use event_list::records;
-use event_list::records::RECORD_SIZE;
+use list_records::records;
+use list_records::records::RECORD_SIZE;
 ghost use mathlib.Core.Path.{_≡_};
 ghost use Prim.Native.Nat.{_+_, _*_, _/_, _≤_, _<_};
 ghost use lib.ListN.{length, getD, take, replicate};
 ghost use Rattle.eit.specs.Find.{placeOf};
 ghost use Rattle.eit.specs.Records.{recordSize};
-ghost use Rattle.slot_index.specs.Index.{slotRecord, recordsAt, Ordered, Index, Loadable, Loaded, indexedNumbers, indexedList};
+ghost use Rattle.edit_index.specs.Index.{slotRecord, recordsAt, Ordered, Index, Loadable, Loaded, indexedNumbers, indexedList};
 ghost use Rattle.edit.specs.Indexed.{placeIn, placeLeft, Added, TakenOut, Kept, Renewed};
 
 // Slots of an index: those of a full list, and at least as many for edits until it is made anew.
@@ -101,7 +101,7 @@ pub fn add_record(
         (now (slots .exit)) (now (order .exit)) (now (ids .exit)) ⌝ }
 {
     records::write_record(slots, used, event);
-    slot_index::insert_slot(order, count, place, used as u16);
+    edit_index::insert_slot(order, count, place, used as u16);
     let i = event.id as usize;
     ids[i] = (used + 1) as u16;
 }
@@ -112,7 +112,7 @@ pub fn take_out_record(order: &mut [u16], ids: &mut [u16], count: usize, place: 
     ensures { λ _. ⌜
         TakenOut (now (order .entry)) (now (ids .entry)) count place id (now (order .exit)) (now (ids .exit)) ⌝ }
 {
-    slot_index::remove_slot(order, count, place);
+    edit_index::remove_slot(order, count, place);
     let i = id as usize;
     ids[i] = 0;
 }

@@ -3,15 +3,15 @@
 use crate::index;
 use codec::pools;
 use edit_answer::EditAnswer;
+use edit_scan::command::Command;
 use eit::Record;
 use eit::Time;
-use event_list::records;
-use event_list::records::RECORD_SIZE;
-use script_scan::command::Command;
+use list_records::records;
+use list_records::records::RECORD_SIZE;
 ghost use Prim.Native.Nat.{ℕ, _≤_, _<_};
 ghost use mathlib.Core.List.{List};
-ghost use Rattle.script_scan.specs.Commands.{commandTold};
-ghost use Rattle.slot_index.specs.Index.{slotLimit, orderLimit, indexedList};
+ghost use Rattle.edit_scan.specs.Commands.{commandTold};
+ghost use Rattle.edit_index.specs.Index.{slotLimit, orderLimit, indexedList};
 ghost use Rattle.edit.specs.Run.{runOne};
 ghost use Rattle.edit.specs.Indexed.{Kept, Leaves};
 
@@ -54,7 +54,7 @@ fn put_indexed<'a>(
         (indexedList (now (list .entry)) (now (slots .entry)) (now (order .entry)) count) (commandTold at (Command.Put event)))
         r (now (list .entry)) (now (slots .exit)) (now (order .exit)) (now (ids .exit)) ⌝ }
 {
-    if !sound_list::is_in_range(event) {
+    if !list_sound::is_in_range(event) {
         return Reached {
             answer: EditAnswer::OutOfRange(at),
             count,

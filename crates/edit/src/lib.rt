@@ -1,9 +1,9 @@
 // Edit (01, "Edit"): the script's form, UNDO, and the plain machine on the lent list.
 use edit_answer::EditAnswer;
 use edit_answer::Edited;
+use edit_scan::scan;
+use edit_scan::scan::Form;
 use eit::sizes::EVENT_LIMIT;
-use script_scan::scan;
-use script_scan::scan::Form;
 ghost use mathlib.Core.Path.{_≡_};
 ghost use Prim.Native.Nat.{_≤_};
 ghost use Rattle.eit.specs.Sizes.{broadcast, limitedTo};
@@ -11,7 +11,7 @@ ghost use Rattle.eit.specs.Pools.{lentPools};
 ghost use Rattle.eit.specs.Records.{lentList};
 ghost use Rattle.script.specs.Edit.{edit};
 ghost use Rattle.edit_answer.specs.Told.{told};
-ghost use Rattle.slot_index.specs.Index.{orderLimit};
+ghost use Rattle.edit_index.specs.Index.{orderLimit};
 
 mod index;
 mod indexed;
@@ -34,7 +34,7 @@ fn edit_within<'a>(
         (now (script .entry))
         ≡ told r (now (list .exit)) ⌝ }
 {
-    if !sound_list::is_sound(list, count, day, series, event_limit) {
+    if !list_sound::is_sound(list, count, day, series, event_limit) {
         return Edited {
             answer: EditAnswer::Unsound,
             count,

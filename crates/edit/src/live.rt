@@ -1,7 +1,7 @@
 // Which edits of a part of a script UNDO leaves live, by their places 0, 1, .. among its commands (01, "Edit": each UNDO strikes the
 // nearest earlier edit that is not yet struck). A set of places is one of numbers (`codec::seen`).
 use codec::seen;
-use script_scan::command;
+use edit_scan::command;
 ghost use mathlib.Core.Path.{_≡_};
 ghost use Prim.Native.Nat.{_*_, _≤_, _<_};
 ghost use mathlib.Core.Bool.{false};
@@ -10,7 +10,7 @@ ghost use lib.ListN.{length, take};
 ghost use Rattle.codec.specs.Seen.{isSeen};
 ghost use Rattle.script.specs.Form.{Command};
 ghost use Rattle.script.specs.Struck.{passed};
-ghost use Rattle.script_scan.specs.Commands.{commandsAt};
+ghost use Rattle.edit_scan.specs.Commands.{commandsAt};
 ghost use Rattle.edit.specs.Live.{placeLimit, withPlaceIf, NoPlaces, UndoPlaces, LivePlaces};
 
 // Adds a place that is not there, if it is that of an UNDO, with no branch that the processor would have to guess.

@@ -6,10 +6,10 @@ use crate::live;
 use codec::seen;
 use edit_answer::EditAnswer;
 use edit_answer::Edited;
+use edit_scan::command;
+use edit_scan::scan;
 use eit::sizes::EVENT_LIMIT;
-use event_list::records::RECORD_SIZE;
-use script_scan::command;
-use script_scan::scan;
+use list_records::records::RECORD_SIZE;
 ghost use mathlib.Core.Path.{_≡_};
 ghost use Prim.Native.Nat.{ℕ, _*_, _≤_};
 ghost use lib.Dec.{T};
@@ -19,11 +19,11 @@ ghost use Rattle.eit.specs.Pools.{lentPools};
 ghost use Rattle.eit.specs.Records.{lentList, recordSize};
 ghost use Rattle.eit.specs.Sound.{sound};
 ghost use Rattle.script.specs.Struck.{passed};
-ghost use Rattle.script_scan.specs.Commands.{commandsAt};
+ghost use Rattle.edit_scan.specs.Commands.{commandsAt};
 ghost use Rattle.edit.specs.Run.{runPart};
 ghost use Rattle.edit.specs.Live.{placeLimit, LivePlaces};
 ghost use Rattle.edit_answer.specs.Told.{told};
-ghost use Rattle.slot_index.specs.Index.{orderLimit, Index, indexedNumbers, indexedList};
+ghost use Rattle.edit_index.specs.Index.{orderLimit, Index, indexedNumbers, indexedList};
 
 // Places that a set has room for, and so the most commands of a part that is not halved; and its words of 64.
 pub const PLACES: usize = 262_144;

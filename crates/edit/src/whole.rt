@@ -5,9 +5,9 @@ use crate::part::PLACE_WORDS;
 use crate::part::PLACES;
 use edit_answer::EditAnswer;
 use edit_answer::Edited;
-use script_scan::scan;
-use script_scan::scan::Form;
-use script_scan::scan::Strikes;
+use edit_scan::scan;
+use edit_scan::scan::Form;
+use edit_scan::scan::Strikes;
 ghost use mathlib.Core.Path.{_≡_};
 ghost use Prim.Native.Nat.{_≤_};
 ghost use lib.Dec.{T};
@@ -17,9 +17,9 @@ ghost use Rattle.eit.specs.Records.{lentList};
 ghost use Rattle.eit.specs.Sound.{sound};
 ghost use Rattle.script.specs.Form.{formOf};
 ghost use Rattle.script.specs.Edit.{edit};
-ghost use Rattle.script_scan.specs.Commands.{formTold};
+ghost use Rattle.edit_scan.specs.Commands.{formTold};
 ghost use Rattle.edit_answer.specs.Told.{told};
-ghost use Rattle.slot_index.specs.Index.{orderLimit};
+ghost use Rattle.edit_index.specs.Index.{orderLimit};
 ghost use Rattle.edit.specs.Live.{placeLimit};
 
 // A script of k commands: a pass looks for an UNDO that has nothing to strike, and the script is then run in parts.

@@ -10,9 +10,9 @@ use Rattle.eit.specs.Overwrite.{overwrite}
 use Rattle.eit.specs.Records.{EventList, lentList}
 use Rattle.script.specs.Edit.{Edited, edit}
 use Rattle.schedule.specs.Build.{Built, build}
-use Rattle.listing.specs.Fill.{Fills}
-use Rattle.listing.specs.Listing.{listing, refusedText, tooLong}
-use Rattle.listing.proofs.FillLaws.{filled-whole, filled-same}
+use Rattle.plan_listing.specs.Fill.{Fills}
+use Rattle.plan_listing.specs.Listing.{listing, refusedText, tooLong}
+use Rattle.plan_listing.proofs.FillLaws.{filled-whole, filled-same}
 use Rattle.sections.specs.Read.{noIdentity}
 use Rattle.plan.specs.PlanText.{scriptMost, outputSize, bufferSize, noPools, baseDay}
 use Rattle.plan.specs.PlanText.{builtText, listText, editedText, textWithin, planText, textMost, Written}

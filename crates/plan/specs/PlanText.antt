@@ -10,8 +10,8 @@ use Rattle.eit.specs.Records.{EventList, lentList}
 use Rattle.script.specs.Edit.{Edited, edit}
 use Rattle.sections.specs.Read.{noIdentity}
 use Rattle.schedule.specs.Build.{Built, build, fileOf}
-use Rattle.listing.specs.Fill.{Fills}
-use Rattle.listing.specs.Listing.{listing, refusedText, tooLong}
+use Rattle.plan_listing.specs.Fill.{Fills}
+use Rattle.plan_listing.specs.Listing.{listing, refusedText, tooLong}
 
 -- "over 65,536 bytes it prints `too long`"; "output 65,536 bytes"
 abbrev pub scriptMost : ℕ

@@ -38,10 +38,10 @@ fn write_built(list: &[u32], count: usize, output: &mut [u8], text: &mut [u8]) -
     let built = build::build(list, count, b"", b"", BASE_DAY, identity, output);
     let number = build_answer::number_of(built);
     if number != 0 {
-        return listing::write_refused(text, number);
+        return plan_listing::write_refused(text, number);
     }
     let size = build_answer::value_of(built);
-    listing::write_listing(text, &output[..size])
+    plan_listing::write_listing(text, &output[..size])
 }
 
 // The text for a script, in a lent buffer for the list and with a lent output. Returns how many of its bytes had room.
@@ -51,14 +51,14 @@ fn write_within(script: &[u8], list: &mut [u32], output: &mut [u8], text: &mut [
         (now (text .exit)) r (4 * length (now (output .entry)) + 64) ⌝ }
 {
     if SCRIPT_MOST < script.len() {
-        return listing::write_too_long(text);
+        return plan_listing::write_too_long(text);
     }
     let edited = edit::edit(list, 0, b"", b"", script);
     let said = edited.answer;
     let count = edited.count;
     let number = edit_answer::number_of(said);
     if number != 0 {
-        return listing::write_refused(text, number);
+        return plan_listing::write_refused(text, number);
     }
     write_built(list, count, output, text)
 }

@@ -17,8 +17,8 @@ use Rattle.sections.specs.Places.{recordsFrom}
 use Rattle.sections.specs.Read.{fileRecords}
 use Rattle.sections.proofs.Exact.{sections-are, records-are}
 use Rattle.codec.proofs.LeftLaws.{Left, left-all, left-fits, left-more, left-end}
-use Rattle.section_walk.specs.SectionAt.{sectionAt, sectionEnd}
-use Rattle.section_walk.proofs.SectionAtLaws.{walk-end, walk-next, end-inside, end-is}
+use Rattle.read_walk.specs.SectionAt.{sectionAt, sectionEnd}
+use Rattle.read_walk.proofs.SectionAtLaws.{walk-end, walk-next, end-inside, end-is}
 use Rattle.read.specs.Fillable.{AreEvents, Fillable}
 use Rattle.read.proofs.FillLaws.{pieceRecords, piece-count}
 

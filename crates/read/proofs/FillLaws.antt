@@ -21,12 +21,12 @@ use Rattle.sections.specs.Places.{recordAt, recordsAt}
 use Rattle.sections.specs.JudgeEvents.{isEvent, areEvents}
 use Rattle.sections.proofs.Cut.{cut-nil, cut-next}
 use Rattle.codec.proofs.LeftLaws.{Left, left-all, left-fits, left-more, left-end}
-use Rattle.section_codec.specs.EventRead.{frontEvent, eventRead}
-use Rattle.section_codec.specs.declared.event.EventRead.the-variants.{Whole, Broken}
-use Rattle.section_codec.proofs.EventReadLaws.{event-whole, broken-only}
-use Rattle.event_checks.proofs.EventWalkLaws.{whole-record, whole-inside, whole-next}
-use Rattle.event_list.specs.Written.{recordWritten}
-use Rattle.event_list.proofs.WriteLaws.{written-is}
+use Rattle.codec_section.specs.EventRead.{frontEvent, eventRead}
+use Rattle.codec_section.specs.declared.event.EventRead.the-variants.{Whole, Broken}
+use Rattle.codec_section.proofs.EventReadLaws.{event-whole, broken-only}
+use Rattle.read_events.proofs.EventWalkLaws.{whole-record, whole-inside, whole-next}
+use Rattle.list_records.specs.Written.{recordWritten}
+use Rattle.list_records.proofs.WriteLaws.{written-is}
 use Rattle.read.specs.Fillable.{AreEvents}
 
 -- the records of pieces that stand one behind the other

@@ -1,10 +1,10 @@
 // The records of a file that was accepted (01, "Build, Read": marks never have 2, offsets are into the file).
+use codec_section::event;
+use codec_section::event::EventRead;
 use eit::Record;
 use eit::sizes::EVENT_OVERHEAD;
 use eit::sizes::HEADER_SIZE;
-use event_list::records;
-use section_codec::event;
-use section_codec::event::EventRead;
+use list_records::records;
 ghost use mathlib.Core.Path.{_≡_};
 ghost use mathlib.Core.List.{map};
 ghost use Prim.Native.Nat.{_+_, _*_, _^_, _≤_, _<_};
@@ -69,14 +69,14 @@ pub fn fill_file(records: &mut [u32], file: &[u8], base_day: u32)
     let mut n = 0;
     let mut offset = 0;
     while offset < file.len() {
-        let section = section_walk::read_section(file, offset);
+        let section = read_walk::read_section(file, offset);
         n = fill_events(
             records,
             n,
-            section_walk::event_loop(section),
+            read_walk::event_loop(section),
             offset + HEADER_SIZE,
             base_day,
         );
-        offset = section_walk::next_offset(file, offset);
+        offset = read_walk::next_offset(file, offset);
     }
 }

@@ -1,5 +1,5 @@
 // Read (01, "Build, Read"): check looks at the whole file and writes nothing; then the records are filled in, which cannot fail.
-use event_list::records::RECORD_SIZE;
+use list_records::records::RECORD_SIZE;
 use read_answer::CheckedFile;
 use read_answer::ReadAnswer;
 ghost use mathlib.Core.Path.{_≡_};
@@ -14,7 +14,7 @@ pub fn read(file: &[u8], base_day: u32, records: &mut [u32]) -> CheckedFile
     ensures { λ r. ⌜
         read broadcast «base_day» (now (file .entry)) (now (records .entry)) ≡ readTold r (now (records .exit)) ⌝ }
 {
-    let checked = file_check::check(file, base_day);
+    let checked = read_check::check(file, base_day);
     let said = checked.answer;
     if read_answer::number_of(said) != 0 {
         return checked;

@@ -9,7 +9,9 @@ mod paper;
 mod rows;
 
 fn main() {
-    report::lines::print(b"The samples of document 01, and others, by the library's calls\n");
+    samples_report::lines::print(
+        b"The samples of document 01, and others, by the library's calls\n",
+    );
     paper::times();
     paper::segments();
     paper::no_events();

@@ -2,8 +2,8 @@
 use crate::lists;
 use crate::rows;
 use codec::fields;
-use report::lines;
-use report::show;
+use samples_report::lines;
+use samples_report::show;
 
 // OP-58's rule 4: its segment 2 is the second, segment 1 here, and has two sections.
 pub fn rule_four() {
@@ -37,7 +37,7 @@ pub fn rule_eight() {
 pub fn crc() {
     lines::print_heading(b"CRC_32 of 123456789 is 0376E6E7");
     let mut bytes = [0u8; 4];
-    fields::write_field(&mut bytes, 0, 4, crc_codec::crc32(b"123456789") as usize);
+    fields::write_field(&mut bytes, 0, 4, codec_crc::crc32(b"123456789") as usize);
     lines::print(b"CRC_32");
     lines::print_bytes(&bytes);
 }

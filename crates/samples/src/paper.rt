@@ -1,9 +1,9 @@
 // The samples of document 01, "Samples with the cuts marked".
 use crate::lists;
 use crate::rows;
-use report::lines;
-use report::show;
-use time_codec::TimeRead;
+use codec_time::TimeRead;
+use samples_report::lines;
+use samples_report::show;
 
 // The seconds that bytes showed.
 fn print_read(read: TimeRead) {
@@ -16,23 +16,23 @@ fn print_read(read: TimeRead) {
 // A start, to bytes and back.
 fn show_start(base_day: u32, start: u32) {
     let mut bytes = [0u8; 5];
-    time_codec::write_start(&mut bytes, 0, base_day, start);
+    codec_time::write_start(&mut bytes, 0, base_day, start);
     lines::print(b"base day ");
     lines::print_number(base_day as usize);
     lines::print(b" start ");
     lines::print_number(start as usize);
     lines::print_bytes(&bytes);
-    print_read(time_codec::read_start(&bytes, 0, base_day));
+    print_read(codec_time::read_start(&bytes, 0, base_day));
 }
 
 // A duration, to bytes and back.
 fn show_duration(duration: u32) {
     let mut bytes = [0u8; 3];
-    time_codec::write_duration(&mut bytes, 0, duration);
+    codec_time::write_duration(&mut bytes, 0, duration);
     lines::print(b"duration ");
     lines::print_number(duration as usize);
     lines::print_bytes(&bytes);
-    print_read(time_codec::read_duration(&bytes, 0));
+    print_read(codec_time::read_duration(&bytes, 0));
 }
 
 // By the day itself as base day, and by a base day two days before it.

@@ -1,7 +1,7 @@
 // Lists of one kind, under a heading.
 use crate::lists;
-use report::lines;
-use report::show;
+use samples_report::lines;
+use samples_report::show;
 ghost use Prim.Native.Nat.{_≤_};
 
 // So many events a second apart, each with the whole day pool as its chain, under a heading.

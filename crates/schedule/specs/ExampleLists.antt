@@ -1,4 +1,4 @@
--- Lists to compute with, for specs/Examples.antt, specs/Answers.antt and the tables of crate schedule_samples. Events
+-- Lists to compute with, for specs/Examples.antt, specs/Answers.antt and the tables of crate samples_proved. Events
 -- last a second, so that in a sound one none overlaps the next. Assumes nothing.
 use Prim.Native.Nat.{ℕ, zero, suc}
 use mathlib.Core.List.{List, [], _∷_}

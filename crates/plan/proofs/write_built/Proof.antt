@@ -12,7 +12,7 @@ use Rattle.eit.specs.Sizes.{broadcast}
 use Rattle.eit.specs.Records.{lentList}
 use Rattle.sections.specs.Read.{noIdentity}
 use Rattle.build_answer.proofs.Inside.{built-inside}
-use Rattle.listing.proofs.SizeLaws.{refused-length, listing-length}
+use Rattle.plan_listing.proofs.SizeLaws.{refused-length, listing-length}
 use Rattle.plan.specs.PlanText.{noPools, baseDay}
 use Rattle.plan.proofs.PlanLaws.{list-refused, list-built, written-as}
 use Rattle.plan.proofs.write_built.Statement.{statement}

@@ -2,7 +2,7 @@
 use native.Mathlib.Omega.{arith}
 use denote.Ref.{now}
 use borrow.Author.Needs.{needs}
-use Rattle.listing.proofs.SizeLaws.{refused-length}
+use Rattle.plan_listing.proofs.SizeLaws.{refused-length}
 use Rattle.plan.proofs.PlanLaws.{script-long, script-refused, script-list, written-as, written-also}
 use Rattle.plan.proofs.write_within.Statement.{statement}
 use Rattle.plan.proofs.write_within.Tie as tie

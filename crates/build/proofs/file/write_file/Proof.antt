@@ -11,8 +11,8 @@ use Rattle.eit.specs.Sizes.{sectionsUpTo}
 use Rattle.eit.specs.Pools.{Pools, lentPools}
 use Rattle.eit.specs.Events.{Event}
 use Rattle.sections.specs.Segment.{tableOf}
-use Rattle.section_codec.specs.declared.header.SectionHeader.{SectionHeader}
-use Rattle.section_counts.proofs.WalkLaws.{heldEvents}
+use Rattle.codec_section.specs.declared.header.SectionHeader.{SectionHeader}
+use Rattle.build_counts.proofs.WalkLaws.{heldEvents}
 use Rattle.schedule.specs.SectionsOf.{tableLast}
 use Rattle.build.proofs.CountsLaws.{counts-length, count-few, row-is, row-last}
 use Rattle.build.proofs.FileLaws.{FileSoFar, file-same, table-small, file-start, file-end}

@@ -10,7 +10,7 @@ use Rattle.sections.specs.Section.{eventOverhead}
 use Rattle.sections.specs.Encode.{eventLoopBytes}
 use Rattle.sections.proofs.Lengths.{loop-length}
 use Rattle.codec.proofs.LeftLaws.{Left, left-all}
-use Rattle.section_counts.specs.Between.{eventsBetween}
+use Rattle.build_counts.specs.Between.{eventsBetween}
 use Rattle.build.proofs.SectionLaws.{next-fits, next-written, events-written}
 use Rattle.build.proofs.section.write_events.Statement.{statement}
 use Rattle.build.proofs.section.write_events.Tie as tie

@@ -4,7 +4,7 @@ use denote.Ref.{now}
 use borrow.Author.Needs.{needs}
 use Rattle.eit.specs.Pools.{lentPools}
 use Rattle.eit.proofs.Fields.{bytes-all}
-use Rattle.section_counts.specs.Between.{eventsBetween}
+use Rattle.build_counts.specs.Between.{eventsBetween}
 use Rattle.build.specs.Sections.{sectionOf}
 use Rattle.build.proofs.SectionLaws.{section-written}
 use Rattle.build.proofs.section.write_section.Statement.{statement}

@@ -5,8 +5,8 @@ use denote.Ref.{now}
 use Rattle.eit.specs.Sizes.{Sizes, sized}
 use Rattle.eit.specs.Pools.{Pools, lentPools}
 use Rattle.eit.specs.Records.{EventList, lentList}
-use Rattle.section_counts.specs.declared.count.Counted.{Counted}
-use Rattle.section_counts.proofs.CountEnd.{counted-counts}
+use Rattle.build_counts.specs.declared.count.Counted.{Counted}
+use Rattle.build_counts.proofs.CountEnd.{counted-counts}
 use Rattle.build.proofs.PlanLaws.{plan-of-counts}
 use Rattle.build.proofs.sizes.plan_within.Statement.{statement}
 use Rattle.build.proofs.sizes.plan_within.Tie as tie

@@ -3,7 +3,7 @@ use mathlib.Core.Path.{refl, _∙_}
 use native.Mathlib.Omega.{arith}
 use borrow.Author.Needs.{needs}
 use denote.Ref.{now}
-use Rattle.event_list.proofs.WriteLaws.{written-is}
+use Rattle.list_records.proofs.WriteLaws.{written-is}
 use Rattle.edit.proofs.index.add_record.Statement.{statement}
 use Rattle.edit.proofs.index.add_record.Tie as tie
 

@@ -5,8 +5,8 @@ use native.Mathlib.Omega.{arith}
 use borrow.Author.Needs.{needs}
 use denote.Ref.{now}
 use Rattle.eit.specs.declared.Record.{Record}
-use Rattle.slot_index.specs.Index.{Loaded}
-use Rattle.slot_index.proofs.LoadLaws.{load-none, load-next}
+use Rattle.edit_index.specs.Index.{Loaded}
+use Rattle.edit_index.proofs.LoadLaws.{load-none, load-next}
 use Rattle.edit.proofs.index.load.Statement.{statement}
 use Rattle.edit.proofs.index.load.Tie as tie
 

@@ -5,7 +5,7 @@ use native.Mathlib.Omega.{arith}
 use borrow.Author.Needs.{needs}
 use denote.Ref.{now}
 use lib.Dec.{eqb}
-use Rattle.slot_index.proofs.SearchLaws.{slot-in, place-few, taken-first, taken-is}
+use Rattle.edit_index.proofs.SearchLaws.{slot-in, place-few, taken-first, taken-is}
 use Rattle.edit.proofs.index.place_in.Statement.{statement}
 use Rattle.edit.proofs.index.place_in.Tie as tie
 

@@ -2,8 +2,8 @@
 use Prim.Native.Nat.{_+_, _-_, _/_}
 use native.Mathlib.Omega.{arith}
 use denote.Ref.{now}
-use Rattle.slot_index.specs.Index.{Ordered}
-use Rattle.slot_index.proofs.SearchLaws.{Between, slot-in, between-all, between-upper, between-lower, between-none}
+use Rattle.edit_index.specs.Index.{Ordered}
+use Rattle.edit_index.proofs.SearchLaws.{Between, slot-in, between-all, between-upper, between-lower, between-none}
 use Rattle.edit.proofs.index.place_of.Statement.{statement}
 use Rattle.edit.proofs.index.place_of.Tie as tie
 

@@ -4,7 +4,7 @@ use mathlib.Core.List.{List}
 use Prim.Native.Nat.{ℕ}
 use denote.Ref.{now}
 use borrow.Author.Needs.{needs}
-use Rattle.slot_index.specs.Index.{Index}
+use Rattle.edit_index.specs.Index.{Index}
 use Rattle.edit.proofs.RenewLaws.{index-zeros, stored-loadable, renewed}
 use Rattle.edit.proofs.index.renew.Statement.{statement}
 use Rattle.edit.proofs.index.renew.Tie as tie

@@ -9,9 +9,9 @@ use Rattle.eit.specs.Overwrite.{overwrite}
 use Rattle.eit.specs.Records.{recordSize, numbersOf}
 use Rattle.eit.specs.declared.Record.{Record}
 use Rattle.eit.proofs.Overwrite.{over-length}
-use Rattle.event_list.proofs.WriteLaws.{written-is}
-use Rattle.slot_index.specs.Index.{slotRecord, indexedNumbers}
-use Rattle.slot_index.proofs.LoadLaws.{store-none, store-next}
+use Rattle.list_records.proofs.WriteLaws.{written-is}
+use Rattle.edit_index.specs.Index.{slotRecord, indexedNumbers}
+use Rattle.edit_index.proofs.LoadLaws.{store-none, store-next}
 use Rattle.edit.proofs.index.store.Statement.{statement}
 use Rattle.edit.proofs.index.store.Tie as tie
 

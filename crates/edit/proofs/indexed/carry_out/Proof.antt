@@ -3,7 +3,7 @@ use mathlib.Core.Path.{ap}
 use denote.Ref.{now}
 use borrow.Author.Needs.{needs}
 use Rattle.eit.specs.Records.{EventList}
-use Rattle.script_scan.specs.Commands.{commandTold}
+use Rattle.edit_scan.specs.Commands.{commandTold}
 use Rattle.edit.specs.Run.{runOne}
 use Rattle.edit.proofs.IndexedLaws.{leaves-same}
 use Rattle.edit.proofs.RenewLaws.{renewed-kept}

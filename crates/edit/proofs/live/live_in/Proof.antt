@@ -4,7 +4,7 @@ use Prim.Native.Nat.{_≤_}
 use native.Mathlib.Omega.{arith}
 use denote.Ref.{now}
 use borrow.Author.Needs.{needs}
-use Rattle.script_scan.proofs.StrikeLaws.{byte-few}
+use Rattle.edit_scan.proofs.StrikeLaws.{byte-few}
 use Rattle.edit.proofs.LiveLaws.{StruckFrom, struck-none, struck-all, struck-on, struck-live}
 use Rattle.edit.proofs.live.live_in.Statement.{statement}
 use Rattle.edit.proofs.live.live_in.Tie as tie

@@ -8,7 +8,7 @@ use lib.ListN.{length, getD, take, length-take}
 use denote.Ref.{now}
 use borrow.Author.Needs.{needs}
 use Rattle.script.specs.Form.{Command, operandBytes}
-use Rattle.script_scan.specs.Commands.{commandsAt}
+use Rattle.edit_scan.specs.Commands.{commandsAt}
 use Rattle.edit.proofs.PlaceLaws.{Stands, stands-first, stands-here, stands-inside, stands-next, begins-is}
 use Rattle.edit.proofs.PlaceLaws.{Noted, noted-none, noted-next, noted-all}
 use Rattle.edit.proofs.live.undos_in.Statement.{statement}

@@ -9,8 +9,8 @@ use borrow.Author.Needs.{needs}
 use borrow.Fn.Kinds.{In}
 use borrow.Fn.PlainCycle.{Measures, is, falls, and}
 use Rattle.eit.specs.Records.{lentList}
-use Rattle.script_scan.specs.Commands.{commandsAt}
-use Rattle.script_scan.proofs.PartLaws.{commands-fit}
+use Rattle.edit_scan.specs.Commands.{commandsAt}
+use Rattle.edit_scan.proofs.PartLaws.{commands-fit}
 use Rattle.edit.proofs.HalfLaws.{part-struck, part-sound, half-within, half-ends, half-goes-on}
 use Rattle.edit.proofs.part.run_part.Reads as run-part
 use Rattle.edit.proofs.part.run_part.Kinds as run-part-kinds
@@ -18,7 +18,7 @@ use Rattle.edit.proofs.part.+run_part.Lts-run_part as run-part-lts
 use Rattle.edit_answer.proofs.number_of.Reads as number-of-reads
 use Rattle.edit.proofs.part.run_short.Reads as run-short-reads
 use Rattle.edit.proofs.part.pending_before.Reads as pending-before-reads
-use Rattle.script_scan.proofs.scan.skip_commands.Reads as skip-commands-reads
+use Rattle.edit_scan.proofs.scan.skip_commands.Reads as skip-commands-reads
 use Rattle.edit.proofs.part.+run_part.{statement}
 use Rattle.edit.proofs.part.+run_part.Tie.{close}
 

@@ -10,10 +10,10 @@ use lib.ListN.{length, getD, take}
 use borrow.Author.Needs.{needs}
 use Rattle.script.specs.Form.{operandBytes}
 use Rattle.script.specs.Struck.{passed}
-use Rattle.script_scan.specs.Commands.{isWholeAt, commandsAt}
-use Rattle.script_scan.proofs.CommandLaws.{whole-here, whole-inside}
-use Rattle.script_scan.proofs.PartLaws.{commands-fit, part-whole, count-next}
-use Rattle.script_scan.proofs.StrikeLaws.{byte-few}
+use Rattle.edit_scan.specs.Commands.{isWholeAt, commandsAt}
+use Rattle.edit_scan.proofs.CommandLaws.{whole-here, whole-inside}
+use Rattle.edit_scan.proofs.PartLaws.{commands-fit, part-whole, count-next}
+use Rattle.edit_scan.proofs.StrikeLaws.{byte-few}
 use Rattle.edit.proofs.PendingLaws.{pendingAfter, undoByte, unmetByte, pending-room, pending-few, pending-on}
 use Rattle.edit.proofs.part.pending_before.Statement.{statement}
 use Rattle.edit.proofs.part.pending_before.Tie as tie

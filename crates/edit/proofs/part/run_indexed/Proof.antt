@@ -10,8 +10,8 @@ use denote.Ref.{now}
 use borrow.Author.Needs.{needs}
 use Rattle.eit.specs.Records.{EventList}
 use Rattle.script.specs.Form.{Command, operandBytes}
-use Rattle.script_scan.specs.Commands.{commandTold, commandsAt}
-use Rattle.slot_index.specs.Index.{indexedList}
+use Rattle.edit_scan.specs.Commands.{commandTold, commandsAt}
+use Rattle.edit_index.specs.Index.{indexedList}
 use Rattle.edit.proofs.PlaceLaws.{Stands, stands-first, stands-here, stands-inside, stands-next, stands-split}
 use Rattle.edit.proofs.ForwardLaws.{carried-all, carried-ends}
 use Rattle.edit.proofs.IndexRunLaws.{Running, running-first, running-same, running-kept, running-few, running-past, running-on}

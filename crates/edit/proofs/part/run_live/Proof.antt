@@ -11,7 +11,7 @@ use Rattle.eit.specs.Pools.{lentPools}
 use Rattle.eit.specs.Records.{EventList, lentList, recordSize}
 use Rattle.eit.specs.Sound.{sound}
 use Rattle.edit_answer.specs.Told.{told}
-use Rattle.slot_index.specs.Index.{indexedList}
+use Rattle.edit_index.specs.Index.{indexedList}
 use Rattle.edit.specs.Run.{runPart}
 use Rattle.edit.proofs.ForwardLaws.{sound-held}
 use Rattle.edit.proofs.RenewLaws.{loadable-sound, index-zeros, loaded-stands}

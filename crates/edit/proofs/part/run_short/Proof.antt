@@ -5,7 +5,7 @@ use lib.ListN.{take, length-take, length-replicate}
 use denote.Ref.{now}
 use borrow.Author.Needs.{needs}
 use Rattle.codec.proofs.SeenLaws.{seen-none}
-use Rattle.script_scan.specs.Commands.{commandsAt}
+use Rattle.edit_scan.specs.Commands.{commandsAt}
 use Rattle.edit.proofs.part.run_short.Statement.{statement}
 use Rattle.edit.proofs.part.run_short.Tie as tie
 

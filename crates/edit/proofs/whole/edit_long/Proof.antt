@@ -4,7 +4,7 @@ use native.Mathlib.Omega.{arith}
 use denote.Ref.{now}
 use borrow.Author.Needs.{needs}
 use Rattle.eit.specs.Records.{lentList}
-use Rattle.script_scan.proofs.ScanLaws.{form-count-is}
+use Rattle.edit_scan.proofs.ScanLaws.{form-count-is}
 use Rattle.edit.proofs.EditLaws.{edit-4, edit-goes-on}
 use Rattle.edit.proofs.whole.edit_long.Statement.{statement}
 use Rattle.edit.proofs.whole.edit_long.Tie as tie

@@ -8,8 +8,8 @@ use denote.Ref.{now}
 use borrow.Author.Needs.{needs}
 use Rattle.eit.specs.Records.{lentList}
 use Rattle.codec.proofs.SeenLaws.{seen-none}
-use Rattle.script_scan.specs.Commands.{commandsAt}
-use Rattle.script_scan.proofs.ScanLaws.{form-count-is}
+use Rattle.edit_scan.specs.Commands.{commandsAt}
+use Rattle.edit_scan.proofs.ScanLaws.{form-count-is}
 use Rattle.edit.proofs.EditLaws.{edit-unpending}
 use Rattle.edit.proofs.whole.edit_short.Statement.{statement}
 use Rattle.edit.proofs.whole.edit_short.Tie as tie

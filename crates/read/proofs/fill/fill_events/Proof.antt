@@ -5,8 +5,8 @@ use denote.Ref.{now}
 use Rattle.eit.specs.Records.{recordSize}
 use Rattle.sections.specs.Section.{eventOverhead}
 use Rattle.codec.proofs.FieldLaws.{rest-whole}
-use Rattle.section_codec.specs.EventRead.{eventRead}
-use Rattle.section_codec.specs.declared.event.EventRead.the-variants.{Whole}
+use Rattle.codec_section.specs.EventRead.{eventRead}
+use Rattle.codec_section.specs.declared.event.EventRead.the-variants.{Whole}
 use Prim.Native.Nat.{_+_, _-_, _*_, _^_, _≤_, _<_}
 use lib.ListN.{length, drop}
 use Rattle.read.proofs.FillLaws.{FillSoFar, fill-start, never-broken, fill-inside, fill-room, fill-more, fill-end}

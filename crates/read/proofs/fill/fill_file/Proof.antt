@@ -2,7 +2,7 @@
 -- left of the file. Assumes nothing.
 use Prim.Native.Nat.{_-_}
 use lib.ListN.{length}
-use Rattle.section_walk.proofs.SectionAtLaws.{end-past}
+use Rattle.read_walk.proofs.SectionAtLaws.{end-past}
 use Rattle.read.proofs.FileLaws.{FileSoFar, file-start, file-room, file-more, file-end}
 use Rattle.read.proofs.FileLaws.{events-are, events-inside}
 use native.Mathlib.Omega.{arith}

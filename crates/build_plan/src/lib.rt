@@ -1,0 +1,34 @@
+// Plan's tables (01, "Build, Read": "sixteen tables of thirty-two section counts") and their counts in a row.
+use build_counts::segment::SEGMENTS;
+use build_counts::segment::TABLE_SEGMENTS;
+ghost use mathlib.Core.Path.{_≡_};
+ghost use mathlib.Core.List.{flatten};
+ghost use Prim.Native.Nat.{ℕ};
+ghost use lib.ListN.{getD};
+ghost use Rattle.schedule.specs.Plan.{tabled};
+
+// The tables of the counts of all segments.
+pub fn tables_of(counts: &[u8; 512]) -> [[u8; 32]; 16]
+    ensures { λ r. ⌜ r ≡ tabled (λ (index : ℕ). getD (now (counts .entry)) index 0) ⌝ }
+{
+    let mut tables = [[0u8; 32]; 16];
+    let mut index = 0;
+    while index < SEGMENTS {
+        tables[index / TABLE_SEGMENTS][index % TABLE_SEGMENTS] = counts[index];
+        index += 1;
+    }
+    tables
+}
+
+// The counts of all segments, table after table.
+pub fn flat_of(tables: [[u8; 32]; 16]) -> [u8; 512]
+    ensures { λ r. ⌜ r ≡ flatten tables ⌝ }
+{
+    let mut counts = [0u8; 512];
+    let mut index = 0;
+    while index < SEGMENTS {
+        counts[index] = tables[index / TABLE_SEGMENTS][index % TABLE_SEGMENTS];
+        index += 1;
+    }
+    counts
+}

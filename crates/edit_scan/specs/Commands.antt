@@ -1,0 +1,63 @@
+-- The model's value for each case of a script's form, of its UNDOs and of a command; the commands from an offset on, and the offset
+-- behind some of them (01, "Edit"). Laws: proofs/CommandLaws.antt, PartLaws.antt. Assumes nothing.
+use Prim.Native.Nat.{ℕ, zero, suc, _+_}
+use mathlib.Core.Bool.{Bool, true, false, _&&_}
+use mathlib.Core.List.{List, [], _∷_}
+use lib.Dec.{ltb}
+use lib.ListN.{length, getD, drop}
+use Rattle.script.specs.Form as model
+use Rattle.script.specs.Form.{put, withdraw, move, doEdit, undo, operandBytes, commandOf, isWhole, commands, broken}
+use Rattle.script.specs.Struck.{Unstruck, unstruck, nothingAt}
+use Rattle.edit_scan.specs.declared.command.Command.{Command}
+use Rattle.edit_scan.specs.declared.command.Command.the-variants.{Put, Withdraw, Move, Undo}
+use Rattle.edit_scan.specs.declared.scan.Form.{Form}
+use Rattle.edit_scan.specs.declared.scan.Form.the-variants.{Whole, Broken}
+use Rattle.edit_scan.specs.declared.scan.Strikes.{Strikes}
+use Rattle.edit_scan.specs.declared.scan.Strikes.the-variants.{Enough, NothingAt}
+
+-- 3 over the script: its form, and of the commands how many they are
+abbrev pub formTold : model.Form → Form
+formTold (commands cs) = Whole (length cs)
+formTold (broken at) = Broken at
+
+-- 4 over the script: whether each UNDO has something to strike, without the edits that are left
+abbrev pub strikesTold : Unstruck → Strikes
+strikesTold (unstruck es) = Enough
+strikesTold (nothingAt at) = NothingAt at
+
+-- a command whose byte stands at the offset `at`
+abbrev pub commandTold : ℕ → Command → model.Command
+commandTold at (Put r) = doEdit (record { at = at; act = put r })
+commandTold at (Withdraw id) = doEdit (record { at = at; act = withdraw id })
+commandTold at (Move id start) = doEdit (record { at = at; act = move id start })
+commandTold at Undo = undo at
+
+-- a known command stands at the offset `at` with its operands
+abbrev pub isWholeAt : ℕ → List ℕ → Bool
+isWholeAt at script = ltb at (length script) && isWhole (getD script at 0) (drop (suc at) script)
+
+-- the whole commands of the rest of a script from the offset `at` on, up to the first that is broken; the first `skip` bytes are
+-- operands of a command that has begun
+abbrev pub wholeFrom : ℕ → ℕ → List ℕ → List model.Command
+wholeFrom zero at [] = []
+-- never met: a cut operand is not begun
+wholeFrom (suc skip) at [] = []
+wholeFrom (suc skip) at (b ∷ bs) = wholeFrom skip (suc at) bs
+wholeFrom zero at (code ∷ bs) =
+    elim (isWhole code bs) [
+      | true ↦ commandOf code at bs ∷ wholeFrom (operandBytes code) (suc at) bs
+      | false ↦ []
+    ]
+
+-- the whole commands of a script from the offset `at` on; none if `at` lies beyond it
+unfoldable pub commandsAt : ℕ → List ℕ → List model.Command
+commandsAt at script = wholeFrom 0 at (drop at script)
+
+-- the offset behind k whole commands from the offset `at` on, or behind as many as there are
+unfoldable pub offsetBehind : ℕ → ℕ → List ℕ → ℕ
+offsetBehind zero at script = at
+offsetBehind (suc k) at script =
+    elim (isWholeAt at script) [
+      | true ↦ offsetBehind k (at + (1 + operandBytes (getD script at 0))) script
+      | false ↦ at
+    ]

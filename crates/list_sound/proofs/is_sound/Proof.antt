@@ -1,0 +1,145 @@
+-- `is_sound` meets its contract: before each turn the pass stands as `Pass` says, and each way on or out is decided by the tests of the
+-- record there. Assumes nothing.
+use mathlib.Core.Path.{_≡_, sym, subst, _∙_}
+use mathlib.Core.Logic.{⊎-elim}
+use mathlib.Core.Bool.{true}
+use Prim.Native.Nat.{_-_}
+use native.Mathlib.Omega.{arith}
+use lib.Dec.{T}
+use denote.Ref.{now}
+use borrow.Author.Needs.{needs}
+use borrow.Author.Tests.{le-leb, lt-leb, ltb-true, ltb-false, not-true, not-false}
+use Rattle.eit.specs.Pools.{lentPools}
+use Rattle.eit.specs.Sound.{inRange}
+use Rattle.eit.proofs.Sound.{range-facts}
+use Rattle.list_sound.proofs.ForwardLaws.{sound-many, sound-short}
+use Rattle.list_sound.proofs.PassLaws.{Pass, pass-start, pass-end, pass-stop, pass-more}
+use Rattle.list_sound.proofs.is_sound.Statement.{statement}
+use Rattle.list_sound.proofs.is_sound.Tie as tie
+
+abbrev Inv-loop : tie.InvT-loop
+Inv-loop list count day series event-limit seen₀ least₀ i₀ seen least i = Pass event-limit (lentPools day series) list count seen least i
+
+abbrev μ-loop : tie.MeasureT-loop
+μ-loop list count day series event-limit seen₀ least₀ i₀ seen least i = count - i
+
+returns : tie.Need-returns Inv-loop μ-loop
+returns c =
+    let args = c .before .before .before .before .args in
+    let pools = lentPools (now (args .day)) (now (args .series)) in
+    sym
+    (⊎-elim
+    (λ w. sound-many (args .event-limit) pools (now (args .list)) (args .count) (w .taken))
+    (λ w. sound-short (args .event-limit) pools (now (args .list)) (args .count) (ltb-true _ _ (w .1 .taken)))
+    (c .if1 .came))
+
+loop-holds : tie.Need-loop-holds Inv-loop μ-loop
+loop-holds c = pass-start _ _ _ _ (c .before .if1 .left) (ltb-false _ _ (c .if2 .left))
+
+record-at-requires : tie.Need-record-at-requires Inv-loop μ-loop
+record-at-requires c κs = search needs
+
+is-in-range-requires : tie.Need-is-in-range-requires Inv-loop μ-loop
+is-in-range-requires c κs = search needs
+
+has-chain-requires : tie.Need-has-chain-requires Inv-loop μ-loop
+has-chain-requires c κs = search needs
+
+slice-aggregate-is-seen : tie.Need-slice-aggregate-is-seen Inv-loop μ-loop
+slice-aggregate-is-seen c = sym (c .before .before .before .before .before .before .before .before .before .loop .inv .size)
+
+is-seen-requires : tie.Need-is-seen-requires Inv-loop μ-loop
+is-seen-requires c κs = search needs
+
+returns-2 : tie.Need-returns-2 Inv-loop μ-loop
+returns-2 c =
+    let read = c .before .before in
+    let pass = read .before .before .loop .inv in
+    let range = sym (c .before .is-in-range .ensures) in
+    let stop = pass-stop pass (read .record-at .result) (read .before .loop-test .taken) (read .record-at .ensures) in
+    sym
+    (⊎-elim
+    (λ w. stop (rw (range ∙ not-true _ (w .taken))))
+    (⊎-elim
+    (λ w. stop (rw (range ∙ not-false _ (w .0 .left), sym (w .1 .ensures) ∙ not-true _ (w .2 .taken))))
+    (⊎-elim
+    (λ w.
+    stop
+    (rw (
+      range ∙ not-false _ (w .0 .left),
+      sym (w .1 .ensures) ∙ not-false _ (w .2 .left),
+      lt-leb _ _ (ltb-true _ _ (w .4 .taken)),
+    )))
+    (λ w.
+    stop
+    (rw (
+      range ∙ not-false _ (w .0 .left),
+      sym (w .1 .ensures) ∙ not-false _ (w .2 .left),
+      le-leb _ _ (ltb-false _ _ (w .4 .left)),
+      sym (w .6 .ensures) ∙ w .7 .taken,
+    )))))
+    (c .if3 .came))
+
+slice-aggregate-add-seen : tie.Need-slice-aggregate-add-seen Inv-loop μ-loop
+slice-aggregate-add-seen c =
+    sym (c .before .before .before .before .before .before .before .before .before .before .before .before .loop .inv .size)
+
+add-seen-requires : tie.Need-add-seen-requires Inv-loop μ-loop
+add-seen-requires c κs = search needs
+
+-- a record that passed the first test
+in-range : (c : tie.Else3 Inv-loop μ-loop) → inRange (c .before .before .record-at .result) ≡ true
+in-range c = sym (c .before .is-in-range .ensures) ∙ not-false _ (c .if3 .left)
+
+add-least : tie.Need-add-least Inv-loop μ-loop
+add-least c =
+    let passed = c .before .before .before .before .before .before .before .before .before .before .before in
+    omega (arith, range-facts (passed .before .before .record-at .result) (subst T (sym (in-range passed)) tt) .start)
+
+add-i : tie.Need-add-i Inv-loop μ-loop
+add-i c = omega arith
+
+loop-less : tie.Need-loop-less Inv-loop μ-loop
+loop-less c = omega arith
+
+loop-again : tie.Need-loop-again Inv-loop μ-loop
+loop-again c =
+    let added = c .before .before in
+    let seen = added .before .before .before in
+    let start = seen .before .before in
+    let chain = start .before .before .before in
+    let range = chain .before in
+    let read = range .before .before in
+    pass-more (read .before .before .loop .inv) (read .record-at .result) (read .before .loop-test .taken) (read .record-at .ensures)
+    (rw (
+      in-range range,
+      sym (chain .has-chain .ensures) ∙ not-false _ (start .before .before .if4 .left),
+      le-leb _ _ (ltb-false _ _ (start .if5 .left)),
+      sym (seen .is-seen .ensures) ∙ added .before .before .if6 .left,
+    ))
+    (added .add-seen .ensures)
+
+returns-3 : tie.Need-returns-3 Inv-loop μ-loop
+returns-3 c = sym (pass-end (c .before .loop .inv) (c .loop-test .left))
+
+pub is-sound-spec : {M : Type 1} → statement M
+is-sound-spec =
+    tie.close
+    (tie.spec
+    Inv-loop
+    μ-loop
+    returns
+    loop-holds
+    record-at-requires
+    is-in-range-requires
+    has-chain-requires
+    slice-aggregate-is-seen
+    is-seen-requires
+    returns-2
+    slice-aggregate-add-seen
+    add-seen-requires
+    add-least
+    add-i
+    loop-less
+    loop-again
+    returns-3)

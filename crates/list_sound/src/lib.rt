@@ -1,0 +1,62 @@
+// 01's term: sound ("Event record and sound list").
+use codec::pools;
+use codec::seen;
+use eit::Record;
+use eit::Time;
+use eit::sizes::ID_WORDS;
+use list_records::records;
+use list_records::records::RECORD_SIZE;
+ghost use mathlib.Core.Path.{_≡_};
+ghost use Rattle.eit.specs.Sizes.{limitedTo};
+ghost use Rattle.eit.specs.Pools.{lentPools};
+ghost use Rattle.eit.specs.Records.{lentList};
+ghost use Rattle.eit.specs.Sound.{inRange, sound};
+
+// The most that an id and marks may be.
+const ID_MOST: u32 = 65_535;
+
+const MARKS_MOST: u32 = 7;
+
+// Values are in range.
+pub fn is_in_range(event: Record) -> bool
+    ensures { λ r. ⌜ r ≡ inRange event ⌝ }
+{
+    event.id <= ID_MOST
+        && Time::is_start(event.start)
+        && Time::is_duration(event.duration)
+        && event.marks <= MARKS_MOST
+}
+
+// Whether the list is sound, in one pass: starts rise from `least` on, and ids are kept in a set.
+pub fn is_sound<'a>(
+    list: &[u32],
+    count: usize,
+    day: &'a [u8],
+    series: &'a [u8],
+    event_limit: usize,
+) -> bool
+    ensures { λ r. ⌜
+        r
+        ≡ sound (limitedTo «event_limit») (lentPools (now (day .entry)) (now (series .entry))) (lentList (now (list .entry)) count) ⌝ }
+{
+    if event_limit < count || list.len() / RECORD_SIZE < count {
+        return false;
+    }
+    let mut seen = [0u64; ID_WORDS];
+    let mut least = 0;
+    let mut i = 0;
+    while i < count {
+        let r = records::record_at(list, i);
+        if !is_in_range(r)
+            || !pools::has_chain(r, day, series)
+            || r.start < least
+            || seen::is_seen(&seen, r.id)
+        {
+            return false;
+        }
+        seen::add_seen(&mut seen, r.id);
+        least = r.start + 1;
+        i += 1;
+    }
+    true
+}

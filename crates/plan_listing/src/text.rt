@@ -1,0 +1,26 @@
+// Text into a lent buffer: what has no room is left out. Each function returns the place behind what it wrote.
+ghost use Rattle.plan_listing.specs.Fill.{Fills};
+ghost use Rattle.plan_listing.specs.Listing.{numberThen};
+
+pub fn write_text(out: &mut [u8], at: usize, text: &[u8]) -> usize
+    ensures { λ r. ⌜ Fills (now (out .entry)) at (now (text .entry)) (now (out .exit)) r ⌝ }
+{
+    let mut place = at;
+    let mut i = 0;
+    while i < text.len() && place < out.len() {
+        out[place] = text[i];
+        place += 1;
+        i += 1;
+    }
+    place
+}
+
+// A number in decimal, and one byte behind it.
+pub fn write_number(out: &mut [u8], at: usize, number: usize, after: u8) -> usize
+    ensures { λ r. ⌜ Fills (now (out .entry)) at (numberThen number after) (now (out .exit)) r ⌝ }
+{
+    let mut digits = [0u8; 20];
+    let n = io::decimal(number as u64, &mut digits);
+    let end = write_text(out, at, &digits[..n]);
+    write_text(out, end, &[after])
+}

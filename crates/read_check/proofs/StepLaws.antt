@@ -1,0 +1,192 @@
+-- The checks of one section in code, in their order, are the step of Read's definition: each test that fails is its refusal, and
+-- all together are the way on. By the laws of each refusal (`step-20` to `step-26` of sections). Assumes nothing.
+use mathlib.Core.Path.{_≡_, refl, sym, ap, ap₂, subst, _∙_}
+use mathlib.Core.Logic.{⊎-elim}
+use mathlib.Core.Bool.{Bool, true, false, not}
+use mathlib.Core.List.{List, map, reverse, _++_}
+use mathlib.Core.Option.{Option, none, some}
+use Prim.Native.Nat.{ℕ, _+_, _≤_, _<_}
+use native.Mathlib.Omega.{arith}
+use lib.Dec.{T, le→leb}
+use borrow.Author.Tests.{lt-leb}
+use lib.ListN.{length, length-map}
+use Rattle.eit.specs.Sizes.{Sizes, sized, sectionsUpTo}
+use Rattle.eit.specs.Fields.{Bytes}
+use Rattle.eit.specs.Events.{Event}
+use Rattle.eit.proofs.Test.{true-is, false-is, test-or}
+use Rattle.sections.specs.Section.{Header}
+use Rattle.sections.specs.Decode.{statedEventSize, eventIn, headerIn, eventLoop, cutEvents}
+use Rattle.sections.specs.Cut.{cut}
+use Rattle.sections.specs.JudgeHeader.{isFramed, isClosed, isHeader, isInPlace}
+use Rattle.sections.specs.JudgeEvents.{isEventLoop, isWithinLimit}
+use Rattle.sections.specs.Walk.{Progress, behind, refused, step}
+use Rattle.sections.proofs.Walk.{step-passes}
+use Rattle.sections.proofs.Answers.{step-20, step-21, step-22, step-23, step-24, step-26}
+use Rattle.sections.proofs.Order.{seen-length}
+use Rattle.codec_crc.specs.CrcTables.{crcTables}
+use Rattle.codec_section.specs.HeaderRead.{heldHeader}
+use Rattle.codec_section.specs.declared.header.SectionHeader.{SectionHeader}
+use Rattle.read_checks.specs.Closed.{isClosedBy}
+use Rattle.read_checks.specs.Kept.{keptHeader, checkedHeader}
+use Rattle.read_events.specs.EventPass.{EventPass, checkedEvents, passOf}
+use Rattle.read_events.specs.EventsKept.{KeptOf}
+use Rattle.read_checks.specs.declared.header.Kept.the-variants.{Header as Behind, Nothing}
+use Rattle.read_events.specs.declared.EventCheck.{EventCheck}
+use Rattle.read_checks.proofs.ClosedLaws.{closed-by-tables}
+use Rattle.read_events.proofs.EventKeptLaws.{loop-checked, loop-kept}
+use Rattle.read_check.specs.Tracks.{Tracks, Said}
+use Rattle.read_check.specs.declared.section.WalkState.{WalkState}
+use Rattle.read_check.specs.declared.section.SectionVerdict.the-variants.{Passed}
+
+-- a test that was made, and its outcome
+holds : {a b : Bool} → a ≡ b → a ≡ true → T b
+holds made is = subst T (sym is ∙ made) tt
+
+fails : {a b : Bool} → a ≡ b → a ≡ false → T (not b)
+fails made is = subst (λ (t : Bool). T (not t)) (sym is ∙ made) tt
+
+-- what 22 keeps of a section
+module _ (before : Option Header) (bs : List ℕ) where
+  kept-only : {h : Header} → some h ≡ checkedHeader before bs → T (isHeader before bs) × (h ≡ headerIn bs)
+  kept-only {h} kept =
+      ⊎-elim
+      (λ (t : T (isHeader before bs)).
+      let shown : checkedHeader before bs ≡ some (headerIn bs) = rw (checkedHeader, true-is (isHeader before bs) t) in
+      (t, cc))
+      (λ (f : T (not (isHeader before bs))).
+      let shown : checkedHeader before bs ≡ none = rw (checkedHeader, false-is (isHeader before bs) f) in
+      let z : _≡_ {A = ℕ} 0 1 = cc in
+      absurd (omega arith))
+      (test-or (isHeader before bs))
+
+  nothing-only : none ≡ checkedHeader before bs → T (not (isHeader before bs))
+  nothing-only kept =
+      ⊎-elim
+      (λ (t : T (isHeader before bs)).
+      let shown : checkedHeader before bs ≡ some (headerIn bs) = rw (checkedHeader, true-is (isHeader before bs) t) in
+      let z : _≡_ {A = ℕ} 0 1 = cc in
+      absurd (omega arith))
+      (λ (f : T (not (isHeader before bs))). f)
+      (test-or (isHeader before bs))
+
+module _ {offset : ℕ} {state : WalkState} {words : List ℕ} {p : Progress} (tracks : Tracks offset state words p) (size limit base : ℕ)
+    (bs : List ℕ) where
+  abbrev sizes : Sizes
+  sizes = sized size limit
+
+  -- the section's offset
+  at-offset : {number : ℕ} → step sizes base p bs ≡ refused number (p .offset) → step sizes base p bs ≡ refused number offset
+  at-offset {number} is = is ∙ ap (refused number) (tracks .offset-is)
+
+  same-frame : isFramed (sectionsUpTo size) bs ≡ isFramed sizes bs
+  unfolding isFramed
+  same-frame = refl
+
+  pub says-20 : {framed : Bool} → framed ≡ isFramed (sectionsUpTo size) bs → framed ≡ false → step sizes base p bs ≡ refused 20 offset
+  says-20 made is = at-offset (step-20 sizes base p bs (fails (made ∙ same-frame) is))
+
+  module _ (bytes : Bytes bs) {framed : Bool} (frame : framed ≡ isFramed (sectionsUpTo size) bs) (frame-holds : framed ≡ true)
+      {tables : List ℕ} (right : tables ≡ crcTables) where
+    is-framed : T (isFramed sizes bs)
+    is-framed = holds (frame ∙ same-frame) frame-holds
+
+    same-crc : isClosedBy tables bs ≡ isClosed bs
+    same-crc = ap (λ (t : List ℕ). isClosedBy t bs) right ∙ closed-by-tables bs bytes
+
+    pub says-21 : {closed : Bool} → closed ≡ isClosedBy tables bs → closed ≡ false → step sizes base p bs ≡ refused 21 offset
+    says-21 made is = at-offset (step-21 sizes base p bs is-framed (fails (made ∙ same-crc) is))
+
+    module _ {closed : Bool} (crc : closed ≡ isClosedBy tables bs) (crc-holds : closed ≡ true) where
+      is-closed : T (isClosed bs)
+      is-closed = holds (crc ∙ same-crc) crc-holds
+
+      pub says-22 : keptHeader Nothing ≡ checkedHeader (keptHeader (state .before)) bs → step sizes base p bs ≡ refused 22 offset
+      says-22 kept =
+          at-offset (step-22 sizes base p bs is-framed is-closed
+          (nothing-only (p .before) bs (kept ∙ ap (λ (o : Option Header). checkedHeader o bs) (sym (tracks .before-is)))))
+
+      module _ {h : SectionHeader} (kept : keptHeader (Behind h) ≡ checkedHeader (keptHeader (state .before)) bs) where
+        shown : T (isHeader (p .before) bs) × (heldHeader h ≡ headerIn bs)
+        shown = kept-only (p .before) bs (kept ∙ ap (λ (o : Option Header). checkedHeader o bs) (sym (tracks .before-is)))
+
+        same-place : isInPlace (keptHeader (state .before)) (heldHeader h) ≡ isInPlace (p .before) (headerIn bs)
+        same-place = ap₂ isInPlace (sym (tracks .before-is)) (shown .1)
+
+        pub says-23 : {placed : Bool} → placed ≡ isInPlace (keptHeader (state .before)) (heldHeader h) → placed ≡ false
+            → step sizes base p bs ≡ refused 23 offset
+        says-23 made is = at-offset (step-23 sizes base p bs is-framed is-closed (shown .0) (fails (made ∙ same-place) is))
+
+        module _ {placed : Bool} (place : placed ≡ isInPlace (keptHeader (state .before)) (heldHeader h)) (place-holds : placed ≡ true)
+            {check : EventCheck} {words′ : List ℕ}
+            (checked : passOf check words′ ≡ checkedEvents base (heldHeader h) (state .least) words (cut statedEventSize (eventLoop bs))) where
+          is-placed : T (isInPlace (p .before) (headerIn bs))
+          is-placed = holds (place ∙ same-place) place-holds
+
+          passes : passOf check words′ ≡ checkedEvents base (headerIn bs) (state .least) words (cut statedEventSize (eventLoop bs))
+          passes =
+              checked
+              ∙ ap (λ (g : Header). checkedEvents base g (state .least) words (cut statedEventSize (eventLoop bs))) (shown .1)
+
+          same-loop : check .«is_whole» ≡ isEventLoop base (p .seen) bs
+          same-loop = ap (λ (e : EventPass). e .isWhole) passes ∙ loop-checked base bs bytes (p .seen) (tracks .kept)
+
+          pub says-24 : check .«is_whole» ≡ false → step sizes base p bs ≡ refused 24 offset
+          says-24 is = at-offset (step-24 sizes base p bs is-framed is-closed (shown .0) is-placed (fails same-loop is))
+
+          module _ (whole : check .«is_whole» ≡ true) where
+            is-loop : T (isEventLoop base (p .seen) bs)
+            is-loop = holds same-loop whole
+
+            kept-events : (check .events ≡ length (cutEvents bs))
+                × KeptOf (check .least) words′ (reverse (map (eventIn base) (cutEvents bs)) ++ p .seen)
+            kept-events =
+                subst
+                (λ (e : EventPass).
+                (e .events ≡ length (cutEvents bs))
+                × KeptOf (e .least) (e .words) (reverse (map (eventIn base) (cutEvents bs)) ++ p .seen))
+                (sym passes)
+                (loop-kept base bs bytes (p .seen) (tracks .kept)
+                (subst T (sym (loop-checked base bs bytes (p .seen) (tracks .kept))) is-loop))
+
+            abbrev events : List Event
+            events = map (eventIn base) (cutEvents bs)
+
+            events-count : length events ≡ length (cutEvents bs)
+            events-count = length-map (cutEvents bs) (eventIn base)
+
+            above : limit < check .events + state .count → T (not (isWithinLimit sizes (p .seen) bs))
+            unfolding isWithinLimit
+            above many =
+                let many′ : limit < length (p .seen) + length (cutEvents bs) = omega (arith, kept-events .0, tracks .count-is) in
+                rw (lt-leb (length (p .seen) + length (cutEvents bs)) limit many′) tt
+
+            within : check .events + state .count ≤ limit → T (isWithinLimit sizes (p .seen) bs)
+            unfolding isWithinLimit
+            within few = le→leb _ limit (omega (arith, kept-events .0, tracks .count-is))
+
+            pub says-26 : limit < check .events + state .count → step sizes base p bs ≡ refused 26 offset
+            says-26 many =
+                at-offset (step-26 sizes base p bs is-framed is-closed (shown .0) is-placed is-loop (above many))
+
+            pub goes-on : check .events + state .count ≤ limit
+                → Said (offset + length bs)
+                (Passed (record { before = Behind h; least = check .least; count = state .count + check .events })) words′
+                (step sizes base p bs)
+            goes-on few = (
+              behind base p bs,
+              step-passes sizes base p bs
+                  (record {
+                    framed = is-framed;
+                    closed = is-closed;
+                    header = shown .0;
+                    place = is-placed;
+                    loop = is-loop;
+                    limit = within few;
+                  }),
+              record {
+                offset-is = ap (λ (n : ℕ). n + length bs) (tracks .offset-is);
+                before-is = ap some (sym (shown .1));
+                kept = kept-events .1;
+                count-is = omega (arith, seen-length events (p .seen), events-count, kept-events .0, tracks .count-is);
+              },
+            )

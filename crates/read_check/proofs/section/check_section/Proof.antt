@@ -1,0 +1,221 @@
+-- `section::check_section` meets its contract: each check that fails is its refusal, and all together are the way on
+-- (`StepLaws`). Assumes nothing.
+use mathlib.Core.Path.{_≡_, refl, sym, ap, _∙_}
+use mathlib.Core.Logic.{⊎-elim}
+use mathlib.Core.List.{List}
+use Prim.Native.Nat.{ℕ, _+_, _-_, _≤_, _<_}
+use denote.Ref.{now}
+use borrow.Author.Tests.{ltb-true, ltb-false, not-true, not-false}
+use Rattle.eit.specs.Fields.{Bytes}
+use Rattle.eit.proofs.Fields.{bytes-all}
+use Rattle.sections.specs.Decode.{statedEventSize, eventLoop}
+use Rattle.sections.specs.Cut.{cut}
+use Rattle.codec_crc.specs.CrcTables.{crcTables}
+use Rattle.codec_section.specs.HeaderRead.{heldHeader}
+use Rattle.read_checks.specs.Kept.{keptHeader, checkedHeader}
+use Rattle.read_events.specs.EventPass.{checkedEvents, passOf}
+use Rattle.read_checks.specs.declared.header.Kept.the-variants.{Header as Behind}
+use Rattle.read_check.proofs.StepLaws.{says-20, says-21, says-22, says-23, says-24, says-26, goes-on}
+use native.Mathlib.Omega.{arith}
+use borrow.Author.Needs.{needs}
+use Rattle.read_check.proofs.section.check_section.Statement.{statement}
+use Rattle.read_check.proofs.section.check_section.Tie as tie
+
+is-framed-requires : tie.Need-is-framed-requires
+is-framed-requires c κs = search needs
+
+module _ (c : tie.After-is-framed) where
+  section-bytes : Bytes (now (c .before .before .before .args .section))
+  section-bytes = bytes-all (now (c .before .before .before .args .section)) (λ k. c .before .before .shared-slice-known .given k .fits)
+
+  lent-tables : now (c .before .before .before .args .crc-tables) ≡ crcTables
+  lent-tables = c .before .before .before .pre
+
+at-most : {m n k : ℕ} → m ≤ n → n < k → m < k
+at-most few fits = omega arith
+
+-- a section whose header passed
+module _ (c : tie.After-is-in-place) where
+  abbrev entry : tie.Start
+  entry = c .before .before .before .before .before .before .before .before .before .before .before
+
+  header-kept : keptHeader (Behind (c .before .before .shown .given .0 .0))
+      ≡ checkedHeader (keptHeader (entry .args .state .before)) (now (entry .args .section))
+  header-kept = sym (ap keptHeader (c .before .before .shown .given .1)) ∙ c .before .before .before .before .check-header .ensures
+
+-- and whose events were looked at
+events-checked : (c : tie.After-check-events)
+    → let a = entry (c .before .before .before .before) .args in
+    passOf (c .check-events .result) (c .check-events .last .1 .1 .1 .1 .0)
+    ≡ checkedEvents (a .base-day) (heldHeader (c .before .before .before .before .before .before .shown .given .0 .0))
+    (a .state .least) (now (a .seen))
+    (cut statedEventSize (eventLoop (now (a .section))))
+events-checked c =
+    let a = entry (c .before .before .before .before) .args in
+    c .check-events .ensures
+    ∙ ap
+    (λ (events : List ℕ).
+    checkedEvents (a .base-day) (heldHeader (c .before .before .before .before .before .before .shown .given .0 .0))
+    (a .state .least) (now (a .seen))
+    (cut statedEventSize events))
+    (c .before .before .event-loop .ensures)
+
+returns : tie.Need-returns
+returns c p tracks =
+    (says-20 tracks _ _ _ _ (c .before .is-framed .ensures) (not-true _ (c .if1 .taken)), refl)
+
+is-closed-requires : tie.Need-is-closed-requires
+is-closed-requires c κs = search needs
+
+returns-2 : tie.Need-returns-2
+returns-2 c p tracks =
+    let framed = c .before .before .before in (
+      says-21 tracks _ _ _ _ (section-bytes framed) (framed .is-framed .ensures) (not-false _ (c .before .before .if1 .left))
+          (lent-tables framed) (c .before .is-closed .ensures) (not-true _ (c .if2 .taken)),
+      refl,
+    )
+
+check-header-requires : tie.Need-check-header-requires
+check-header-requires c κs = search needs
+
+enum-known-shown : tie.Need-enum-known-shown
+enum-known-shown c = search needs
+
+enum-told : tie.Need-enum-told
+enum-told c = search needs
+
+returns-3 : tie.Need-returns-3
+returns-3 c p tracks =
+    let kept = c .before .before in
+    let closed = kept .before .before in
+    let framed = closed .before .before in (
+      says-22 tracks _ _ _ _ (section-bytes framed) (framed .is-framed .ensures) (not-false _ (closed .before .if1 .left)) (lent-tables framed)
+          (closed .is-closed .ensures) (not-false _ (kept .before .if2 .left))
+          (sym (ap keptHeader (c .enum-told .given .1)) ∙ kept .check-header .ensures),
+      refl,
+    )
+
+is-in-place-requires : tie.Need-is-in-place-requires
+is-in-place-requires c κs = search needs
+
+returns-4 : tie.Need-returns-4
+returns-4 c p tracks =
+    let placed = c .before in
+    let kept = placed .before .before .before .before in
+    let closed = kept .before .before in
+    let framed = closed .before .before in (
+      says-23 tracks _ _ _ _ (section-bytes framed) (framed .is-framed .ensures) (not-false _ (closed .before .if1 .left)) (lent-tables framed)
+          (closed .is-closed .ensures) (not-false _ (kept .before .if2 .left)) (header-kept placed)
+          (placed .is-in-place .ensures) (not-true _ (c .if3 .taken)),
+      refl,
+    )
+
+event-loop-requires : tie.Need-event-loop-requires
+event-loop-requires c κs = search needs
+
+check-events-requires : tie.Need-check-events-requires
+check-events-requires c κs = search needs
+
+same-length : tie.Need-same-length
+same-length c = search needs
+
+returns-5 : tie.Need-returns-5
+returns-5 c p tracks =
+    let checked = c .before .before .before .before in
+    let looped = checked .before .before in
+    let placed = looped .before .before in
+    let kept = placed .before .before .before .before in
+    let closed = kept .before .before in
+    let framed = closed .before .before in (
+      says-24 tracks _ _ _ _ (section-bytes framed) (framed .is-framed .ensures) (not-false _ (closed .before .if1 .left)) (lent-tables framed)
+          (closed .is-closed .ensures) (not-false _ (kept .before .if2 .left)) (header-kept placed)
+          (placed .is-in-place .ensures) (not-false _ (looped .before .if3 .left)) (events-checked checked)
+          (not-true _ (c .if4 .taken)),
+      refl,
+    )
+
+same-length-2 : tie.Need-same-length-2
+same-length-2 c = search needs
+
+returns-6 : tie.Need-returns-6
+returns-6 c p tracks =
+    let whole = c .before in
+    let checked = whole .before .before .before .before in
+    let looped = checked .before .before in
+    let placed = looped .before .before in
+    let kept = placed .before .before .before .before in
+    let closed = kept .before .before in
+    let framed = closed .before .before in
+    let a = entry placed .args in
+    let many : a .event-limit < checked .check-events .result .events + a .state .count =
+    ⊎-elim (λ w. omega (arith, w .taken))
+    (λ w. omega (arith, w .0 .left, ltb-true (a .event-limit - checked .check-events .result .events) (a .state .count) (w .2 .taken)))
+    (c .if5 .came) in (
+      says-26 tracks _ _ _ _ (section-bytes framed) (framed .is-framed .ensures) (not-false _ (closed .before .if1 .left)) (lent-tables framed)
+          (closed .is-closed .ensures) (not-false _ (kept .before .if2 .left)) (header-kept placed)
+          (placed .is-in-place .ensures) (not-false _ (looped .before .if3 .left)) (events-checked checked)
+          (not-false _ (whole .if4 .left)) many,
+      refl,
+    )
+
+add-t29 : tie.Need-add-t29
+add-t29 c =
+    let room = c .before in
+    let checked = room .before .before .before .before .before .before .before in
+    let start = entry (checked .before .before .before .before) in
+    let a = start .args in
+    let few : a .state .count + checked .check-events .result .events ≤ a .event-limit =
+    omega (
+      arith,
+      room .before .before .if5 .left,
+      ltb-false (a .event-limit - checked .check-events .result .events) (a .state .count) (room .if6 .left),
+    ) in
+    record { fits = at-most few (start .fits .event-limit .fits) }
+
+same-length-3 : tie.Need-same-length-3
+same-length-3 c = search needs
+
+returns-7 : tie.Need-returns-7
+returns-7 c p tracks =
+    let room = c .before in
+    let whole = room .before .before .before in
+    let checked = whole .before .before .before .before in
+    let looped = checked .before .before in
+    let placed = looped .before .before in
+    let kept = placed .before .before .before .before in
+    let closed = kept .before .before in
+    let framed = closed .before .before in
+    let a = entry placed .args in
+    goes-on tracks _ _ _ _ (section-bytes framed) (framed .is-framed .ensures) (not-false _ (closed .before .if1 .left)) (lent-tables framed)
+    (closed .is-closed .ensures) (not-false _ (kept .before .if2 .left)) (header-kept placed)
+    (placed .is-in-place .ensures) (not-false _ (looped .before .if3 .left)) (events-checked checked)
+    (not-false _ (whole .if4 .left))
+    (omega (
+      arith,
+      room .before .before .if5 .left,
+      ltb-false (a .event-limit - checked .check-events .result .events) (a .state .count) (room .if6 .left),
+    ))
+
+pub check-section-spec : {M : Type 1} → statement M
+check-section-spec =
+    tie.close
+    (tie.spec
+    is-framed-requires
+    returns
+    is-closed-requires
+    returns-2
+    check-header-requires
+    enum-known-shown
+    enum-told
+    returns-3
+    is-in-place-requires
+    returns-4
+    event-loop-requires
+    check-events-requires
+    same-length
+    returns-5
+    same-length-2
+    returns-6
+    add-t29
+    same-length-3
+    returns-7)

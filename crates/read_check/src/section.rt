@@ -1,0 +1,77 @@
+// One section behind those before it: 20, 21, 22, 23, 24, 26 (01, "When a call says no").
+use read_answer::ReadAnswer;
+use read_checks::frame;
+use read_checks::header;
+use read_checks::header::Kept;
+use read_checks::place;
+ghost use mathlib.Core.Path.{_≡_};
+ghost use Prim.Native.Nat.{_+_};
+ghost use lib.ListN.{length};
+ghost use Rattle.eit.specs.Sizes.{sized};
+ghost use Rattle.codec_crc.specs.CrcTables.{crcTables};
+ghost use Rattle.sections.specs.Walk.{Progress, step};
+ghost use Rattle.read_check.specs.Tracks.{Tracks, Said};
+
+// What is known before a section: the header before it, the least start of the next event, and the events so far.
+pub struct WalkState {
+    pub before: Kept,
+    pub least: u32,
+    pub count: usize,
+}
+
+pub enum SectionVerdict {
+    // What is known behind the section.
+    Passed(WalkState),
+    Refused(ReadAnswer),
+}
+
+// The checks of the section at `offset`, in their order. The ids of its events are added to the set.
+pub fn check_section(
+    section: &[u8],
+    offset: usize,
+    state: WalkState,
+    base_day: u32,
+    section_size: usize,
+    event_limit: usize,
+    crc_tables: &[u32; 2048],
+    seen: &mut [u64],
+) -> SectionVerdict
+    requires { ⌜ now «crc_tables» ≡ crcTables ⌝ }
+    ensures { λ r. ⌜
+        ((p : Progress) → Tracks offset state (now (seen .entry)) p
+        → Said (offset + length (now (section .entry))) r (now (seen .exit))
+        (step (sized «section_size» «event_limit») «base_day» p (now (section .entry)))) ⌝ }
+{
+    if !frame::is_framed(section, section_size) {
+        return SectionVerdict::Refused(ReadAnswer::Frame(offset));
+    }
+    if !frame::is_closed(crc_tables, section) {
+        return SectionVerdict::Refused(ReadAnswer::Crc(offset));
+    }
+    let before = state.before;
+    let Kept::Header(shown) = header::check_header(before, section) else {
+        return SectionVerdict::Refused(ReadAnswer::Header(offset));
+    };
+    if !place::is_in_place(before, shown) {
+        return SectionVerdict::Refused(ReadAnswer::Numbering(offset));
+    }
+    let checked = read_events::check_events(
+        read_walk::event_loop(section),
+        shown,
+        base_day,
+        state.least,
+        seen,
+    );
+    if !checked.is_whole {
+        return SectionVerdict::Refused(ReadAnswer::EventLoop(offset));
+    }
+    let found = checked.events;
+    if event_limit < found || event_limit - found < state.count {
+        return SectionVerdict::Refused(ReadAnswer::EventLimit(offset));
+    }
+    SectionVerdict::Passed(WalkState {
+        before: Kept::Header(shown),
+        least: checked.least,
+        count: state.count + found,
+    })
+}

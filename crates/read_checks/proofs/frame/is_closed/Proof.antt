@@ -1,0 +1,16 @@
+-- `is_closed` meets its contract: the register after the section is tested as it is returned. Assumes nothing.
+use Prim.Native.Nat.{ℕ}
+use mathlib.Core.Path.{ap}
+use lib.Dec.{eqb}
+use borrow.Author.Needs.{needs}
+use Rattle.read_checks.proofs.frame.is_closed.Statement.{statement}
+use Rattle.read_checks.proofs.frame.is_closed.Tie as tie
+
+crc-by-requires : tie.Need-crc-by-requires
+crc-by-requires c κs = search needs
+
+returns : tie.Need-returns
+returns c = ap (λ (register : ℕ). eqb register 0) (c .crc-by .ensures)
+
+pub is-closed-spec : {M : Type 1} → statement M
+is-closed-spec = tie.close (tie.spec crc-by-requires returns)

@@ -1,0 +1,111 @@
+-- `check_header` meets its contract: each test that fails decides, and behind them all the header is what was read.
+-- Assumes nothing.
+use mathlib.Core.Bool.{true}
+use mathlib.Core.Logic.{⊎-elim}
+use mathlib.Core.Path.{_≡_, sym, ap, _∙_}
+use denote.Ref.{now}
+use borrow.Author.Needs.{needs}
+use borrow.Author.Tests.{not-true, not-false}
+use Rattle.sections.specs.Decode.{headerIn}
+use Rattle.sections.specs.JudgeHeader.{isTable, hasFixedBits}
+use Rattle.codec_section.specs.HeaderRead.{heldHeader, headerTold}
+use Rattle.codec_section.proofs.HeaderLaws.{header-only, short-only}
+use Rattle.read_checks.specs.Kept.{keptHeader}
+use Rattle.read_checks.proofs.HeaderCheckLaws.{header-short, header-unfixed, header-no-table, header-other, header-kept}
+use Rattle.read_checks.proofs.header.check_header.Statement.{statement}
+use Rattle.read_checks.proofs.header.check_header.Tie as tie
+
+read-header-requires : tie.Need-read-header-requires
+read-header-requires c κs = search needs
+
+enum-known-shown : tie.Need-enum-known-shown
+enum-known-shown c = search needs
+
+enum-told : tie.Need-enum-told
+enum-told c = search needs
+
+returns : tie.Need-returns
+returns c =
+    let read = c .before .before in
+    let a = read .before .before .args in
+    let bs = now (a .section) in
+    sym
+    (header-short (keptHeader (a .before)) bs
+    (short-only bs (ap headerTold (sym (c .enum-told .given .1)) ∙ read .read-header .ensures)))
+
+has-fixed-bits-requires : tie.Need-has-fixed-bits-requires
+has-fixed-bits-requires c κs = search needs
+
+cast-is-table : tie.Need-cast-is-table
+cast-is-table c = search needs
+
+is-table-requires : tie.Need-is-table-requires
+is-table-requires c κs = search needs
+
+-- the header that was read is the one that the bytes show
+shown-is : (c : tie.After-shown)
+    → heldHeader (c .shown .given .0 .0) ≡ headerIn (now (c .before .before .before .before .args .section))
+shown-is c =
+    let read = c .before .before in
+    header-only (now (read .before .before .args .section))
+    (ap headerTold (sym (c .shown .given .1)) ∙ read .read-header .ensures) .1
+
+returns-2 : tie.Need-returns-2
+returns-2 c =
+    let shown = c .before .before .before in
+    let a = shown .before .before .before .before .args in
+    let bs = now (a .section) in
+    let bits = sym (c .before .has-fixed-bits .ensures) in
+    sym
+    (⊎-elim
+    (λ w. header-unfixed (keptHeader (a .before)) bs (bits ∙ not-true _ (w .taken)))
+    (λ w.
+    header-no-table (keptHeader (a .before)) bs (bits ∙ not-false _ (w .0 .left)) (shown-is shown)
+    (sym (w .2 .ensures) ∙ not-true _ (w .3 .taken)))
+    (c .if1 .came))
+
+is-same-file-requires : tie.Need-is-same-file-requires
+is-same-file-requires c κs = search needs
+
+-- behind both tests
+fixed-is : (c : tie.Else1)
+    → hasFixedBits (now (c .before .before .before .before .before .before .before .args .section)) ≡ true
+fixed-is c = sym (c .before .has-fixed-bits .ensures) ∙ not-false _ (c .if1 .left)
+
+table-is : (c : tie.Else2)
+    → isTable (c .before .before .before .before .before .before .shown .given .0 .0 .«last_table_id») ≡ true
+table-is c = sym (c .before .is-table .ensures) ∙ not-false _ (c .if2 .left)
+
+returns-3 : tie.Need-returns-3
+returns-3 c =
+    let tabled = c .before .before in
+    let fixed = tabled .before .before .before in
+    let shown = fixed .before .before .before in
+    let a = shown .before .before .before .before .args in
+    let other = sym (c .before .is-same-file .ensures) ∙ not-true _ (c .if3 .taken) in
+    sym (header-other (keptHeader (a .before)) (now (a .section)) (fixed-is fixed) (shown-is shown) (table-is tabled) other)
+
+returns-4 : tie.Need-returns-4
+returns-4 c =
+    let tabled = c .before .before in
+    let fixed = tabled .before .before .before in
+    let shown = fixed .before .before .before in
+    let a = shown .before .before .before .before .args in
+    let same = sym (c .before .is-same-file .ensures) ∙ not-false _ (c .if3 .left) in
+    sym (header-kept (keptHeader (a .before)) (now (a .section)) (fixed-is fixed) (shown-is shown) (table-is tabled) same)
+
+pub check-header-spec : {M : Type 1} → statement M
+check-header-spec =
+    tie.close
+    (tie.spec
+    read-header-requires
+    enum-known-shown
+    enum-told
+    returns
+    has-fixed-bits-requires
+    cast-is-table
+    is-table-requires
+    returns-2
+    is-same-file-requires
+    returns-3
+    returns-4)

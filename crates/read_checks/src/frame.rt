@@ -1,0 +1,41 @@
+// A section's frame and its CRC_32 (01, "The file of sections").
+use codec::fields;
+use codec_crc::CRC_FIRST;
+use eit::sizes::SECTION_OVERHEAD;
+ghost use mathlib.Core.Path.{_≡_};
+ghost use Rattle.eit.specs.Sizes.{sectionsUpTo};
+ghost use Rattle.sections.specs.JudgeHeader.{isTable, isFramed};
+ghost use Rattle.read_checks.specs.Closed.{isClosedBy};
+
+// table_id, 0x50 to 0x5F.
+pub const TABLE_LEAST: u32 = 0x50;
+
+const TABLE_MOST: u32 = 0x5F;
+
+// Whether a number is a table_id of an EIT schedule of this work.
+pub fn is_table(table_id: u32) -> bool
+    ensures { λ r. ⌜ r ≡ isTable «table_id» ⌝ }
+{
+    TABLE_LEAST <= table_id && table_id <= TABLE_MOST
+}
+
+// 20: the section is not cut, and its table_id and its length are in range.
+pub fn is_framed(section: &[u8], section_size: usize) -> bool
+    ensures { λ r. ⌜ r ≡ isFramed (sectionsUpTo «section_size») (now (section .entry)) ⌝ }
+{
+    let size = section.len();
+    if size != read_walk::stated_size(section) {
+        return false;
+    }
+    if size < SECTION_OVERHEAD || section_size < size {
+        return false;
+    }
+    is_table(fields::read_field(section, 0, 1))
+}
+
+// 21: over the whole section CRC_32 leaves 0, by the lent tables.
+pub fn is_closed(crc_tables: &[u32; 2048], section: &[u8]) -> bool
+    ensures { λ r. ⌜ r ≡ isClosedBy (now («crc_tables» .entry)) (now (section .entry)) ⌝ }
+{
+    codec_crc::crc_by(crc_tables, CRC_FIRST, section) == 0
+}

@@ -1,0 +1,66 @@
+// A section's header beside the one before it: fixed bits, identity, last_table_id (01, "The file of sections").
+use crate::frame;
+use codec::fields;
+use codec_section::header;
+use codec_section::header::HeaderRead;
+use codec_section::header::SectionHeader;
+use eit::Identity;
+ghost use mathlib.Core.Path.{_≡_};
+ghost use Prim.Native.Nat.{ℕ};
+ghost use Rattle.codec_section.specs.HeaderRead.{heldHeader};
+ghost use Rattle.sections.specs.JudgeHeader.{hasFixedBits, isIdentity, isSameFile};
+ghost use Rattle.read_checks.specs.Kept.{keptHeader, checkedHeader};
+
+// The header of the section before, or of a section that passes.
+pub enum Kept {
+    Header(SectionHeader),
+    // No section stands before the first one; a section that is refused has none to keep.
+    Nothing,
+}
+
+// Bits 1111 before section_length; bits 11 before the version, and current_next 1 behind it.
+fn has_fixed_bits(section: &[u8]) -> bool
+    ensures { λ r. ⌜ r ≡ hasFixedBits (now (section .entry)) ⌝ }
+{
+    let version = fields::read_field(section, 5, 1);
+    fields::read_field(section, 1, 2) / 0x1000 == 0xF && version / 64 == 3 && version % 2 == 1
+}
+
+// Whether a section shows the identity of the file.
+fn is_identity(shown: Identity, identity: Identity) -> bool
+    ensures { λ r. ⌜ ((table : ℕ) → r ≡ isIdentity table identity shown) ⌝ }
+{
+    shown.service_id == identity.service_id
+        && shown.transport_stream_id == identity.transport_stream_id
+        && shown.original_network_id == identity.original_network_id
+        && shown.version == identity.version
+}
+
+// Identity and last_table_id are those of the section before.
+fn is_same_file(before: Kept, header: SectionHeader) -> bool
+    ensures { λ r. ⌜ r ≡ isSameFile (keptHeader before) (heldHeader header) ⌝ }
+{
+    match before {
+        Kept::Nothing => true,
+        Kept::Header(last) => {
+            is_identity(header.identity, last.identity)
+                && header.last_table_id == last.last_table_id
+        }
+    }
+}
+
+// 22: the header of a section whose fixed bits, identity and last_table_id pass.
+pub fn check_header(before: Kept, section: &[u8]) -> Kept
+    ensures { λ r. ⌜ keptHeader r ≡ checkedHeader (keptHeader before) (now (section .entry)) ⌝ }
+{
+    let HeaderRead::Header(shown) = header::read_header(section) else {
+        return Kept::Nothing;
+    };
+    if !has_fixed_bits(section) || !frame::is_table(shown.last_table_id as u32) {
+        return Kept::Nothing;
+    }
+    if !is_same_file(before, shown) {
+        return Kept::Nothing;
+    }
+    Kept::Header(shown)
+}

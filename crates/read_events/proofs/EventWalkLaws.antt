@@ -1,0 +1,82 @@
+-- An event that is read whole is the next piece of its event loop, and its chain length leads to the piece behind it: its bytes
+-- are as many as they state. Assumes nothing.
+use mathlib.Core.Path.{_≡_, sym, ap, subst, _∙_}
+use mathlib.Core.Logic.{⊎-elim}
+use mathlib.Core.Bool.{Bool, _&&_, _||_}
+use mathlib.Core.List.{List, _∷_}
+use Prim.Native.Nat.{ℕ, _+_, _/_, _≤_, _<_}
+use native.Mathlib.Omega.{arith}
+use lib.Dec.{T, eqb, leb, eqb→eq, ltb→lt}
+use lib.ListN.{length, take, drop, length-take, length-drop}
+use lib.Seq.{take-all, length-take-le}
+use Rattle.eit.specs.Limits.{startLimit, startHoursMost}
+use Rattle.eit.specs.Fields.{bytesAt, valueOf}
+use Rattle.eit.specs.Time.{isTime, isStartBytes, isDurationBytes, startOf}
+use Rattle.eit.specs.Chain.{isChain}
+use Rattle.eit.specs.declared.Record.{Record}
+use Rattle.eit.proofs.Test.{and-left, and-right, le-or-lt}
+use Rattle.sections.specs.Section.{eventOverhead}
+use Rattle.sections.specs.Decode.{statusField, statedEventSize, eventIn}
+use Rattle.sections.specs.Cut.{cut}
+use Rattle.sections.specs.Places.{recordAt}
+use Rattle.sections.proofs.Cut.{cut-next}
+use Rattle.codec_section.specs.EventRead.{isWholeEvent, frontEvent, eventRead}
+use Rattle.codec_section.specs.declared.event.EventRead.the-variants.{Whole}
+use Rattle.codec_section.proofs.EventReadLaws.{whole-only}
+
+-- the first two tests of a whole event
+module _ (base : ℕ) (bs : List ℕ) (whole : T (isWholeEvent base bs)) where
+  -- what is tested behind the length
+  abbrev rest-tests : Bool
+  rest-tests =
+      isStartBytes base (bytesAt 2 5 bs)
+      && (isDurationBytes (bytesAt 7 3 bs)
+      && ((eqb (statusField bs / 0x2000) 0 || eqb (statusField bs / 0x2000) 5) && isChain (drop eventOverhead bs)))
+
+  whole-stated : length bs ≡ statedEventSize bs
+  unfolding isWholeEvent
+  whole-stated = eqb→eq (length bs) (statedEventSize bs) (and-left (eqb (length bs) (statedEventSize bs)) rest-tests whole)
+
+  whole-soon : startOf base (bytesAt 2 5 bs) < startLimit
+  unfolding isWholeEvent
+  whole-soon =
+      let starts : T (isStartBytes base (bytesAt 2 5 bs)) =
+      and-left (isStartBytes base (bytesAt 2 5 bs)) _ (and-right (eqb (length bs) (statedEventSize bs)) _ whole) in
+      ltb→lt _ startLimit
+      (and-right (leb base (valueOf (take 2 (bytesAt 2 5 bs)))) _ (and-right (isTime startHoursMost (drop 2 (bytesAt 2 5 bs))) _ starts))
+
+module _ (base : ℕ) (bs : List ℕ) {r : Record} (read : eventRead base bs ≡ Whole r) where
+  holds : T (isWholeEvent base (frontEvent bs))
+  holds = rw (whole-only base bs read .0) tt
+
+  pub whole-record : r ≡ recordAt 0 (eventIn base (frontEvent bs))
+  whole-record = whole-only base bs read .1
+
+  -- all its bytes are there
+  front-size : length (frontEvent bs) ≡ statedEventSize bs
+  front-size =
+      ⊎-elim
+      (λ (enough : statedEventSize bs ≤ length bs). length-take-le (statedEventSize bs) bs enough)
+      (λ (cut-short : length bs < statedEventSize bs).
+      let all : frontEvent bs ≡ bs = take-all (statedEventSize bs) bs (omega arith) in
+      let states : length bs ≡ statedEventSize bs =
+      subst (λ (xs : List ℕ). length xs ≡ statedEventSize xs) all (whole-stated base (frontEvent bs) holds) in
+      ap length all ∙ states)
+      (le-or-lt (statedEventSize bs) (length bs))
+
+  chain-size : eventOverhead + r .«chain_length» ≡ statedEventSize bs
+  chain-size =
+      let chain : r .«chain_length» ≡ length (drop eventOverhead (frontEvent bs)) = ap (λ (r : Record). r .«chain_length») whole-record in
+      omega (arith, chain, length-drop eventOverhead (frontEvent bs), front-size)
+
+  pub whole-inside : eventOverhead + r .«chain_length» ≤ length bs
+  whole-inside = omega (arith, chain-size, front-size, length-take (statedEventSize bs) bs)
+
+  pub whole-start : r .start < startLimit
+  whole-start = let is : r .start ≡ startOf base (bytesAt 2 5 (frontEvent bs)) = ap (λ (r : Record). r .start) whole-record in
+      rw is (whole-soon base (frontEvent bs) holds)
+
+  pub whole-next : cut statedEventSize bs ≡ frontEvent bs ∷ cut statedEventSize (drop (eventOverhead + r .«chain_length») bs)
+  whole-next =
+      cut-next statedEventSize bs (omega (arith, whole-inside)) (omega arith)
+      ∙ ap (λ (n : ℕ). frontEvent bs ∷ cut statedEventSize (drop n bs)) (sym chain-size)

@@ -1,0 +1,96 @@
+// A section's event loop: each event, and each beside all that came before (01, "The file of sections").
+use codec::seen;
+use codec_section::event;
+use codec_section::event::EventRead;
+use codec_section::header::SectionHeader;
+use eit::Record;
+use eit::sizes::EVENT_OVERHEAD;
+use eit::sizes::SEGMENT_SECONDS;
+use read_checks::frame::TABLE_LEAST;
+use read_checks::place;
+ghost use mathlib.Core.Path.{_≡_};
+ghost use mathlib.Core.Bool.{_&&_, not};
+ghost use mathlib.Core.List.{[]};
+ghost use lib.Dec.{leb};
+ghost use Rattle.sections.specs.Decode.{statedEventSize};
+ghost use Rattle.sections.specs.Cut.{cut};
+ghost use Rattle.sections.specs.JudgeEvents.{isInSegment, isFilledOrAlone};
+ghost use Rattle.codec.specs.Seen.{isSeen};
+ghost use Rattle.codec_section.specs.HeaderRead.{heldHeader};
+ghost use Rattle.read_events.specs.EventPass.{checkedEvents, passOf};
+
+// What the check of an event loop has found.
+pub struct EventCheck {
+    pub is_whole: bool,
+    // Events that passed.
+    pub events: usize,
+    // The least start that the next event may have.
+    pub least: u32,
+}
+
+// An event starts in its section's segment.
+fn is_in_segment(header: SectionHeader, start: u32) -> bool
+    ensures { λ r. ⌜ r ≡ isInSegment (heldHeader header) start ⌝ }
+{
+    let index = start / SEGMENT_SECONDS;
+    TABLE_LEAST + index / 32 == header.table_id as u32
+        && 8 * (index % 32) == place::first_of(header.section_number)
+}
+
+// A section without events is alone in its segment: S = G = s0.
+fn is_alone(header: SectionHeader) -> bool
+    ensures { λ r. ⌜ r ≡ isFilledOrAlone (heldHeader header) [] ⌝ }
+{
+    let first = place::first_of(header.section_number);
+    header.section_number as u32 == first && header.segment_last_section_number as u32 == first
+}
+
+// An event that does not start before `least`, and whose id is not in the set.
+fn is_new(event: Record, least: u32, seen: &[u64]) -> bool
+    ensures { λ r. ⌜ r ≡ (leb least (event .start) && not (isSeen (now (seen .entry)) (event .id))) ⌝ }
+{
+    least <= event.start && !seen::is_seen(seen, event.id)
+}
+
+// 24: every event of the loop passes, and follows those before, whose ids are in the set and which start before `least`. The ids
+// of the events that passed are added to the set.
+pub fn check_events(
+    events: &[u8],
+    header: SectionHeader,
+    base_day: u32,
+    least: u32,
+    seen: &mut [u64],
+) -> EventCheck
+    ensures { λ r. ⌜
+        passOf r (now (seen .exit))
+        ≡ checkedEvents «base_day» (heldHeader header) least (now (seen .entry)) (cut statedEventSize (now (events .entry))) ⌝ }
+{
+    let mut n = 0;
+    let mut next = least;
+    let mut at = 0;
+    while at < events.len() {
+        let EventRead::Whole(event) = event::read_event(&events[at..], base_day) else {
+            return EventCheck {
+                is_whole: false,
+                events: n,
+                least: next,
+            };
+        };
+        if !is_in_segment(header, event.start) || !is_new(event, next, seen) {
+            return EventCheck {
+                is_whole: false,
+                events: n,
+                least: next,
+            };
+        }
+        seen::add_seen(seen, event.id);
+        next = event.start + 1;
+        n += 1;
+        at += EVENT_OVERHEAD + event.chain_length as usize;
+    }
+    EventCheck {
+        is_whole: 0 < n || is_alone(header),
+        events: n,
+        least: next,
+    }
+}

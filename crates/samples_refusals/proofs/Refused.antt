@@ -1,0 +1,90 @@
+-- The refusals, computed. Assumes nothing.
+use mathlib.Core.Path.{refl}
+use Rattle.eit.specs.Crc.{crc32}
+use Rattle.eit.specs.Chain.{isChain}
+use Rattle.eit.specs.Events.{follows}
+use Rattle.sections.specs.Encode.{versionOf}
+use Rattle.sections.specs.JudgeHeader.{isFramed, isClosed, isHeader, isInPlace}
+use Rattle.sections.specs.JudgeEvents.{isEvent, isEventLoop, isWithinLimit}
+use Rattle.sections.specs.Read.{read}
+use Rattle.samples_refusals.specs.Refusals.{Refusals}
+use Rattle.samples_refusals.specs.EventRefusals.{EventRefusals}
+
+pub refusals : Refusals
+unfolding read versionOf isFramed isClosed isHeader isInPlace isEvent isEventLoop isWithinLimit crc32 isChain follows
+refusals =
+    record {
+      base = refl;
+      base-most = refl;
+      one-byte = refl;
+      cut = refl;
+      byte-behind = refl;
+      table-below = refl;
+      table-above = refl;
+      too-short = refl;
+      too-long = refl;
+      just-fits = refl;
+      crc = refl;
+      bits-kept = refl;
+      high-bits = refl;
+      syntax-bit = refl;
+      reserved-bits = refl;
+      identity-kept = refl;
+      service = refl;
+      version = refl;
+      stream = refl;
+      network = refl;
+      last-table-below = refl;
+      last-table-above = refl;
+      last-table-other = refl;
+      first-table = refl;
+      first-number = refl;
+      above-segment-last = refl;
+      above-last = refl;
+      segment-of-nine = refl;
+      last-in-segment = refl;
+      skipped-number = refl;
+      other-segment-last = refl;
+      other-last = refl;
+      no-gap = refl;
+      other-last-behind = refl;
+      table-again = refl;
+      skipped-table = refl;
+      table-number = refl;
+      past-last-table = refl;
+    }
+
+pub event-refusals : EventRefusals
+unfolding read versionOf isFramed isClosed isHeader isInPlace isEvent isEventLoop isWithinLimit crc32 isChain follows
+event-refusals =
+    record {
+      event-kept = refl;
+      other-table = refl;
+      before-base = refl;
+      hour-24 = refl;
+      no-digit = refl;
+      no-duration = refl;
+      duration-most = refl;
+      minute-60 = refl;
+      off-air = refl;
+      free = refl;
+      running = refl;
+      chain = refl;
+      no-chain = refl;
+      chain-past-end = refl;
+      byte-left = refl;
+      empty-not-alone = refl;
+      empty-second = refl;
+      same-start = refl;
+      earlier-start = refl;
+      same-id = refl;
+      limit-held = refl;
+      above-limit-early = refl;
+      above-limit-next = refl;
+      empty-file = refl;
+      segment-early = refl;
+      table-early = refl;
+      last-table-early = refl;
+      early-and-short = refl;
+      refused-leaves = refl;
+    }

@@ -1,0 +1,130 @@
+// What the calls say of a list.
+use crate::lines;
+use eit::Identity;
+ghost use mathlib.Core.Path.{_≡_};
+ghost use Prim.Native.Nat.{_≤_};
+ghost use lib.ListN.{length};
+
+// 1993-10-13.
+const BASE_DAY: u32 = 49_273;
+
+// Numbers of a list's buffer, and bytes of a file, at most.
+const LIST_SIZE: usize = 12_288;
+
+const FILE_SIZE: usize = 65_536;
+
+// Service, stream and network 1, 2 and 3.
+fn identity() -> Identity {
+    Identity {
+        service_id: 1,
+        transport_stream_id: 2,
+        original_network_id: 3,
+        version: 0,
+    }
+}
+
+// The number and the value of an answer.
+struct Said {
+    number: u32,
+    value: usize,
+}
+
+// Build, into a lent file. Where it succeeds, the value is a length within the file.
+fn build_list<'a>(
+    list: &[u32],
+    count: usize,
+    day: &'a [u8],
+    series: &'a [u8],
+    identity: Identity,
+    file: &mut [u8],
+) -> Said
+    ensures { λ r. ⌜ (r .number ≡ 0 → r .value ≤ length (now (file .exit))) ⌝ }
+{
+    let built = build::build(list, count, day, series, BASE_DAY, identity, file);
+    Said {
+        number: build_answer::number_of(built),
+        value: build_answer::value_of(built),
+    }
+}
+
+// Build of what Read returned, with the file as day pool.
+fn show_again(records: &[u32], count: usize, identity: Identity, file: &[u8]) {
+    let mut again = [0u8; FILE_SIZE];
+    let built = build_list(records, count, file, b"", identity, &mut again);
+    let size = built.value;
+    if built.number == 0 && check::same(&again[..size], file) {
+        lines::print(b"built again: the same file\n");
+    } else {
+        lines::print(b"built again: another file\n");
+    }
+}
+
+// A file: its cuts, check, Read, and Build of what Read returned.
+fn show_file(file: &[u8]) {
+    lines::print_cuts(file);
+    let checked = read_check::check(file, BASE_DAY);
+    let verdict = checked.answer;
+    lines::print_answer(
+        b"check",
+        read_answer::number_of(verdict),
+        read_answer::value_of(verdict),
+    );
+    let mut records = [0u32; LIST_SIZE];
+    let reading = read::read(file, BASE_DAY, &mut records);
+    let said = reading.answer;
+    let identity = reading.identity;
+    lines::print_answer(
+        b"read",
+        read_answer::number_of(said),
+        read_answer::value_of(said),
+    );
+    show_again(&records, read_answer::count_of(said), identity, file);
+}
+
+// Plan's counts.
+fn show_plan<'a>(list: &[u32], count: usize, day: &'a [u8], series: &'a [u8]) {
+    let tables = build::plan(list, count, day, series);
+    let mut i = 0;
+    while i < 16 {
+        let counts = tables[i];
+        lines::print_counts(0x50 + i, &counts);
+        i += 1;
+    }
+}
+
+// A list: Build, Plan, and the file.
+fn show_list<'a>(list: &[u32], count: usize, day: &'a [u8], series: &'a [u8]) {
+    let mut file = [0u8; FILE_SIZE];
+    let built = build_list(list, count, day, series, identity(), &mut file);
+    let size = built.value;
+    lines::print_answer(b"build", built.number, size);
+    show_plan(list, count, day, series);
+    if built.number == 0 {
+        show_file(&file[..size]);
+    }
+}
+
+// A script on an empty list.
+pub fn show_script<'a>(script: &[u8], day: &'a [u8], series: &'a [u8]) {
+    let mut list = [0u32; LIST_SIZE];
+    let edited = edit::edit(&mut list, 0, day, series, script);
+    let said = edited.answer;
+    let count = edited.count;
+    let number = edit_answer::number_of(said);
+    lines::print_answer(b"edit", number, edit_answer::value_of(said, count));
+    if number == 0 {
+        show_list(&list, count, day, series);
+    }
+}
+
+// Bytes of the file that a script without descriptors gives, where it has them.
+pub fn show_bytes(script: &[u8], from: usize, to: usize) {
+    let mut list = [0u32; LIST_SIZE];
+    let edited = edit::edit(&mut list, 0, b"", b"", script);
+    let mut file = [0u8; FILE_SIZE];
+    build_list(&list, edited.count, b"", b"", identity(), &mut file);
+    if from <= to && to <= FILE_SIZE {
+        lines::print(b"bytes");
+        lines::print_bytes(&file[from..to]);
+    }
+}

@@ -1,8 +1,0 @@
--- The examples of specs/Examples.antt hold: each is computed. Assumes nothing.
-use mathlib.Core.Path.{refl}
-use Rattle.script_scan.specs.Commands.{commandsAt, offsetBehind}
-use Rattle.script_scan.specs.Examples.{Examples}
-
-pub examples : Examples
-unfolding commandsAt offsetBehind
-examples = record { from-start = refl; from-undo = refl; behind-two = refl }
