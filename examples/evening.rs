@@ -4,7 +4,7 @@
 
 // A part of it is needed here.
 #[allow(dead_code)]
-#[path = "../bindings/rust/chirdaluko.rs"]
+#[path = "../bindings/rust/src/lib.rs"]
 mod chirdaluko;
 
 use chirdaluko::{Identity, Planned, Pools, Record, NUMBERS_MAX, RECORD, SEGMENTS};

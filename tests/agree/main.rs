@@ -5,7 +5,7 @@ mod breaking;
 mod build;
 mod chains;
 #[allow(dead_code)]
-#[path = "../../bindings/rust/chirdaluko.rs"]
+#[path = "../../bindings/rust/src/lib.rs"]
 mod chirdaluko;
 mod crcs;
 mod edits;

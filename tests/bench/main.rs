@@ -3,7 +3,7 @@
 
 mod builds;
 #[allow(dead_code)]
-#[path = "../../bindings/rust/chirdaluko.rs"]
+#[path = "../../bindings/rust/src/lib.rs"]
 mod chirdaluko;
 mod crcs;
 mod edits;

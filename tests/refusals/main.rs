@@ -3,7 +3,7 @@
 //! tests/manual compares them with the manual's table.
 
 #[allow(dead_code)]
-#[path = "../../bindings/rust/chirdaluko.rs"]
+#[path = "../../bindings/rust/src/lib.rs"]
 mod chirdaluko;
 
 mod builds;

@@ -2,7 +2,7 @@
 
 // Plan and CRC_32 have no answer that could be unknown, and are not there.
 #[allow(dead_code)]
-#[path = "../../bindings/rust/chirdaluko.rs"]
+#[path = "../../bindings/rust/src/lib.rs"]
 mod chirdaluko;
 
 use chirdaluko::{build, check, edit, read, BuildRefusal, EditRefusal, Identity, Planned, Pools, ReadRefusal, Reading};

@@ -2,7 +2,7 @@
 //! them: each block under the line that names it, and details and tables once calls have shown them. tests/manual compares them.
 
 #[allow(dead_code)]
-#[path = "../../bindings/rust/chirdaluko.rs"]
+#[path = "../../bindings/rust/src/lib.rs"]
 mod chirdaluko;
 
 mod details;

@@ -1,12 +1,14 @@
-//! Chirdaluko from Rust: safe functions on slices over the library's C face (include/chirdaluko.h), with an enum for the answers of
-//! each call. One file, Rust 2021, standard library only; it allocates nothing. Make it a module, and link the static library:
-//! README.md, "How to link", has the commands, and docs/MANUAL.md shows every call at work.
+//! Chirdaluko from Rust: safe functions on slices over the library's C face (include/chirdaluko.h), with an enum for the
+//! answers of each call. Standard library only; it allocates nothing. It is a package that links the static library by
+//! itself (build.rs), and this file alone can be a module: README.md, "How to link", has the commands, and docs/MANUAL.md
+//! shows every call at work.
 //!
-//! What each call returns and leaves is proved. Slices keep all that the C face asks of its caller: pointers that are not null,
-//! lengths that are true, and written buffers that overlap nothing else. Any value of any argument is taken.
+//! What each call returns and leaves is proved. Slices keep all that the C face asks of its caller: pointers that are not
+//! null, lengths that are true, and written buffers that overlap nothing else. Any value of any argument is taken.
 //!
-//! An answer that is none of a call's, an unknown number or a value that its number does not come with, panics: the library is
-//! proved to return no such answer, so it is then of another version than this file, and no caller could go on from there.
+//! An answer that is none of a call's, an unknown number or a value that its number does not come with, panics: the
+//! library is proved to return no such answer, so it is then of another version than this file, and no caller could go on
+//! from there.
 //!
 //! ```
 //! use chirdaluko::{build, check, edit, read, BuildRefusal, Identity, Pools, Record};
@@ -420,7 +422,7 @@ fn reading(call: &str, said: EitReading) -> Result<Reading, ReadRefusal> {
 }
 
 fn unknown(call: &str, number: u32, value: usize) -> ! {
-    panic!("chirdaluko.rs does not know the answer {number} {value} of {call}: the library is of another version")
+    panic!("the Rust wrapper does not know the answer {number} {value} of {call}: the library is of another version")
 }
 
 impl Display for EditRefusal {
