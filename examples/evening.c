@@ -73,13 +73,13 @@ static void write_script(Bytes *script, Bytes *day, Bytes *series) {
     append(script, EIT_UNDO, 1);
 }
 
-/* Says what a call answered, and whether it went well. */
+/* Says what a call answered, and whether it went well. What the value of a refusal means stands at each call. */
 static int succeeded(const char *call, uint32_t number, size_t value) {
     if (number == EIT_SUCCESS) {
         printf("%s %zu\n", call, value);
         return 1;
     }
-    printf("%s refused %u %zu\n", call, (unsigned)number, value);
+    printf("%s refused: %s (%u, %zu)\n", call, eit_cause(number), (unsigned)number, value);
     return 0;
 }
 
@@ -111,7 +111,7 @@ static void print_cuts(const uint8_t *file, size_t file_length, const uint32_t *
 static size_t sections(const uint8_t *plan) {
     size_t sum = 0;
     for (size_t index = 0; index < EIT_SEGMENTS; index++) {
-        if (plan[index] <= EIT_SEGMENT_SECTIONS) {
+        if (plan[index] <= EIT_SEGMENT_SECTIONS_MAX) {
             sum = sum + plan[index];
         }
     }

@@ -5,21 +5,26 @@
 #include <string.h>
 
 /* The names stand for document 01's numbers. */
-_Static_assert(EIT_SUCCESS == 0 && EIT_BASE_DAY == 1 && EIT_VERSION == 2 && EIT_BROKEN == 3 && EIT_NOTHING_TO_STRIKE == 4
-                   && EIT_OUT_OF_RANGE == 5 && EIT_WRONG_ID == 6 && EIT_START_TAKEN == 7 && EIT_LIST_FULL == 8 && EIT_NO_CHAIN == 9
-                   && EIT_UNPACKABLE == 10 && EIT_OUTPUT_SHORT == 11 && EIT_UNSOUND == 12,
+_Static_assert(EIT_SUCCESS == 0 && EIT_REFUSED_BASE_DAY == 1 && EIT_REFUSED_VERSION == 2
+                   && EIT_REFUSED_BROKEN_SCRIPT == 3 && EIT_REFUSED_NOTHING_TO_UNDO == 4 && EIT_REFUSED_OUT_OF_RANGE == 5
+                   && EIT_REFUSED_WRONG_ID == 6 && EIT_REFUSED_START_TAKEN == 7 && EIT_REFUSED_LIST_FULL == 8
+                   && EIT_REFUSED_NO_CHAIN == 9 && EIT_REFUSED_UNPACKABLE == 10 && EIT_REFUSED_OUTPUT_SHORT == 11
+                   && EIT_REFUSED_UNSOUND == 12,
                "refusals of Edit and Build");
-_Static_assert(EIT_FRAME == 20 && EIT_CRC == 21 && EIT_HEADER == 22 && EIT_NUMBERING == 23 && EIT_EVENT_LOOP == 24
-                   && EIT_EARLY_END == 25 && EIT_EVENT_LIMIT == 26 && EIT_RECORDS_SHORT == 27,
+_Static_assert(EIT_REFUSED_FRAME == 20 && EIT_REFUSED_CRC == 21 && EIT_REFUSED_HEADER == 22
+                   && EIT_REFUSED_NUMBERING == 23 && EIT_REFUSED_EVENT_LOOP == 24 && EIT_REFUSED_EARLY_END == 25
+                   && EIT_REFUSED_EVENT_LIMIT == 26 && EIT_REFUSED_RECORDS_SHORT == 27,
                "refusals of Read");
 _Static_assert(EIT_RECORD == 6 && EIT_EVENTS_MAX == 2048 && EIT_NUMBERS_MAX == 12288 && EIT_ID_MAX == 65535
-                   && EIT_START_LIMIT == 5529600 && EIT_DURATION_MAX == 359999 && EIT_BASE_DAY_MAX == 65472 && EIT_VERSION_MAX == 31,
+                   && EIT_WINDOW_SECONDS == 64 * 86400 && EIT_DURATION_MAX == 359999 && EIT_BASE_DAY_MAX == 65472
+                   && EIT_VERSION_MAX == 31,
                "limits of a list, a base day and a version");
-_Static_assert(EIT_SEGMENT_SECONDS == 10800 && EIT_TABLE_SEGMENTS == 32 && EIT_SEGMENTS == 16 * 32 && EIT_SEGMENT_SECTIONS == 8
-                   && EIT_SECTION_MAX == 3 + 4093 && EIT_CHAIN_MAX == 4078 - 12 && EIT_FILE_MAX == 16 * 256 * 4096,
+_Static_assert(EIT_SEGMENT_SECONDS == 10800 && EIT_TABLE_SEGMENTS == 32 && EIT_SEGMENTS == 16 * 32
+                   && EIT_SEGMENT_SECTIONS_MAX == 8 && EIT_SECTION_MAX == 3 + 4093 && EIT_CHAIN_MAX == 4078 - 12
+                   && EIT_FILE_MAX == 16 * 256 * 4096,
                "limits of a file");
-_Static_assert(EIT_FREE_CA == 1 && EIT_SERIES_POOL == 2 && EIT_OFF_AIR == 4 && EIT_PUT == 1 && EIT_WITHDRAW == 2 && EIT_MOVE == 3
-                   && EIT_UNDO == 4 && EIT_PLAN_UNSOUND == 254 && EIT_PLAN_UNPACKABLE == 255,
+_Static_assert(EIT_FREE_CA == 1 && EIT_SERIES_POOL == 2 && EIT_OFF_AIR == 4 && EIT_PUT == 1 && EIT_WITHDRAW == 2
+                   && EIT_MOVE == 3 && EIT_UNDO == 4 && EIT_PLAN_UNSOUND == 254 && EIT_PLAN_UNPACKABLE == 255,
                "marks, commands, counts of Plan");
 
 static int wrong = 0;

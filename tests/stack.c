@@ -22,7 +22,7 @@ static uint8_t plan[EIT_SEGMENTS];
 
 static void expect(const char *what, uint32_t number) {
     if (number != EIT_SUCCESS) {
-        fprintf(stderr, "stack: %s is refused with %u\n", what, (unsigned)number);
+        fprintf(stderr, "stack: %s is refused: %s\n", what, eit_cause(number));
         exit(1);
     }
 }

@@ -64,9 +64,9 @@ fn form(rows: &mut Rows) {
         assert_eq!(list, lent);
         rows.add(CALL, refusal.number(), COMMAND, ALL);
     };
-    at(&[0x05], EditRefusal::Broken { offset: BEFORE, count: 1 });
-    at(&[0x02, 0x00], EditRefusal::Broken { offset: BEFORE, count: 1 });
-    at(&[UNDO, UNDO], EditRefusal::NothingToStrike { offset: BEFORE + 1, count: 1 });
+    at(&[0x05], EditRefusal::BrokenScript { offset: BEFORE, count: 1 });
+    at(&[0x02, 0x00], EditRefusal::BrokenScript { offset: BEFORE, count: 1 });
+    at(&[UNDO, UNDO], EditRefusal::NothingToUndo { offset: BEFORE + 1, count: 1 });
 }
 
 /// A refused command between one that is carried out and one that is not.

@@ -40,13 +40,14 @@ fn command_offset() -> bool {
     wrong
         .iter()
         .all(|&record| edited(&[first.clone(), put(record)]).0 == Err(EditRefusal::OutOfRange { offset, count: 1 }))
-        && edited(&[first, vec![0x03, 0, 1, 0]]).0 == Err(EditRefusal::Broken { offset, count: 0 })
+        && edited(&[first, vec![0x03, 0, 1, 0]]).0 == Err(EditRefusal::BrokenScript { offset, count: 0 })
 }
 
 fn form_first() -> bool {
     let first = put(event(1, 0));
-    edited(&[first.clone(), vec![UNDO, UNDO, 0x05]]) == (Err(EditRefusal::Broken { offset: 20, count: 0 }), [7; 13])
-        && edited(&[first, vec![UNDO, UNDO]]) == (Err(EditRefusal::NothingToStrike { offset: 19, count: 0 }), [7; 13])
+    edited(&[first.clone(), vec![UNDO, UNDO, 0x05]])
+        == (Err(EditRefusal::BrokenScript { offset: 20, count: 0 }), [7; 13])
+        && edited(&[first, vec![UNDO, UNDO]]) == (Err(EditRefusal::NothingToUndo { offset: 19, count: 0 }), [7; 13])
 }
 
 fn put_order() -> bool {
