@@ -20,6 +20,12 @@
 #include <stddef.h>
 #include <stdint.h>
 
+/* The version of this face, by semantic versioning of its names, values and calls; the Rust wrapper has the same. */
+#define CHIRDALUKO_VERSION_MAJOR 2
+#define CHIRDALUKO_VERSION_MINOR 0
+#define CHIRDALUKO_VERSION_PATCH 0
+#define CHIRDALUKO_VERSION "2.0.0"
+
 #ifdef __cplusplus
 extern "C" {
 #endif

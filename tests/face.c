@@ -119,7 +119,17 @@ static void read_built(const char *what, uint32_t base_day, size_t file_length, 
     expect_reading("what check answers", checked, wanted.number == 27 ? (EitReading){0, 1, 1, 1, 0x203, 0xFFFE, 31} : wanted);
 }
 
+/* Prints the version that the header's three numbers are, once the header's string says the same. */
+static void print_version(void) {
+    char version[64];
+    snprintf(version, sizeof version, "%d.%d.%d", CHIRDALUKO_VERSION_MAJOR, CHIRDALUKO_VERSION_MINOR,
+             CHIRDALUKO_VERSION_PATCH);
+    expect("the version's string, compared with its numbers,", strcmp(version, CHIRDALUKO_VERSION) != 0, 0);
+    printf("version %s\n", version);
+}
+
 int main(void) {
+    print_version();
     static const uint8_t check[] = "123456789";
     expect("CRC_32", eit_crc32(check, 9), 0x0376E6E7);
 
