@@ -3,8 +3,8 @@
 use crate::chirdaluko::{build, check, crc32, plan, read, BuildRefusal, Pools, ReadRefusal, Record};
 use crate::details::Detail;
 use crate::edit_details::NO_POOLS;
-use crate::evening::{BASE_DAY, IDENTITY};
 use crate::inputs::{chain, event, numbers};
+use crate::schedule::{BASE_DAY, IDENTITY};
 use crate::sections::{self, section};
 
 pub const ALL: [Detail; 15] = [
