@@ -6,8 +6,9 @@
 
 /* The names stand for document 01's numbers. */
 _Static_assert(EIT_SUCCESS == 0 && EIT_REFUSED_BASE_DAY == 1 && EIT_REFUSED_VERSION == 2
-                   && EIT_REFUSED_BROKEN_SCRIPT == 3 && EIT_REFUSED_NOTHING_TO_UNDO == 4 && EIT_REFUSED_OUT_OF_RANGE == 5
-                   && EIT_REFUSED_WRONG_ID == 6 && EIT_REFUSED_START_TAKEN == 7 && EIT_REFUSED_LIST_FULL == 8
+                   && EIT_REFUSED_BROKEN_SCRIPT == 3 && EIT_REFUSED_NOTHING_TO_UNDO == 4
+                   && EIT_REFUSED_OUT_OF_RANGE == 5 && EIT_REFUSED_WRONG_ID == 6
+                   && EIT_REFUSED_START_TAKEN == 7 && EIT_REFUSED_LIST_FULL == 8
                    && EIT_REFUSED_NO_CHAIN == 9 && EIT_REFUSED_UNPACKABLE == 10 && EIT_REFUSED_OUTPUT_SHORT == 11
                    && EIT_REFUSED_UNSOUND == 12,
                "refusals of Edit and Build");
@@ -95,8 +96,10 @@ static void expect_reading(const char *what, EitReading got, EitReading wanted) 
     expect("its version", got.version, wanted.version);
 }
 
-/* Builds one event of four chain bytes, and reads the file of so many bytes back into so many numbers, behind which one stays. */
-static void read_built(const char *what, uint32_t base_day, size_t file_length, size_t records_length, EitReading wanted) {
+/* Builds one event of four chain bytes, and reads the file of so many bytes back into so many numbers, behind which one
+ * stays. */
+static void read_built(const char *what, uint32_t base_day, size_t file_length, size_t records_length,
+                       EitReading wanted) {
     static const uint32_t list[6] = {258, 9000, 3600, 5, 1, 4};
     static const uint8_t day[6] = {0xFF, 0x4D, 0x00, 0x54, 0x00, 0xFF};
     /* The chain stands behind the section's 14 bytes and the event's 12. */
@@ -115,8 +118,9 @@ static void read_built(const char *what, uint32_t base_day, size_t file_length, 
         expect("a number of the records", records[place], is_read ? read_back[place] : 0xA5A5A5A5);
     }
     /* Without a record buffer there is no 27. */
+    EitReading accepted = {0, 1, 1, 1, 0x203, 0xFFFE, 31};
     EitReading checked = eit_check(file, file_length, base_day);
-    expect_reading("what check answers", checked, wanted.number == 27 ? (EitReading){0, 1, 1, 1, 0x203, 0xFFFE, 31} : wanted);
+    expect_reading("what check answers", checked, wanted.number == 27 ? accepted : wanted);
 }
 
 /* Prints the version that the header's three numbers are, once the header's string says the same. */
@@ -158,6 +162,6 @@ int main(void) {
     read_built("the answer to a byte behind the file", 49273, 35, 7, (EitReading){.number = 20, .value = 34});
     read_built("the answer to another base day", 49274, 34, 7, (EitReading){.number = 24, .value = 0});
     read_built("the answer to no file", 49273, 0, 7, (EitReading){.number = 25, .value = 0});
-    read_built("the answer to a base day to be read above the most", 65473, 0, 0, (EitReading){.number = 1, .value = 0});
+    read_built("the answer to a base day of Read above the most", 65473, 0, 0, (EitReading){.number = 1, .value = 0});
     return wrong;
 }

@@ -1,4 +1,5 @@
-//! Links libchirdaluko.a, from the folder that CHIRDALUKO_LIB_DIR names, or from where `rt staticlib chirdaluko` puts it.
+//! Links libchirdaluko.a, from the folder that CHIRDALUKO_LIB_DIR names, or from where `rt staticlib chirdaluko` puts
+//! it.
 
 use std::env;
 use std::path::{Path, PathBuf};

@@ -1,5 +1,5 @@
-//! Compares the library, through its Rust wrapper and so through its C face, with the other implementation on seeded inputs. It
-//! first checks that faults show; with `--self-check` it does only that.
+//! Compares the library, through its Rust wrapper and so through its C face, with the other implementation on seeded
+//! inputs. It first checks that faults show; with `--self-check` it does only that.
 
 mod breaking;
 mod build;

@@ -78,7 +78,8 @@ fn list_full(rows: &mut Rows) {
     refused_in(rows, 2, &put(event(3, 300)), |offset, count| EditRefusal::ListFull { offset, count });
 }
 
-/// The same in a buffer with room for so many records and a number over. It holds one record, and behind it what is no zero.
+/// The same in a buffer with room for so many records and a number over. It holds one record, and behind it what is no
+/// zero.
 fn refused_in(rows: &mut Rows, room: usize, command: &[u8], case: impl Fn(usize, usize) -> EditRefusal) {
     let mut list = vec![77; 6 * room + 1];
     list[..6].copy_from_slice(&numbers(&[event(1, 100)]));

@@ -27,7 +27,8 @@ pub const ALL: [Detail; 12] = [
 
 pub const NO_POOLS: Pools = Pools { day: &[], series: &[] };
 
-/// What Edit says to this script on an empty list, and what it leaves of a buffer of two records and a number over, all 7.
+/// What Edit says to this script on an empty list, and what it leaves of a buffer of two records and a number over, all
+/// 7.
 fn edited(commands: &[Vec<u8>]) -> (Result<usize, EditRefusal>, [u32; 13]) {
     let mut list = [7; 13];
     (edit(&mut list, 0, NO_POOLS, &commands.concat()), list)

@@ -9,7 +9,11 @@ use crate::sections::{self, section};
 
 pub const ALL: [Detail; 15] = [
     ("A start of 10,799 stands in section 0, one of 10,800 in section 8: segments count from midnight UTC.", segments),
-    ("The fifth day is table 0x51, and its events have the date of the base day + 4: the date comes from the start.", date),
+    (
+        "The fifth day is table 0x51, and its events have the date of the base day + 4: \
+         the date comes from the start.",
+        date,
+    ),
     ("A table of sections 0, 8 and 16 has last_section_number 16, not 3.", last_number),
     ("A table without events before the last table is one section without events, number 0.", empty_table),
     ("340 events without descriptors in one segment are two sections, of 339 and of 1.", packing),
@@ -17,12 +21,23 @@ pub const ALL: [Detail; 15] = [
     ("10 comes before 11, however short the output is.", unpackable_first),
     ("Where one segment is 255, Plan still counts the others.", other_counts),
     ("Read returns as offset of an event without descriptors the place behind the event's 12 bytes.", empty_chain),
-    ("Read with another legal base day than Build's says 24 if the file has an event, and accepts it if it has none.", base_days),
+    (
+        "Read with another legal base day than Build's says 24 if the file has an event, \
+         and accepts it if it has none.",
+        base_days,
+    ),
     ("Read accepts segments cut early, empty segments behind the last event, and a later last_table_id.", not_asked),
     ("Read does not accept a file that leaves an empty segment out: 23 at the section behind the gap.", left_out),
-    ("A cut section is 20, and so is one byte behind the last section; a file that ends between two sections is 25.", ends),
+    (
+        "A cut section is 20, and so is one byte behind the last section; \
+         a file that ends between two sections is 25.",
+        ends,
+    ),
     ("A wrong fixed bit in a section whose CRC_32 is wrong, too, is 21.", crc_first),
-    ("Build of the records that Read returned, with the file as day pool, is the file again if Build made it.", built_again),
+    (
+        "Build of the records that Read returned, with the file as day pool, is the file again if Build made it.",
+        built_again,
+    ),
 ];
 
 /// Build's file of a list with these pools.

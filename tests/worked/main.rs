@@ -1,5 +1,6 @@
-//! The worked examples, the details and two tables of docs/MANUAL.md, made through the Rust wrapper and printed as the manual has
-//! them: each block under the line that names it, and details and tables once calls have shown them. tests/manual compares them.
+//! The worked examples, the details and two tables of docs/MANUAL.md, made through the Rust wrapper and printed as the
+//! manual has them: each block under the line that names it, and details and tables once calls have shown them.
+//! tests/manual compares them.
 
 #[allow(dead_code)]
 #[path = "../../bindings/rust/src/lib.rs"]

@@ -1,14 +1,14 @@
-//! Chirdaluko from Rust: safe functions on slices over the library's C face (include/chirdaluko.h), with an enum for the
-//! answers of each call. Standard library only; it allocates nothing. It is a package that links the static library by
-//! itself (build.rs), and this file alone can be a module: README.md, "How to link", has the commands, and docs/MANUAL.md
-//! shows every call at work.
+//! Chirdaluko from Rust: safe functions on slices over the library's C face (include/chirdaluko.h), with an enum for
+//! the answers of each call. Standard library only; it allocates nothing. It is a package that links the static library
+//! by itself (build.rs), and this file alone can be a module: README.md, "How to link", has the commands, and
+//! docs/MANUAL.md shows every call at work.
 //!
-//! What each call returns and leaves is proved. Slices keep all that the C face asks of its caller: pointers that are not
-//! null, lengths that are true, and written buffers that overlap nothing else. Any value of any argument is taken.
+//! What each call returns and leaves is proved. Slices keep all that the C face asks of its caller: pointers that are
+//! not null, lengths that are true, and written buffers that overlap nothing else. Any value of any argument is taken.
 //!
 //! An answer that is none of a call's, an unknown number or a value that its number does not come with, panics: the
-//! library is proved to return no such answer, so it is then of another version than this file, and no caller could go on
-//! from there.
+//! library is proved to return no such answer, so it is then of another version than this file, and no caller could go
+//! on from there.
 //!
 //! ```
 //! use chirdaluko::{build, check, edit, read, BuildRefusal, Identity, Pools, Record};
@@ -153,11 +153,11 @@ pub fn cause(number: u32) -> &'static str {
     }
 }
 
-/// Why Edit says no. `offset` is that of the refused command's byte in the script, `count` the records that the list has
-/// now.
+/// Why Edit says no. `offset` is that of the refused command's byte in the script, `count` the records that the list
+/// has now.
 ///
-/// `Unsound`, `BrokenScript` and `NothingToUndo` leave the list as it was, the others as the edits before the refused one
-/// made it.
+/// `Unsound`, `BrokenScript` and `NothingToUndo` leave the list as it was, the others as the edits before the refused
+/// one made it.
 #[derive(Clone, Copy, Debug, PartialEq, Eq)]
 pub enum EditRefusal {
     /// 12: the list is not sound.
@@ -336,12 +336,12 @@ impl Planned {
     }
 }
 
-/// Carries an edit script out on a list of `count` records, in place, and returns the new count. The list can come to hold
-/// as many records as its buffer has six numbers, at most [`EVENTS_MAX`]. Numbers that no edit changes stay.
+/// Carries an edit script out on a list of `count` records, in place, and returns the new count. The list can come to
+/// hold as many records as its buffer has six numbers, at most [`EVENTS_MAX`]. Numbers that no edit changes stay.
 pub fn edit(list: &mut [u32], count: usize, pools: Pools, script: &[u8]) -> Result<usize, EditRefusal> {
     let Pools { day, series } = pools;
-    // Each pointer comes with the length of its own slice, and is not null even if the slice is empty. The one slice that
-    // is written overlaps no other.
+    // Each pointer comes with the length of its own slice, and is not null even if the slice is empty. The one slice
+    // that is written overlaps no other.
     let EitEdited { number, value, count } = unsafe {
         eit_edit(
             list.as_mut_ptr(),
@@ -429,8 +429,8 @@ pub fn plan(list: &[u32], count: usize, pools: Pools, counts: &mut [u8; SEGMENTS
     }
 }
 
-/// Reads a file of sections into `records`, six numbers for each event. They are a sound list with the file as day pool.
-/// The numbers behind them stay. [`NUMBERS_MAX`] numbers are always enough.
+/// Reads a file of sections into `records`, six numbers for each event. They are a sound list with the file as day
+/// pool. The numbers behind them stay. [`NUMBERS_MAX`] numbers are always enough.
 pub fn read(file: &[u8], base_day: u32, records: &mut [u32]) -> Result<Reading, ReadRefusal> {
     // As in `edit`.
     reading("eit_read", unsafe { eit_read(file.as_ptr(), file.len(), base_day, records.as_mut_ptr(), records.len()) })
