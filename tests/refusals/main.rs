@@ -1,6 +1,6 @@
 //! Provokes every refusal through the Rust wrapper, on both sides of each limit, and looks at its case, its number and
 //! value, and every buffer. Then prints a row for each number: the calls that say it, the cause, what they return, and
-//! what is left. tests/manual compares them with the manual's.
+//! what is left; and a line for each thing that is 22. tests/manual compares them with the manual's.
 
 #[allow(dead_code)]
 #[path = "../../bindings/rust/src/lib.rs"]
@@ -31,14 +31,17 @@ const EVENTS: &str = "number of events";
 const ALL: &str = "all as it was";
 const EARLIER: &str = "list as the edits before made it";
 
-/// For each number the calls that say it, what is returned, and what is left.
+/// For each number the calls that say it, what is returned, and what is left; and what brought 22 about, in words.
 #[derive(Default)]
-struct Rows(BTreeMap<u32, (Vec<&'static str>, &'static str, &'static str)>);
+struct Rows {
+    refusals: BTreeMap<u32, (Vec<&'static str>, &'static str, &'static str)>,
+    headers: Vec<&'static str>,
+}
 
 impl Rows {
     /// A call said this number. Whoever says it returns and leaves the same.
     fn add(&mut self, call: &'static str, number: u32, returned: &'static str, left: &'static str) {
-        let row = self.0.entry(number).or_insert((Vec::new(), returned, left));
+        let row = self.refusals.entry(number).or_insert((Vec::new(), returned, left));
         assert_eq!((row.1, row.2), (returned, left), "{number}, by {call}");
         if !row.0.contains(&call) {
             row.0.push(call);
@@ -74,8 +77,11 @@ fn main() {
     edits::run(&mut rows);
     builds::run(&mut rows);
     reads::run(&mut rows);
-    assert!(rows.0.keys().eq(&NUMBERS), "every number, and no other");
-    for (&number, (calls, returned, left)) in &rows.0 {
+    assert!(rows.refusals.keys().eq(&NUMBERS), "every number, and no other");
+    for (&number, (calls, returned, left)) in &rows.refusals {
         println!("| {number} | {} | {} | {returned} | {left} |", calls.join(", "), cause(number));
+    }
+    for header in rows.headers {
+        println!("22: {header}");
     }
 }
