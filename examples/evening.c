@@ -1,6 +1,6 @@
-/* An evening of one service, in C: edits an event list, plans it, builds its file, checks the file, reads it back, prints where its
- * sections stand, and writes the file to the path that is its argument. It is C11 and C++17. README.md, "How to link", has the
- * commands; evening.cuts is what it prints. */
+/* An evening of one service, in C: edits an event list, plans it, builds its file, checks the file, reads it back,
+ * prints where its sections stand, and writes the file to the path that is its argument. It is C11 and C++17.
+ * README.md, "How to link", has the commands; evening.cuts is what it prints. */
 #include "chirdaluko.h"
 
 #include <stdio.h>
@@ -38,7 +38,8 @@ static void append_short_event(Bytes *pool, const char *name) {
 }
 
 /* Appends a PUT of a programme whose name goes to the pool that its marks choose. */
-static void put(Bytes *script, Bytes *pool, uint32_t id, uint32_t start, uint32_t duration, uint32_t marks, const char *name) {
+static void put(Bytes *script, Bytes *pool, uint32_t id, uint32_t start, uint32_t duration, uint32_t marks,
+                const char *name) {
     size_t offset = pool->length;
     append_short_event(pool, name);
     append(script, EIT_PUT, 1);
@@ -73,17 +74,18 @@ static void write_script(Bytes *script, Bytes *day, Bytes *series) {
     append(script, EIT_UNDO, 1);
 }
 
-/* Says what a call answered, and whether it went well. */
+/* Says what a call answered, and whether it went well. What the value of a refusal means stands at each call. */
 static int succeeded(const char *call, uint32_t number, size_t value) {
     if (number == EIT_SUCCESS) {
         printf("%s %zu\n", call, value);
         return 1;
     }
-    printf("%s refused %u %zu\n", call, (unsigned)number, value);
+    printf("%s refused: %s (%u, %zu)\n", call, eit_cause(number), (unsigned)number, value);
     return 0;
 }
 
-/* How many records have their descriptors in these bytes of the file: they stand with their event, even if there are none. */
+/* How many records have their descriptors in these bytes of the file: they stand with their event, even if there are
+ * none. */
 static size_t events_between(const uint32_t *records, size_t count, size_t from, size_t to) {
     size_t events = 0;
     for (size_t place = 0; place < count; place++) {
@@ -111,7 +113,7 @@ static void print_cuts(const uint8_t *file, size_t file_length, const uint32_t *
 static size_t sections(const uint8_t *plan) {
     size_t sum = 0;
     for (size_t index = 0; index < EIT_SEGMENTS; index++) {
-        if (plan[index] <= EIT_SEGMENT_SECTIONS) {
+        if (plan[index] <= EIT_SEGMENT_SECTIONS_MAX) {
             sum = sum + plan[index];
         }
     }
@@ -136,8 +138,8 @@ int main(int argument_count, char **arguments) {
     static Bytes script, day, series;
 
     write_script(&script, &day, &series);
-    EitEdited edited = eit_edit(list, EIT_NUMBERS_MAX, 0, day.bytes, day.length, series.bytes, series.length, script.bytes,
-                                script.length);
+    EitEdited edited = eit_edit(list, EIT_NUMBERS_MAX, 0, day.bytes, day.length, series.bytes, series.length,
+                                script.bytes, script.length);
     if (!succeeded("edit", edited.number, edited.value)) {
         return 1;
     }
@@ -145,8 +147,8 @@ int main(int argument_count, char **arguments) {
     eit_plan(list, EIT_NUMBERS_MAX, edited.count, day.bytes, day.length, series.bytes, series.length, plan);
     printf("plan %zu\n", sections(plan));
 
-    EitBuilt built = eit_build(list, EIT_NUMBERS_MAX, edited.count, day.bytes, day.length, series.bytes, series.length, BASE_DAY,
-                               SERVICE, STREAM, NETWORK, VERSION, file, sizeof file);
+    EitBuilt built = eit_build(list, EIT_NUMBERS_MAX, edited.count, day.bytes, day.length, series.bytes, series.length,
+                               BASE_DAY, SERVICE, STREAM, NETWORK, VERSION, file, sizeof file);
     if (!succeeded("build", built.number, built.value)) {
         return 1;
     }

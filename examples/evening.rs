@@ -1,10 +1,10 @@
-//! An evening of one service, in Rust: edits an event list, plans it, builds its file, checks the file, reads it back, prints where
-//! its sections stand, and writes the file to the path that is its argument. README.md, "How to link", has the commands;
-//! evening.cuts is what it prints.
+//! An evening of one service, in Rust: edits an event list, plans it, builds its file, checks the file, reads it back,
+//! prints where its sections stand, and writes the file to the path that is its argument. README.md, "How to link", has
+//! the commands; evening.cuts is what it prints.
 
 // A part of it is needed here.
 #[allow(dead_code)]
-#[path = "../bindings/rust/chirdaluko.rs"]
+#[path = "../bindings/rust/src/lib.rs"]
 mod chirdaluko;
 
 use chirdaluko::{Identity, Planned, Pools, Record, NUMBERS_MAX, RECORD, SEGMENTS};
@@ -61,7 +61,8 @@ fn script(day: &mut Vec<u8>, series: &mut Vec<u8>) -> Vec<u8> {
     .concat()
 }
 
-/// A line for each section of a file that check accepted. A record's descriptors stand with their event, even if there are none.
+/// A line for each section of a file that check accepted. A record's descriptors stand with their event, even if there
+/// are none.
 fn print_cuts(file: &[u8], records: &[u32]) {
     println!("offset table section events");
     let mut offset = 0;

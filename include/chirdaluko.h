@@ -1,6 +1,6 @@
-/* Chirdaluko: DVB EIT schedules of one service. Edit makes an event list, Build turns the list into a file of EIT schedule
- * sections (ETSI EN 300 468, 5.2.4, tables 0x50 to 0x5F), Read turns a file back into a list. docs/MANUAL.md shows every call at
- * work.
+/* Chirdaluko: DVB EIT schedules of one service. Edit makes an event list, Build turns the list into a file of EIT
+ * schedule sections (ETSI EN 300 468, 5.2.4, tables 0x50 to 0x5F), Read turns a file back into a list. docs/MANUAL.md
+ * shows every call at work.
  *
  * What each call returns and leaves is proved for every input that keeps the following:
  *
@@ -9,80 +9,138 @@
  * - A pointer to uint32_t is aligned to four bytes.
  * - What a call writes overlaps nothing else that it is lent. What it only reads may overlap.
  *
- * Nothing else is asked: counts, base days, list contents and files may be any at all, and a refusal says what is wrong.
+ * Nothing else is asked: counts, base days, lists and files may be any at all, and a refusal says what is wrong.
  *
- * No call allocates, keeps a pointer, has a state or prints, so calls that write to different buffers may run at the same
- * time. Each runs on the caller's stack, Edit with some 370 KB of it: docs/MANUAL.md, "Stack", has the figures. The library is
- * for x86-64 Linux, and of the C library it needs memcpy, memmove, memset and memcmp at most. */
+ * No call allocates, keeps a pointer, has a state or prints, so calls that write to different buffers may run at the
+ * same time. Each runs on the caller's stack, Edit with some 370 KB of it: docs/MANUAL.md, "Stack", has the figures.
+ * The library is for x86-64 Linux, and of the C library it needs memcpy, memmove, memset and memcmp at most. */
 #ifndef CHIRDALUKO_H
 #define CHIRDALUKO_H
 
 #include <stddef.h>
 #include <stdint.h>
 
+/* The version of this face, by semantic versioning of its names, values and calls; the Rust wrapper has the same. */
+#define CHIRDALUKO_VERSION_MAJOR 2
+#define CHIRDALUKO_VERSION_MINOR 0
+#define CHIRDALUKO_VERSION_PATCH 0
+#define CHIRDALUKO_VERSION "2.0.0"
+
 #ifdef __cplusplus
 extern "C" {
 #endif
 
-/* The numbers that a call returns. Of several causes a call says the first in its own order, which stands at the call. */
+/* The numbers that a call returns. Of several causes a call says the first in its own order, which stands at the call;
+ * eit_cause has each in words. */
 enum {
     EIT_SUCCESS = 0,
-    EIT_BASE_DAY = 1,          /* the base day is above EIT_BASE_DAY_MAX */
-    EIT_VERSION = 2,           /* the version is above EIT_VERSION_MAX */
-    EIT_BROKEN = 3,            /* the script has an unknown command, or ends within a command's operands */
-    EIT_NOTHING_TO_STRIKE = 4, /* UNDO with no edit before it that is not yet struck */
-    EIT_OUT_OF_RANGE = 5,      /* PUT, MOVE: start, duration or marks out of range */
-    EIT_WRONG_ID = 6,          /* PUT: the list has the id already; WITHDRAW, MOVE: it has not */
-    EIT_START_TAKEN = 7,       /* PUT, MOVE: another event has the start */
-    EIT_LIST_FULL = 8,         /* PUT: the list is at its limit */
-    EIT_NO_CHAIN = 9,          /* PUT: the descriptors lie outside their pool, or do not end where the part ends */
-    EIT_UNPACKABLE = 10,       /* a segment needs a ninth section, or has an event with over EIT_CHAIN_MAX descriptor bytes */
-    EIT_OUTPUT_SHORT = 11,     /* the output is shorter than the file */
-    EIT_UNSOUND = 12,          /* the list is not sound (see "Event list") */
-    EIT_FRAME = 20,            /* a section is cut, or its table_id or section_length is out of range */
-    EIT_CRC = 21,              /* a section's CRC_32 is wrong */
-    EIT_HEADER = 22,           /* a fixed bit is wrong, last_table_id is not 0x50 to 0x5F, or it or the identity is not the one before */
-    EIT_NUMBERING = 23,        /* a section is missing, doubled or out of order, or its table is past last_table_id */
-    EIT_EVENT_LOOP = 24,       /* a section's events break a rule */
-    EIT_EARLY_END = 25,        /* the file ends before the last section of last_table_id, or is empty */
-    EIT_EVENT_LIMIT = 26,      /* the file has event 2,049 */
-    EIT_RECORDS_SHORT = 27     /* the record buffer is shorter than six numbers for each event */
+    EIT_REFUSED_BASE_DAY = 1,
+    EIT_REFUSED_VERSION = 2,
+    EIT_REFUSED_BROKEN_SCRIPT = 3,
+    EIT_REFUSED_NOTHING_TO_UNDO = 4,
+    EIT_REFUSED_OUT_OF_RANGE = 5,
+    EIT_REFUSED_WRONG_ID = 6,
+    EIT_REFUSED_START_TAKEN = 7,
+    EIT_REFUSED_LIST_FULL = 8,
+    EIT_REFUSED_NO_CHAIN = 9,
+    EIT_REFUSED_UNPACKABLE = 10,
+    EIT_REFUSED_OUTPUT_SHORT = 11,
+    EIT_REFUSED_UNSOUND = 12,
+    EIT_REFUSED_FRAME = 20,
+    EIT_REFUSED_CRC = 21,
+    EIT_REFUSED_HEADER = 22,
+    EIT_REFUSED_NUMBERING = 23,
+    EIT_REFUSED_EVENT_LOOP = 24,
+    EIT_REFUSED_EARLY_END = 25,
+    EIT_REFUSED_EVENT_LIMIT = 26,
+    EIT_REFUSED_RECORDS_SHORT = 27
 };
 
-/* Limits. */
+/* The cause in words, to be printed behind "refused: ". docs/MANUAL.md, "Refusals", says what to do about it. */
+static inline const char *eit_cause(uint32_t number) {
+    switch (number) {
+    case EIT_SUCCESS:
+        return "success";
+    case EIT_REFUSED_BASE_DAY:
+        return "the base day is above 65,472";
+    case EIT_REFUSED_VERSION:
+        return "the version is above 31";
+    case EIT_REFUSED_BROKEN_SCRIPT:
+        return "the script has an unknown command, or ends within a command's operands";
+    case EIT_REFUSED_NOTHING_TO_UNDO:
+        return "UNDO with no edit before it that is not yet struck";
+    case EIT_REFUSED_OUT_OF_RANGE:
+        return "PUT, MOVE: start, duration or marks out of range";
+    case EIT_REFUSED_WRONG_ID:
+        return "PUT: the list has the id already; WITHDRAW, MOVE: it has not";
+    case EIT_REFUSED_START_TAKEN:
+        return "PUT, MOVE: another event has the start";
+    case EIT_REFUSED_LIST_FULL:
+        return "PUT: the list is at its limit";
+    case EIT_REFUSED_NO_CHAIN:
+        return "PUT: the descriptors lie outside their pool, or do not end where their part ends";
+    case EIT_REFUSED_UNPACKABLE:
+        return "a segment needs a ninth section, or has an event with over 4,066 bytes of descriptors";
+    case EIT_REFUSED_OUTPUT_SHORT:
+        return "the output is shorter than the file";
+    case EIT_REFUSED_UNSOUND:
+        return "the list is not sound";
+    case EIT_REFUSED_FRAME:
+        return "a section is cut, or its table_id or section_length is out of range";
+    case EIT_REFUSED_CRC:
+        return "a section's CRC_32 is wrong";
+    case EIT_REFUSED_HEADER:
+        return "a fixed bit is wrong, last_table_id is out of range, or it or the identity is not the one before";
+    case EIT_REFUSED_NUMBERING:
+        return "a section is missing, doubled or out of order, or its table is past last_table_id";
+    case EIT_REFUSED_EVENT_LOOP:
+        return "a section's events break a rule";
+    case EIT_REFUSED_EARLY_END:
+        return "the file ends before the last section of last_table_id, or is empty";
+    case EIT_REFUSED_EVENT_LIMIT:
+        return "the file has more than 2,048 events";
+    case EIT_REFUSED_RECORDS_SHORT:
+        return "the record buffer is shorter than six numbers for each event";
+    default:
+        return "an unknown number: no call of this version returns it";
+    }
+}
+
+/* Limits: .._MAX is the greatest legal value. */
 enum {
-    EIT_RECORD = 6,              /* numbers in a record */
-    EIT_EVENTS_MAX = 2048,       /* events in a list or file */
-    EIT_NUMBERS_MAX = 12288,     /* numbers that hold every list: EIT_RECORD * EIT_EVENTS_MAX */
-    EIT_ID_MAX = 65535,          /* a record's id */
-    EIT_START_LIMIT = 5529600,   /* a record's start is below: 64 days in seconds */
-    EIT_DURATION_MAX = 359999,   /* a record's duration is 1 to 99:59:59 */
-    EIT_BASE_DAY_MAX = 65472,    /* a Modified Julian Date: all 64 days then fit its 16 bits */
-    EIT_VERSION_MAX = 31,        /* version_number has 5 bits */
-    EIT_SEGMENT_SECONDS = 10800, /* a segment is three hours */
-    EIT_TABLE_SEGMENTS = 32,     /* segments in a table: four days */
-    EIT_SEGMENTS = 512,          /* segments in the sixteen tables */
-    EIT_SEGMENT_SECTIONS = 8,    /* sections in a segment at most */
-    EIT_SECTION_MAX = 4096,      /* bytes in a section at most */
-    EIT_CHAIN_MAX = 4066,        /* descriptor bytes of one event that a section can hold */
-    EIT_FILE_MAX = 16777216      /* bytes that hold every file: 16 tables of 256 sections */
+    EIT_RECORD = 6,               /* numbers in a record */
+    EIT_EVENTS_MAX = 2048,        /* events in a list or file */
+    EIT_NUMBERS_MAX = 12288,      /* numbers that hold every list: EIT_RECORD * EIT_EVENTS_MAX */
+    EIT_ID_MAX = 65535,           /* a record's id */
+    EIT_WINDOW_SECONDS = 5529600, /* 64 days in seconds: a record's start is below */
+    EIT_DURATION_MAX = 359999,    /* a record's duration, 99:59:59; the least is 1 */
+    EIT_BASE_DAY_MAX = 65472,     /* a Modified Julian Date: all 64 days then fit its 16 bits */
+    EIT_VERSION_MAX = 31,         /* version_number has 5 bits */
+    EIT_SEGMENT_SECONDS = 10800,  /* seconds in a segment: three hours */
+    EIT_TABLE_SEGMENTS = 32,      /* segments in a table: four days */
+    EIT_SEGMENTS = 512,           /* segments in the sixteen tables */
+    EIT_SEGMENT_SECTIONS_MAX = 8, /* sections in a segment */
+    EIT_SECTION_MAX = 4096,       /* bytes in a section */
+    EIT_CHAIN_MAX = 4066,         /* descriptor bytes of one event that a section can hold */
+    EIT_FILE_MAX = 16777216       /* bytes that hold every file: 16 tables of 256 sections */
 };
 
 /* Event list: a buffer of numbers and a count. A record is six numbers:
  *
  *   id        event_id, at most EIT_ID_MAX
- *   start     seconds after midnight UTC of the base day, below EIT_START_LIMIT
+ *   start     seconds after midnight UTC of the base day, below EIT_WINDOW_SECONDS
  *   duration  seconds, 1 to EIT_DURATION_MAX
  *   marks     a sum of EIT_FREE_CA, EIT_SERIES_POOL and EIT_OFF_AIR, or 0
  *   offset    where its descriptors begin in their pool
  *   length    how many bytes they have; 0 for none
  *
- * Descriptors lie in one of two pools of bytes that the caller lends with the list: the day pool, or with EIT_SERIES_POOL the
- * series pool. They are a chain: each a tag byte, a length byte and that many bytes, the last one ending where the part ends.
+ * Descriptors lie in one of two pools of bytes that the caller lends with the list: the day pool, or with
+ * EIT_SERIES_POOL the series pool. They are a chain: each a tag byte, a length byte and that many bytes, the last one
+ * ending where the part ends.
  *
- * A list is sound if count is at most EIT_EVENTS_MAX, the buffer has six numbers for each record, every value is in range,
- * every part lies in its pool (offset + length at most the pool's length) and is a chain, starts rise strictly, and ids
- * differ. Events may overlap. The empty list is a count of 0 with any buffer. */
+ * A list is sound if count is at most EIT_EVENTS_MAX, the buffer has six numbers for each record, every value is in
+ * range, every part lies in its pool (offset + length at most the pool's length) and is a chain, starts rise strictly,
+ * and ids differ. Events may overlap. The empty list is a count of 0 with any buffer. */
 enum {
     EIT_FREE_CA = 1,     /* free_CA_mode is 1: a conditional access system may control a stream of the event */
     EIT_SERIES_POOL = 2, /* the descriptors lie in the series pool; a file does not show it */
@@ -106,30 +164,31 @@ typedef struct EitEdited {
 
 /* Carries an edit script out on an event list, in place.
  *
- *   list, list_length      the list's buffer; list_length / 6, at most EIT_EVENTS_MAX, is how many records it can come to hold
+ *   list, list_length      the list's buffer; it can come to hold list_length / 6 records, at most EIT_EVENTS_MAX
  *   count                  how many records the list has
  *   day, day_length        the day pool
  *   series, series_length  the series pool
  *   script, script_length  the commands
  *
- * UNDO strikes by the script, before anything is carried out. Struck edits are looked at for their form only; the others are
- * carried out in order.
+ * UNDO strikes by the script, before anything is carried out. Struck edits are looked at for their form only; the
+ * others are carried out in order.
  *
- * Refusals: EIT_UNSOUND; EIT_BROKEN over the whole script; EIT_NOTHING_TO_STRIKE over the whole script; then edit by edit
- * EIT_OUT_OF_RANGE, EIT_NO_CHAIN, EIT_WRONG_ID, EIT_START_TAKEN, EIT_LIST_FULL.
- * Left: after the first three all of `list` is as it was; after the others it is as the edits before the refused one made it.
- * Numbers that no edit changes stay, behind the list too. */
+ * Refusals: EIT_REFUSED_UNSOUND; EIT_REFUSED_BROKEN_SCRIPT over the whole script; EIT_REFUSED_NOTHING_TO_UNDO over the
+ * whole script; then edit by edit EIT_REFUSED_OUT_OF_RANGE, EIT_REFUSED_NO_CHAIN, EIT_REFUSED_WRONG_ID,
+ * EIT_REFUSED_START_TAKEN, EIT_REFUSED_LIST_FULL.
+ * Left: after the first three all of `list` is as it was; after the others it is as the edits before the refused one
+ * made it. Numbers that no edit changes stay, behind the list too. */
 EitEdited eit_edit(uint32_t *list, size_t list_length, size_t count, const uint8_t *day, size_t day_length,
                    const uint8_t *series, size_t series_length, const uint8_t *script, size_t script_length);
 
 /* What Build returns. */
 typedef struct EitBuilt {
     uint32_t number; /* EIT_SUCCESS, or the refusal */
-    size_t value;    /* success: the file's length; 10: the lowest such segment index, 0 to 511; 11: the bytes needed; else 0 */
+    size_t value;    /* success: the file's length; 10: the lowest such segment index; 11: the bytes needed; else 0 */
 } EitBuilt;
 
-/* Writes the file of sections of an event list to the front of `out`. The file depends on the events, the base day and the
- * identity alone: its packing is fixed, each section takes as many of its segment's next events as fit.
+/* Writes the file of sections of an event list to the front of `out`. The file depends on the events, the base day and
+ * the identity alone: its packing is fixed, each section takes as many of its segment's next events as fit.
  *
  *   list .. series_length  the list and its pools, as for eit_edit; only read
  *   base_day               the day whose midnight UTC starts count from, a Modified Julian Date
@@ -137,7 +196,8 @@ typedef struct EitBuilt {
  *                          the identity, the same in every section
  *   out, out_length        the output; EIT_FILE_MAX bytes are always enough, and an out_length of 0 asks for the need
  *
- * Refusals: EIT_BASE_DAY, EIT_VERSION, EIT_UNSOUND, EIT_UNPACKABLE, EIT_OUTPUT_SHORT.
+ * Refusals: EIT_REFUSED_BASE_DAY, EIT_REFUSED_VERSION, EIT_REFUSED_UNSOUND, EIT_REFUSED_UNPACKABLE,
+ * EIT_REFUSED_OUTPUT_SHORT.
  * Left: after a refusal all of `out` is as it was; after success the bytes behind the file are. */
 EitBuilt eit_build(const uint32_t *list, size_t list_length, size_t count, const uint8_t *day, size_t day_length,
                    const uint8_t *series, size_t series_length, uint32_t base_day, uint16_t service_id,
@@ -147,11 +207,11 @@ EitBuilt eit_build(const uint32_t *list, size_t list_length, size_t count, const
 /* Counts of Plan that are no number of sections. */
 enum {
     EIT_PLAN_UNSOUND = 254,   /* every count, if the list is unsound */
-    EIT_PLAN_UNPACKABLE = 255 /* a segment for which Build says EIT_UNPACKABLE; the others have their own counts */
+    EIT_PLAN_UNPACKABLE = 255 /* a segment for which Build says EIT_REFUSED_UNPACKABLE; others have their own counts */
 };
 
-/* Writes the number of sections that Build makes of each segment: the 32 segments of table 0x50, then those of 0x51, up to 0x5F.
- * A count is 0 outside its table's range, and 1 to 8 within it, a segment without events having 1.
+/* Writes the number of sections that Build makes of each segment: the 32 segments of table 0x50, then those of 0x51, up
+ * to 0x5F. A count is 0 outside its table's range, and 1 to 8 within it, a segment without events having 1.
  *
  *   list .. series_length  the list and its pools, as for eit_edit; only read
  *   plan                   512 counts; every one is written
@@ -163,7 +223,7 @@ void eit_plan(const uint32_t *list, size_t list_length, size_t count, const uint
 /* What Read and check return. After a refusal count and identity are 0. */
 typedef struct EitReading {
     uint32_t number; /* EIT_SUCCESS, or the refusal */
-    size_t value;    /* success, 27: the number of events; 20 to 24, 26: the section's offset; 25: the file's length; 1: 0 */
+    size_t value;    /* success, 27: the events; 20 to 24, 26: the section's offset; 25: the file's length; 1: 0 */
     size_t count;    /* the number of events */
     uint16_t service_id;
     uint16_t transport_stream_id;
@@ -171,25 +231,27 @@ typedef struct EitReading {
     uint8_t version;
 } EitReading;
 
-/* Reads a file of sections, whoever made it, into records: the whole file is looked at first, and records are written only if
- * all of it is right.
+/* Reads a file of sections, whoever made it, into records: the whole file is looked at first, and records are written
+ * only if all of it is right.
  *
  *   file, file_length        the sections, joined, without stuffing
  *   base_day                 the day that starts are to count from
  *   records, records_length  the record buffer; EIT_NUMBERS_MAX numbers are always enough
  *
- * The records are a sound list with the file as day pool: an offset is into the file, and no marks have EIT_SERIES_POOL.
+ * The records are a sound list with the file as day pool: offsets are into the file, no marks have EIT_SERIES_POOL.
  *
- * Refusals: EIT_BASE_DAY; section by section EIT_FRAME, EIT_CRC, EIT_HEADER, EIT_NUMBERING, EIT_EVENT_LOOP, EIT_EVENT_LIMIT; at
- * the end EIT_EARLY_END, EIT_RECORDS_SHORT.
+ * Refusals: EIT_REFUSED_BASE_DAY; section by section EIT_REFUSED_FRAME, EIT_REFUSED_CRC, EIT_REFUSED_HEADER,
+ * EIT_REFUSED_NUMBERING, EIT_REFUSED_EVENT_LOOP, EIT_REFUSED_EVENT_LIMIT; at the end EIT_REFUSED_EARLY_END,
+ * EIT_REFUSED_RECORDS_SHORT.
  * Left: after a refusal all of `records` is as it was; after success the numbers behind 6 * count are. */
-EitReading eit_read(const uint8_t *file, size_t file_length, uint32_t base_day, uint32_t *records, size_t records_length);
+EitReading eit_read(const uint8_t *file, size_t file_length, uint32_t base_day, uint32_t *records,
+                    size_t records_length);
 
-/* The same without a record buffer: it writes nothing, and never says EIT_RECORDS_SHORT. */
+/* The same without a record buffer: it writes nothing, and never says EIT_REFUSED_RECORDS_SHORT. */
 EitReading eit_check(const uint8_t *file, size_t file_length, uint32_t base_day);
 
-/* CRC_32 as sections have it: register first 0xFFFFFFFF, polynomial 0x04C11DB7, high bit first, no final inversion. Over a
- * whole section it is 0. There is no refusal. */
+/* CRC_32 as sections have it: register first 0xFFFFFFFF, polynomial 0x04C11DB7, high bit first, no final inversion.
+ * Over a whole section it is 0. There is no refusal. */
 uint32_t eit_crc32(const uint8_t *bytes, size_t bytes_length);
 
 #ifdef __cplusplus

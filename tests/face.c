@@ -5,21 +5,27 @@
 #include <string.h>
 
 /* The names stand for document 01's numbers. */
-_Static_assert(EIT_SUCCESS == 0 && EIT_BASE_DAY == 1 && EIT_VERSION == 2 && EIT_BROKEN == 3 && EIT_NOTHING_TO_STRIKE == 4
-                   && EIT_OUT_OF_RANGE == 5 && EIT_WRONG_ID == 6 && EIT_START_TAKEN == 7 && EIT_LIST_FULL == 8 && EIT_NO_CHAIN == 9
-                   && EIT_UNPACKABLE == 10 && EIT_OUTPUT_SHORT == 11 && EIT_UNSOUND == 12,
+_Static_assert(EIT_SUCCESS == 0 && EIT_REFUSED_BASE_DAY == 1 && EIT_REFUSED_VERSION == 2
+                   && EIT_REFUSED_BROKEN_SCRIPT == 3 && EIT_REFUSED_NOTHING_TO_UNDO == 4
+                   && EIT_REFUSED_OUT_OF_RANGE == 5 && EIT_REFUSED_WRONG_ID == 6
+                   && EIT_REFUSED_START_TAKEN == 7 && EIT_REFUSED_LIST_FULL == 8
+                   && EIT_REFUSED_NO_CHAIN == 9 && EIT_REFUSED_UNPACKABLE == 10 && EIT_REFUSED_OUTPUT_SHORT == 11
+                   && EIT_REFUSED_UNSOUND == 12,
                "refusals of Edit and Build");
-_Static_assert(EIT_FRAME == 20 && EIT_CRC == 21 && EIT_HEADER == 22 && EIT_NUMBERING == 23 && EIT_EVENT_LOOP == 24
-                   && EIT_EARLY_END == 25 && EIT_EVENT_LIMIT == 26 && EIT_RECORDS_SHORT == 27,
+_Static_assert(EIT_REFUSED_FRAME == 20 && EIT_REFUSED_CRC == 21 && EIT_REFUSED_HEADER == 22
+                   && EIT_REFUSED_NUMBERING == 23 && EIT_REFUSED_EVENT_LOOP == 24 && EIT_REFUSED_EARLY_END == 25
+                   && EIT_REFUSED_EVENT_LIMIT == 26 && EIT_REFUSED_RECORDS_SHORT == 27,
                "refusals of Read");
 _Static_assert(EIT_RECORD == 6 && EIT_EVENTS_MAX == 2048 && EIT_NUMBERS_MAX == 12288 && EIT_ID_MAX == 65535
-                   && EIT_START_LIMIT == 5529600 && EIT_DURATION_MAX == 359999 && EIT_BASE_DAY_MAX == 65472 && EIT_VERSION_MAX == 31,
+                   && EIT_WINDOW_SECONDS == 64 * 86400 && EIT_DURATION_MAX == 359999 && EIT_BASE_DAY_MAX == 65472
+                   && EIT_VERSION_MAX == 31,
                "limits of a list, a base day and a version");
-_Static_assert(EIT_SEGMENT_SECONDS == 10800 && EIT_TABLE_SEGMENTS == 32 && EIT_SEGMENTS == 16 * 32 && EIT_SEGMENT_SECTIONS == 8
-                   && EIT_SECTION_MAX == 3 + 4093 && EIT_CHAIN_MAX == 4078 - 12 && EIT_FILE_MAX == 16 * 256 * 4096,
+_Static_assert(EIT_SEGMENT_SECONDS == 10800 && EIT_TABLE_SEGMENTS == 32 && EIT_SEGMENTS == 16 * 32
+                   && EIT_SEGMENT_SECTIONS_MAX == 8 && EIT_SECTION_MAX == 3 + 4093 && EIT_CHAIN_MAX == 4078 - 12
+                   && EIT_FILE_MAX == 16 * 256 * 4096,
                "limits of a file");
-_Static_assert(EIT_FREE_CA == 1 && EIT_SERIES_POOL == 2 && EIT_OFF_AIR == 4 && EIT_PUT == 1 && EIT_WITHDRAW == 2 && EIT_MOVE == 3
-                   && EIT_UNDO == 4 && EIT_PLAN_UNSOUND == 254 && EIT_PLAN_UNPACKABLE == 255,
+_Static_assert(EIT_FREE_CA == 1 && EIT_SERIES_POOL == 2 && EIT_OFF_AIR == 4 && EIT_PUT == 1 && EIT_WITHDRAW == 2
+                   && EIT_MOVE == 3 && EIT_UNDO == 4 && EIT_PLAN_UNSOUND == 254 && EIT_PLAN_UNPACKABLE == 255,
                "marks, commands, counts of Plan");
 
 static int wrong = 0;
@@ -90,8 +96,10 @@ static void expect_reading(const char *what, EitReading got, EitReading wanted) 
     expect("its version", got.version, wanted.version);
 }
 
-/* Builds one event of four chain bytes, and reads the file of so many bytes back into so many numbers, behind which one stays. */
-static void read_built(const char *what, uint32_t base_day, size_t file_length, size_t records_length, EitReading wanted) {
+/* Builds one event of four chain bytes, and reads the file of so many bytes back into so many numbers, behind which one
+ * stays. */
+static void read_built(const char *what, uint32_t base_day, size_t file_length, size_t records_length,
+                       EitReading wanted) {
     static const uint32_t list[6] = {258, 9000, 3600, 5, 1, 4};
     static const uint8_t day[6] = {0xFF, 0x4D, 0x00, 0x54, 0x00, 0xFF};
     /* The chain stands behind the section's 14 bytes and the event's 12. */
@@ -110,11 +118,22 @@ static void read_built(const char *what, uint32_t base_day, size_t file_length, 
         expect("a number of the records", records[place], is_read ? read_back[place] : 0xA5A5A5A5);
     }
     /* Without a record buffer there is no 27. */
+    EitReading accepted = {0, 1, 1, 1, 0x203, 0xFFFE, 31};
     EitReading checked = eit_check(file, file_length, base_day);
-    expect_reading("what check answers", checked, wanted.number == 27 ? (EitReading){0, 1, 1, 1, 0x203, 0xFFFE, 31} : wanted);
+    expect_reading("what check answers", checked, wanted.number == 27 ? accepted : wanted);
+}
+
+/* Prints the version that the header's three numbers are, once the header's string says the same. */
+static void print_version(void) {
+    char version[64];
+    snprintf(version, sizeof version, "%d.%d.%d", CHIRDALUKO_VERSION_MAJOR, CHIRDALUKO_VERSION_MINOR,
+             CHIRDALUKO_VERSION_PATCH);
+    expect("the version's string, compared with its numbers,", strcmp(version, CHIRDALUKO_VERSION) != 0, 0);
+    printf("version %s\n", version);
 }
 
 int main(void) {
+    print_version();
     static const uint8_t check[] = "123456789";
     expect("CRC_32", eit_crc32(check, 9), 0x0376E6E7);
 
@@ -143,6 +162,6 @@ int main(void) {
     read_built("the answer to a byte behind the file", 49273, 35, 7, (EitReading){.number = 20, .value = 34});
     read_built("the answer to another base day", 49274, 34, 7, (EitReading){.number = 24, .value = 0});
     read_built("the answer to no file", 49273, 0, 7, (EitReading){.number = 25, .value = 0});
-    read_built("the answer to a base day to be read above the most", 65473, 0, 0, (EitReading){.number = 1, .value = 0});
+    read_built("the answer to a base day of Read above the most", 65473, 0, 0, (EitReading){.number = 1, .value = 0});
     return wrong;
 }

@@ -1,5 +1,5 @@
-//! The library's calls, through its Rust wrapper, in the shapes of the other implementation's, so that one can stand in for the
-//! other. The wrapper's cases give number and value back.
+//! The library's calls, through its Rust wrapper, in the shapes of the other implementation's, so that one can stand in
+//! for the other. The wrapper's cases give number and value back.
 
 use crate::chirdaluko::{self, Pools, ReadRefusal};
 use crate::other::{Answer, Built, Identity, Lent, Plan, Reading};

@@ -1,5 +1,6 @@
-/* Measures how much stack each call uses on its largest inputs: it runs on a stack filled with one byte, of which the lowest one that
- * changes shows how deep the call went. Prints a row for each call, in bytes; tests/manual compares them with the manual's figures. */
+/* Measures how much stack each call uses on its largest inputs: it runs on a stack filled with one byte, of which the
+ * lowest one that changes shows how deep the call went. Prints a row for each call, in bytes; tests/manual compares
+ * them with the manual's figures. */
 #define _GNU_SOURCE
 #include "chirdaluko.h"
 
@@ -10,7 +11,8 @@
 
 enum { STACK = 4 << 20, UNTOUCHED = 0xA5, BASE_DAY = 49273, CHAIN = 2000, SCRIPT = 4 << 20 };
 
-/* 2,048 events, sixteen in a segment, two in a section: a file of 4 MB; and a script of a megabyte that moves each to where it is. */
+/* 2,048 events, sixteen in a segment, two in a section: a file of 4 MB; and a script of 4 MB that moves each to where
+ * it is. */
 static uint32_t list[EIT_NUMBERS_MAX];
 static uint32_t records[EIT_NUMBERS_MAX];
 static uint8_t pool[CHAIN];
@@ -22,7 +24,7 @@ static uint8_t plan[EIT_SEGMENTS];
 
 static void expect(const char *what, uint32_t number) {
     if (number != EIT_SUCCESS) {
-        fprintf(stderr, "stack: %s is refused with %u\n", what, (unsigned)number);
+        fprintf(stderr, "stack: %s is refused: %s\n", what, eit_cause(number));
         exit(1);
     }
 }

@@ -1,11 +1,11 @@
-//! Compares the library, through its Rust wrapper and so through its C face, with the other implementation on seeded inputs. It
-//! first checks that faults show; with `--self-check` it does only that.
+//! Compares the library, through its Rust wrapper and so through its C face, with the other implementation on seeded
+//! inputs. It first checks that faults show; with `--self-check` it does only that.
 
 mod breaking;
 mod build;
 mod chains;
 #[allow(dead_code)]
-#[path = "../../bindings/rust/chirdaluko.rs"]
+#[path = "../../bindings/rust/src/lib.rs"]
 mod chirdaluko;
 mod crcs;
 mod edits;

@@ -1,9 +1,9 @@
-//! Times the library, through its Rust wrapper, beside the other implementation on the same inputs. Nothing fails for being slow. With `once` and
-//! the name of a call, calls the library once with its largest input, for a profile.
+//! Times the library, through its Rust wrapper, beside the other implementation on the same inputs. Nothing fails for
+//! being slow. With `once` and the name of a call, calls the library once with its largest input, for a profile.
 
 mod builds;
 #[allow(dead_code)]
-#[path = "../../bindings/rust/chirdaluko.rs"]
+#[path = "../../bindings/rust/src/lib.rs"]
 mod chirdaluko;
 mod crcs;
 mod edits;

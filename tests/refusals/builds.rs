@@ -13,7 +13,8 @@ pub fn run(rows: &mut Rows) {
     refused(rows, &[event(1, 100), event(1, 200)], 65_472, 31, BuildRefusal::Unsound, ZERO);
     refused(rows, &one, 65_472, 31, BuildRefusal::OutputShort { needed: 30 }, NEED);
 
-    // Segment 1 holds its event in one section; 2 and 4 have each an event that no section holds; 3 would need a ninth section.
+    // Segment 1 holds its event in one section; 2 and 4 have each an event that no section holds; 3 would need a ninth
+    // section.
     let large = |id, start, chain_length| Record { chain_length, ..event(id, start) };
     let at = |segment| SEGMENT_SECONDS * segment;
     let mut records = vec![large(1, at(1), 4_066), large(2, at(2), 4_067)];

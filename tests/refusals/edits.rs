@@ -64,9 +64,9 @@ fn form(rows: &mut Rows) {
         assert_eq!(list, lent);
         rows.add(CALL, refusal.number(), COMMAND, ALL);
     };
-    at(&[0x05], EditRefusal::Broken { offset: BEFORE, count: 1 });
-    at(&[0x02, 0x00], EditRefusal::Broken { offset: BEFORE, count: 1 });
-    at(&[UNDO, UNDO], EditRefusal::NothingToStrike { offset: BEFORE + 1, count: 1 });
+    at(&[0x05], EditRefusal::BrokenScript { offset: BEFORE, count: 1 });
+    at(&[0x02, 0x00], EditRefusal::BrokenScript { offset: BEFORE, count: 1 });
+    at(&[UNDO, UNDO], EditRefusal::NothingToUndo { offset: BEFORE + 1, count: 1 });
 }
 
 /// A refused command between one that is carried out and one that is not.
@@ -78,7 +78,8 @@ fn list_full(rows: &mut Rows) {
     refused_in(rows, 2, &put(event(3, 300)), |offset, count| EditRefusal::ListFull { offset, count });
 }
 
-/// The same in a buffer with room for so many records and a number over. It holds one record, and behind it what is no zero.
+/// The same in a buffer with room for so many records and a number over. It holds one record, and behind it what is no
+/// zero.
 fn refused_in(rows: &mut Rows, room: usize, command: &[u8], case: impl Fn(usize, usize) -> EditRefusal) {
     let mut list = vec![77; 6 * room + 1];
     list[..6].copy_from_slice(&numbers(&[event(1, 100)]));

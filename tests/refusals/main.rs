@@ -1,50 +1,22 @@
-//! Provokes every refusal through the Rust wrapper, on both sides of each limit, and looks at its case, its number and value, and
-//! every buffer. Then prints a row for each number: the calls that say it, the cause, what they return, and what is left.
-//! tests/manual compares them with the manual's table.
+//! Provokes every refusal through the Rust wrapper, on both sides of each limit, and looks at its case, its number and
+//! value, and every buffer. Then prints a row for each number: the calls that say it, the cause, what they return, and
+//! what is left; and a line for each thing that is 22. tests/manual compares them with the manual's.
 
 #[allow(dead_code)]
-#[path = "../../bindings/rust/chirdaluko.rs"]
+#[path = "../../bindings/rust/src/lib.rs"]
 mod chirdaluko;
 
 mod builds;
 mod edits;
 mod inputs;
 mod reads;
+mod words;
 
-use chirdaluko::Record;
+use chirdaluko::{cause, Record};
 use std::collections::BTreeMap;
 
-/// The causes, in the order of their numbers.
-const CAUSES: [(u32, &str); 20] = [
-    (1, "base day above 65,472"),
-    (2, "version above 31"),
-    (3, "unknown command, or a cut operand"),
-    (4, "UNDO with nothing to strike"),
-    (5, "PUT, MOVE: start, duration or marks out of range"),
-    (6, "PUT: the id is present; WITHDRAW, MOVE: it is absent"),
-    (7, "PUT, MOVE: another event has the start"),
-    (8, "PUT: the list is at its limit"),
-    (9, "PUT: the descriptors lie outside their pool, or are no chain"),
-    (10, "a segment needs a ninth section, or has an event with over 4,066 bytes of descriptors"),
-    (11, "output shorter than the file"),
-    (12, "the list is unsound"),
-    (20, "a section is cut, its table_id is not 0x50 to 0x5F, or its section_length not 15 to 4,093"),
-    (21, "CRC_32"),
-    (
-        22,
-        "a fixed bit, current_next 0, identity or last_table_id not that of the section before, \
-         last_table_id not 0x50 to 0x5F",
-    ),
-    (23, "not the next section by table_id and the three section numbers, or a table past last_table_id"),
-    (
-        24,
-        "a time, running_status or descriptor breaks its rule, an event is outside its segment, a start does not rise, \
-         an id was there before, or an empty section is not alone in its segment",
-    ),
-    (25, "the file ends before the last section of last_table_id, or is empty"),
-    (26, "event 2,049"),
-    (27, "record buffer shorter than six numbers for each event"),
-];
+/// The numbers of the refusals, in their order.
+const NUMBERS: [u32; 20] = [1, 2, 3, 4, 5, 6, 7, 8, 9, 10, 11, 12, 20, 21, 22, 23, 24, 25, 26, 27];
 
 /// What a refusal's value is.
 const ZERO: &str = "0";
@@ -59,14 +31,17 @@ const EVENTS: &str = "number of events";
 const ALL: &str = "all as it was";
 const EARLIER: &str = "list as the edits before made it";
 
-/// For each number the calls that say it, what is returned, and what is left.
+/// For each number the calls that say it, what is returned, and what is left; and what brought 22 about, in words.
 #[derive(Default)]
-struct Rows(BTreeMap<u32, (Vec<&'static str>, &'static str, &'static str)>);
+struct Rows {
+    refusals: BTreeMap<u32, (Vec<&'static str>, &'static str, &'static str)>,
+    headers: Vec<&'static str>,
+}
 
 impl Rows {
     /// A call said this number. Whoever says it returns and leaves the same.
     fn add(&mut self, call: &'static str, number: u32, returned: &'static str, left: &'static str) {
-        let row = self.0.entry(number).or_insert((Vec::new(), returned, left));
+        let row = self.refusals.entry(number).or_insert((Vec::new(), returned, left));
         assert_eq!((row.1, row.2), (returned, left), "{number}, by {call}");
         if !row.0.contains(&call) {
             row.0.push(call);
@@ -79,9 +54,17 @@ const _: () = assert!(
     chirdaluko::RECORD == 6
         && chirdaluko::EVENTS_MAX == 2_048
         && chirdaluko::NUMBERS_MAX == 12_288
-        && chirdaluko::SEGMENTS == 16 * 32
+        && chirdaluko::ID_MAX == 65_535
+        && chirdaluko::WINDOW_SECONDS == 64 * 86_400
+        && chirdaluko::DURATION_MAX == 359_999
         && chirdaluko::BASE_DAY_MAX == 65_472
         && chirdaluko::VERSION_MAX == 31
+        && chirdaluko::SEGMENT_SECONDS == 10_800
+        && chirdaluko::TABLE_SEGMENTS == 32
+        && chirdaluko::SEGMENTS == 16 * 32
+        && chirdaluko::SEGMENT_SECTIONS_MAX == 8
+        && chirdaluko::SECTION_MAX == 3 + 4_093
+        && chirdaluko::CHAIN_MAX == 4_078 - 12
         && chirdaluko::FILE_MAX == 16 * 256 * 4_096
         && Record::FREE_CA == 1
         && Record::SERIES_POOL == 2
@@ -89,12 +72,16 @@ const _: () = assert!(
 );
 
 fn main() {
+    words::run();
     let mut rows = Rows::default();
     edits::run(&mut rows);
     builds::run(&mut rows);
     reads::run(&mut rows);
-    assert!(rows.0.keys().eq(CAUSES.iter().map(|(number, _)| number)), "every number, and no other");
-    for ((number, (calls, returned, left)), (_, cause)) in rows.0.iter().zip(CAUSES) {
-        println!("| {number} | {} | {cause} | {returned} | {left} |", calls.join(", "));
+    assert!(rows.refusals.keys().eq(&NUMBERS), "every number, and no other");
+    for (&number, (calls, returned, left)) in &rows.refusals {
+        println!("| {number} | {} | {} | {returned} | {left} |", calls.join(", "), cause(number));
+    }
+    for header in rows.headers {
+        println!("22: {header}");
     }
 }

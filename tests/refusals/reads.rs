@@ -1,4 +1,5 @@
-//! Read's and check's refusals: files that Build made, damaged, and given a right CRC_32 again where the damage is not to it.
+//! Read's and check's refusals: files that Build made, damaged, and given a right CRC_32 again where the damage is not
+//! to it.
 
 use crate::chirdaluko::{build, check, crc32, read, Identity, Pools, ReadRefusal, Reading, Record};
 use crate::inputs::{event, numbers};
@@ -79,22 +80,29 @@ fn frames(rows: &mut Rows, file: &[u8]) {
 }
 
 fn headers(rows: &mut Rows, file: &[u8]) {
-    let mut header = |place: usize, byte: u8, offset: usize| {
-        let damaged = changed(file, offset..offset + 30, |section| section[place] = byte);
-        refused(rows, &damaged, BASE_DAY, ReadRefusal::Header { offset }, SECTION);
+    let mut header = |what: &'static str, place: usize, bytes: &[u8], offset: usize| {
+        for &byte in bytes {
+            let damaged = changed(file, offset..offset + 30, |section| section[place] = byte);
+            refused(rows, &damaged, BASE_DAY, ReadRefusal::Header { offset }, SECTION);
+        }
+        if rows.headers.last() != Some(&what) {
+            rows.headers.push(what);
+        }
     };
-    // Fixed bits; current_next 0.
-    header(1, file[1] & 0x7F, 0);
-    header(5, file[5] & 0x7F, 0);
-    header(5, file[5] & 0xFE, 0);
-    // Another service, stream, network and version; last_table_id out of its range, and one that differs.
-    header(4, 9, SECOND.start);
-    header(9, 9, SECOND.start);
-    header(11, 9, SECOND.start);
-    header(5, file[5] ^ 2, SECOND.start);
-    header(13, 0x4F, 0);
-    header(13, 0x60, 0);
-    header(13, 0x52, SECOND.start);
+    let without = |place: usize, bits: &[u8]| bits.iter().map(|bit| file[place] & !bit).collect::<Vec<_>>();
+    header("one of the four bits before section_length is 0", 1, &without(1, &[0x80, 0x40, 0x20, 0x10]), 0);
+    header("one of the two bits before version is 0", 5, &without(5, &[0x80, 0x40]), 0);
+    header("current_next is 0", 5, &without(5, &[0x01]), 0);
+    header("last_table_id is not 0x50 to 0x5F", 13, &[0x4F, 0x60], 0);
+    header("last_table_id differs from the section before", 13, &[0x50, 0x52], SECOND.start);
+    for place in [3, 4] {
+        header("service_id differs from the section before", place, &[9], SECOND.start);
+    }
+    for place in [8, 9, 10, 11] {
+        let what = "transport_stream_id or original_network_id differs from the section before";
+        header(what, place, &[9], SECOND.start);
+    }
+    header("version differs from the section before", 5, &[file[5] ^ 2], SECOND.start);
 }
 
 fn numbering(rows: &mut Rows, file: &[u8]) {

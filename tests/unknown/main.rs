@@ -2,7 +2,7 @@
 
 // Plan and CRC_32 have no answer that could be unknown, and are not there.
 #[allow(dead_code)]
-#[path = "../../bindings/rust/chirdaluko.rs"]
+#[path = "../../bindings/rust/src/lib.rs"]
 mod chirdaluko;
 
 use chirdaluko::{build, check, edit, read, BuildRefusal, EditRefusal, Identity, Planned, Pools, ReadRefusal, Reading};
@@ -10,7 +10,7 @@ use std::panic::{catch_unwind, set_hook};
 use std::process::exit;
 
 extern "C" {
-    fn answer(number: u32, value: usize, count: usize, service_id: u16);
+    fn set_answer(number: u32, value: usize, count: usize, service_id: u16);
 }
 
 const POOLS: Pools = Pools { day: &[], series: &[] };
@@ -34,7 +34,7 @@ fn checked() -> Result<Reading, ReadRefusal> {
 /// The call panics, and names the number and the value.
 fn panics<T>(call: fn() -> T, number: u32, value: usize, count: usize, service_id: u16) {
     // The library only remembers them.
-    unsafe { answer(number, value, count, service_id) };
+    unsafe { set_answer(number, value, count, service_id) };
     let Err(panic) = catch_unwind(call) else {
         eprintln!("unknown: {number} {value} passes for an answer");
         exit(1);

@@ -27,7 +27,8 @@ pub const ALL: [Detail; 12] = [
 
 pub const NO_POOLS: Pools = Pools { day: &[], series: &[] };
 
-/// What Edit says to this script on an empty list, and what it leaves of a buffer of two records and a number over, all 7.
+/// What Edit says to this script on an empty list, and what it leaves of a buffer of two records and a number over, all
+/// 7.
 fn edited(commands: &[Vec<u8>]) -> (Result<usize, EditRefusal>, [u32; 13]) {
     let mut list = [7; 13];
     (edit(&mut list, 0, NO_POOLS, &commands.concat()), list)
@@ -40,13 +41,14 @@ fn command_offset() -> bool {
     wrong
         .iter()
         .all(|&record| edited(&[first.clone(), put(record)]).0 == Err(EditRefusal::OutOfRange { offset, count: 1 }))
-        && edited(&[first, vec![0x03, 0, 1, 0]]).0 == Err(EditRefusal::Broken { offset, count: 0 })
+        && edited(&[first, vec![0x03, 0, 1, 0]]).0 == Err(EditRefusal::BrokenScript { offset, count: 0 })
 }
 
 fn form_first() -> bool {
     let first = put(event(1, 0));
-    edited(&[first.clone(), vec![UNDO, UNDO, 0x05]]) == (Err(EditRefusal::Broken { offset: 20, count: 0 }), [7; 13])
-        && edited(&[first, vec![UNDO, UNDO]]) == (Err(EditRefusal::NothingToStrike { offset: 19, count: 0 }), [7; 13])
+    edited(&[first.clone(), vec![UNDO, UNDO, 0x05]])
+        == (Err(EditRefusal::BrokenScript { offset: 20, count: 0 }), [7; 13])
+        && edited(&[first, vec![UNDO, UNDO]]) == (Err(EditRefusal::NothingToUndo { offset: 19, count: 0 }), [7; 13])
 }
 
 fn put_order() -> bool {

@@ -1,15 +1,21 @@
 //! Details of Build, Plan, Read and check.
 
-use crate::chirdaluko::{build, check, crc32, plan, read, BuildRefusal, Pools, ReadRefusal, Record};
+use crate::chirdaluko::{
+    build, check, crc32, plan, read, BuildRefusal, Pools, ReadRefusal, Record, BASE_DAY_MAX, WINDOW_SECONDS,
+};
 use crate::details::Detail;
 use crate::edit_details::NO_POOLS;
-use crate::evening::{BASE_DAY, IDENTITY};
 use crate::inputs::{chain, event, numbers};
+use crate::schedule::{BASE_DAY, IDENTITY};
 use crate::sections::{self, section};
 
-pub const ALL: [Detail; 15] = [
+pub const ALL: [Detail; 16] = [
     ("A start of 10,799 stands in section 0, one of 10,800 in section 8: segments count from midnight UTC.", segments),
-    ("The fifth day is table 0x51, and its events have the date of the base day + 4: the date comes from the start.", date),
+    (
+        "The fifth day is table 0x51, and its events have the date of the base day + 4: \
+         the date comes from the start.",
+        date,
+    ),
     ("A table of sections 0, 8 and 16 has last_section_number 16, not 3.", last_number),
     ("A table without events before the last table is one section without events, number 0.", empty_table),
     ("340 events without descriptors in one segment are two sections, of 339 and of 1.", packing),
@@ -17,18 +23,39 @@ pub const ALL: [Detail; 15] = [
     ("10 comes before 11, however short the output is.", unpackable_first),
     ("Where one segment is 255, Plan still counts the others.", other_counts),
     ("Read returns as offset of an event without descriptors the place behind the event's 12 bytes.", empty_chain),
-    ("Read with another legal base day than Build's says 24 if the file has an event, and accepts it if it has none.", base_days),
+    (
+        "Read with another legal base day than Build's says 24 if the file has an event, \
+         and accepts it if it has none.",
+        base_days,
+    ),
+    (
+        "A file's base day is its first event's date − (32 × (table_id − 0x50) + section_number ÷ 8) ÷ 8, \
+         each ÷ rounded down.",
+        base_day_found,
+    ),
     ("Read accepts segments cut early, empty segments behind the last event, and a later last_table_id.", not_asked),
     ("Read does not accept a file that leaves an empty segment out: 23 at the section behind the gap.", left_out),
-    ("A cut section is 20, and so is one byte behind the last section; a file that ends between two sections is 25.", ends),
+    (
+        "A cut section is 20, and so is one byte behind the last section; \
+         a file that ends between two sections is 25.",
+        ends,
+    ),
     ("A wrong fixed bit in a section whose CRC_32 is wrong, too, is 21.", crc_first),
-    ("Build of the records that Read returned, with the file as day pool, is the file again if Build made it.", built_again),
+    (
+        "Build of the records that Read returned, with the file as day pool, is the file again if Build made it.",
+        built_again,
+    ),
 ];
 
 /// Build's file of a list with these pools.
 pub fn file_of(records: &[Record], pools: Pools) -> Vec<u8> {
+    file_from(BASE_DAY, records, pools)
+}
+
+/// The same from another base day on.
+fn file_from(base_day: u32, records: &[Record], pools: Pools) -> Vec<u8> {
     let mut out = vec![0; 65_536];
-    let length = build(&numbers(records), records.len(), pools, BASE_DAY, IDENTITY, &mut out).expect("a file");
+    let length = build(&numbers(records), records.len(), pools, base_day, IDENTITY, &mut out).expect("a file");
     out.truncate(length);
     out
 }
@@ -103,6 +130,25 @@ fn base_days() -> bool {
         let said = check(&one, base_day);
         let is_so = if base_day == BASE_DAY { said.is_ok() } else { said == Err(ReadRefusal::EventLoop { offset: 0 }) };
         is_so && check(&none, base_day).is_ok()
+    })
+}
+
+/// The first event in the first and the last second of every segment, under the first, the last and another base day;
+/// a second event stands in the last segment.
+fn base_day_found() -> bool {
+    let last = event(2, WINDOW_SECONDS - 1);
+    let found = |file: &[u8]| {
+        let (_, section) = sections::of(file).into_iter().find(|(_, section)| section.len() > 18).expect("an event");
+        let date = u32::from(u16::from_be_bytes([section[16], section[17]]));
+        date - (32 * (u32::from(section[0]) - 0x50) + u32::from(section[6]) / 8) / 8
+    };
+    (0..WINDOW_SECONDS).step_by(10_800).flat_map(|start| [start, start + 10_799]).all(|start| {
+        let records = [event(1, start), last];
+        let records = if start < last.start { &records[..] } else { &records[..1] };
+        [0, BASE_DAY, BASE_DAY_MAX].iter().all(|&base_day| {
+            let file = file_from(base_day, records, NO_POOLS);
+            found(&file) == base_day && check(&file, base_day).is_ok()
+        })
     })
 }
 

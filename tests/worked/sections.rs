@@ -1,7 +1,7 @@
 //! Files section by section: taken apart by their lengths, and put together by hand.
 
 use crate::chirdaluko::{crc32, RECORD};
-use crate::evening::IDENTITY;
+use crate::schedule::IDENTITY;
 
 /// The sections of a file, each with its offset.
 pub fn of(file: &[u8]) -> Vec<(usize, &[u8])> {

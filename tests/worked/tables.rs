@@ -2,9 +2,9 @@
 
 use crate::chirdaluko::{check, crc32, plan, Pools, ReadRefusal, Record};
 use crate::edit_details::NO_POOLS;
-use crate::evening::BASE_DAY;
 use crate::file_details::file_of;
 use crate::inputs::{chain, event, numbers};
+use crate::schedule::BASE_DAY;
 
 const COUNTS: [[&str; 3]; 4] = [
     ["0", "", "outside its table's range: no section"],

@@ -1,12 +1,14 @@
-//! Chirdaluko from Rust: safe functions on slices over the library's C face (include/chirdaluko.h), with an enum for the answers of
-//! each call. One file, Rust 2021, standard library only; it allocates nothing. Make it a module, and link the static library:
-//! README.md, "How to link", has the commands, and docs/MANUAL.md shows every call at work.
+//! Chirdaluko from Rust: safe functions on slices over the library's C face (include/chirdaluko.h), with an enum for
+//! the answers of each call. Standard library only; it allocates nothing. It is a package that links the static library
+//! by itself (build.rs), and this file alone can be a module: README.md, "How to link", has the commands, and
+//! docs/MANUAL.md shows every call at work.
 //!
-//! What each call returns and leaves is proved. Slices keep all that the C face asks of its caller: pointers that are not null,
-//! lengths that are true, and written buffers that overlap nothing else. Any value of any argument is taken.
+//! What each call returns and leaves is proved. Slices keep all that the C face asks of its caller: pointers that are
+//! not null, lengths that are true, and written buffers that overlap nothing else. Any value of any argument is taken.
 //!
-//! An answer that is none of a call's, an unknown number or a value that its number does not come with, panics: the library is
-//! proved to return no such answer, so it is then of another version than this file, and no caller could go on from there.
+//! An answer that is none of a call's, an unknown number or a value that its number does not come with, panics: the
+//! library is proved to return no such answer, so it is then of another version than this file, and no caller could go
+//! on from there.
 //!
 //! ```
 //! use chirdaluko::{build, check, edit, read, BuildRefusal, Identity, Pools, Record};
@@ -41,12 +43,28 @@ pub const RECORD: usize = 6;
 pub const EVENTS_MAX: usize = 2_048;
 /// Numbers that hold every list.
 pub const NUMBERS_MAX: usize = RECORD * EVENTS_MAX;
-/// Segments in the sixteen tables, 32 in each.
-pub const SEGMENTS: usize = 512;
+/// A record's id.
+pub const ID_MAX: u32 = 65_535;
+/// 64 days in seconds: a record's start is below.
+pub const WINDOW_SECONDS: u32 = 5_529_600;
+/// A record's duration, 99:59:59; the least is 1.
+pub const DURATION_MAX: u32 = 359_999;
 /// The last base day: a Modified Julian Date.
 pub const BASE_DAY_MAX: u32 = 65_472;
 /// The last version.
 pub const VERSION_MAX: u8 = 31;
+/// Seconds in a segment: three hours.
+pub const SEGMENT_SECONDS: u32 = 10_800;
+/// Segments in a table: four days.
+pub const TABLE_SEGMENTS: usize = 32;
+/// Segments in the sixteen tables.
+pub const SEGMENTS: usize = 512;
+/// Sections in a segment.
+pub const SEGMENT_SECTIONS_MAX: usize = 8;
+/// Bytes in a section.
+pub const SECTION_MAX: usize = 4_096;
+/// Descriptor bytes of one event that a section can hold.
+pub const CHAIN_MAX: usize = 4_066;
 /// Bytes that hold every file.
 pub const FILE_MAX: usize = 16_777_216;
 
@@ -61,11 +79,11 @@ pub struct Pools<'a> {
 /// An event record. A list is a buffer of these as six numbers each, and a count.
 #[derive(Clone, Copy, Debug, Default, PartialEq, Eq)]
 pub struct Record {
-    /// At most 65,535.
+    /// At most [`ID_MAX`].
     pub id: u32,
-    /// Seconds after midnight UTC of the base day, below 5,529,600.
+    /// Seconds after midnight UTC of the base day, below [`WINDOW_SECONDS`].
     pub start: u32,
-    /// Seconds, 1 to 359,999.
+    /// Seconds, 1 to [`DURATION_MAX`].
     pub duration: u32,
     /// A sum of the three marks, or 0.
     pub marks: u32,
@@ -103,24 +121,54 @@ pub struct Identity {
     pub service_id: u16,
     pub transport_stream_id: u16,
     pub original_network_id: u16,
-    /// At most 31.
+    /// At most [`VERSION_MAX`].
     pub version: u8,
 }
 
-/// Why Edit says no. `offset` is that of the refused command's byte in the script, `count` the records that the list has now.
+/// The cause of a refusal in words, by its number: those of the C face's `eit_cause`.
+pub fn cause(number: u32) -> &'static str {
+    match number {
+        0 => "success",
+        1 => "the base day is above 65,472",
+        2 => "the version is above 31",
+        3 => "the script has an unknown command, or ends within a command's operands",
+        4 => "UNDO with no edit before it that is not yet struck",
+        5 => "PUT, MOVE: start, duration or marks out of range",
+        6 => "PUT: the list has the id already; WITHDRAW, MOVE: it has not",
+        7 => "PUT, MOVE: another event has the start",
+        8 => "PUT: the list is at its limit",
+        9 => "PUT: the descriptors lie outside their pool, or do not end where their part ends",
+        10 => "a segment needs a ninth section, or has an event with over 4,066 bytes of descriptors",
+        11 => "the output is shorter than the file",
+        12 => "the list is not sound",
+        20 => "a section is cut, or its table_id or section_length is out of range",
+        21 => "a section's CRC_32 is wrong",
+        22 => "a fixed bit is wrong, last_table_id is out of range, or it or the identity is not the one before",
+        23 => "a section is missing, doubled or out of order, or its table is past last_table_id",
+        24 => "a section's events break a rule",
+        25 => "the file ends before the last section of last_table_id, or is empty",
+        26 => "the file has more than 2,048 events",
+        27 => "the record buffer is shorter than six numbers for each event",
+        _ => "an unknown number: no call of this version returns it",
+    }
+}
+
+/// Why Edit says no. `offset` is that of the refused command's byte in the script, `count` the records that the list
+/// has now.
 ///
-/// `Unsound`, `Broken` and `NothingToStrike` leave the list as it was, the others as the edits before the refused one made it.
+/// `Unsound`, `BrokenScript` and `NothingToUndo` leave the list as it was, the others as the edits before the refused
+/// one made it.
 #[derive(Clone, Copy, Debug, PartialEq, Eq)]
 pub enum EditRefusal {
-    /// 12: the list is unsound.
+    /// 12: the list is not sound.
     Unsound { count: usize },
     /// 3: the script has an unknown command, or ends within a command's operands.
-    Broken { offset: usize, count: usize },
+    BrokenScript { offset: usize, count: usize },
     /// 4: UNDO with no edit before it that is not yet struck.
-    NothingToStrike { offset: usize, count: usize },
+    NothingToUndo { offset: usize, count: usize },
     /// 5: PUT, MOVE: start, duration or marks out of range.
     OutOfRange { offset: usize, count: usize },
-    /// 9: PUT: the descriptors lie outside their pool, or do not end where the part ends.
+    /// 9: PUT: the descriptors lie outside their pool, or do not end where their part ends.
     NoChain { offset: usize, count: usize },
     /// 6: PUT: the list has the id already; WITHDRAW, MOVE: it has not.
     WrongId { offset: usize, count: usize },
@@ -132,10 +180,10 @@ pub enum EditRefusal {
 
 impl EditRefusal {
     /// The number, the value and the count that the C face returns for it.
-    fn told(self) -> (u32, usize, usize) {
+    fn answer(self) -> (u32, usize, usize) {
         match self {
-            EditRefusal::Broken { offset, count } => (3, offset, count),
-            EditRefusal::NothingToStrike { offset, count } => (4, offset, count),
+            EditRefusal::BrokenScript { offset, count } => (3, offset, count),
+            EditRefusal::NothingToUndo { offset, count } => (4, offset, count),
             EditRefusal::OutOfRange { offset, count } => (5, offset, count),
             EditRefusal::WrongId { offset, count } => (6, offset, count),
             EditRefusal::StartTaken { offset, count } => (7, offset, count),
@@ -146,17 +194,17 @@ impl EditRefusal {
     }
 
     pub fn number(self) -> u32 {
-        self.told().0
+        self.answer().0
     }
 
     /// The offset of the refused command's byte; 0 for `Unsound`.
     pub fn value(self) -> usize {
-        self.told().1
+        self.answer().1
     }
 
     /// How many records the list has now.
     pub fn count(self) -> usize {
-        self.told().2
+        self.answer().2
     }
 }
 
@@ -167,16 +215,18 @@ pub enum BuildRefusal {
     BaseDay,
     /// 2: the version is above 31.
     Version,
-    /// 12: the list is unsound.
+    /// 12: the list is not sound.
     Unsound,
-    /// 10: the lowest segment index, 0 to 511, that needs a ninth section, or has an event with over 4,066 descriptor bytes.
+    /// 10: the lowest segment index, 0 to 511, that needs a ninth section, or has an event with over 4,066 bytes of
+    /// descriptors.
     Unpackable { segment: usize },
     /// 11: the output is shorter than the file, which has so many bytes.
     OutputShort { needed: usize },
 }
 
 impl BuildRefusal {
-    fn told(self) -> (u32, usize) {
+    /// The number and the value that the C face returns for it.
+    fn answer(self) -> (u32, usize) {
         match self {
             BuildRefusal::BaseDay => (1, 0),
             BuildRefusal::Version => (2, 0),
@@ -187,12 +237,12 @@ impl BuildRefusal {
     }
 
     pub fn number(self) -> u32 {
-        self.told().0
+        self.answer().0
     }
 
     /// The segment index or the bytes needed; 0 where the cause has neither.
     pub fn value(self) -> usize {
-        self.told().1
+        self.answer().1
     }
 }
 
@@ -205,13 +255,13 @@ pub enum ReadRefusal {
     Frame { offset: usize },
     /// 21: a section's CRC_32 is wrong.
     Crc { offset: usize },
-    /// 22: a fixed bit is wrong, last_table_id is not 0x50 to 0x5F, or it or the identity is not that of the section before.
+    /// 22: a fixed bit is wrong, last_table_id is out of range, or it or the identity is not the one before.
     Header { offset: usize },
     /// 23: a section is missing, doubled or out of order, or its table is past last_table_id.
     Numbering { offset: usize },
     /// 24: a section's events break a rule.
     EventLoop { offset: usize },
-    /// 26: the section has event 2,049.
+    /// 26: the file has more than 2,048 events; the section has event 2,049.
     EventLimit { offset: usize },
     /// 25: the file, of so many bytes, ends before the last section of last_table_id, or is empty.
     EarlyEnd { file_length: usize },
@@ -220,7 +270,8 @@ pub enum ReadRefusal {
 }
 
 impl ReadRefusal {
-    fn told(self) -> (u32, usize) {
+    /// The number and the value that the C face returns for it.
+    fn answer(self) -> (u32, usize) {
         match self {
             ReadRefusal::BaseDay => (1, 0),
             ReadRefusal::Frame { offset } => (20, offset),
@@ -235,12 +286,12 @@ impl ReadRefusal {
     }
 
     pub fn number(self) -> u32 {
-        self.told().0
+        self.answer().0
     }
 
     /// The section's offset, the file's length or the number of events; 0 for `BaseDay`.
     pub fn value(self) -> usize {
-        self.told().1
+        self.answer().1
     }
 }
 
@@ -285,12 +336,12 @@ impl Planned {
     }
 }
 
-/// Carries an edit script out on a list of `count` records, in place, and returns the new count. The list can come to hold as many
-/// records as its buffer has six numbers, at most 2,048. Numbers that no edit changes stay.
+/// Carries an edit script out on a list of `count` records, in place, and returns the new count. The list can come to
+/// hold as many records as its buffer has six numbers, at most [`EVENTS_MAX`]. Numbers that no edit changes stay.
 pub fn edit(list: &mut [u32], count: usize, pools: Pools, script: &[u8]) -> Result<usize, EditRefusal> {
     let Pools { day, series } = pools;
-    // Each pointer comes with the length of its own slice, and is not null even if the slice is empty. The one slice that is
-    // written overlaps no other.
+    // Each pointer comes with the length of its own slice, and is not null even if the slice is empty. The one slice
+    // that is written overlaps no other.
     let EitEdited { number, value, count } = unsafe {
         eit_edit(
             list.as_mut_ptr(),
@@ -307,8 +358,8 @@ pub fn edit(list: &mut [u32], count: usize, pools: Pools, script: &[u8]) -> Resu
     let offset = value;
     let refusal = match number {
         0 if value == count => return Ok(count),
-        3 => EditRefusal::Broken { offset, count },
-        4 => EditRefusal::NothingToStrike { offset, count },
+        3 => EditRefusal::BrokenScript { offset, count },
+        4 => EditRefusal::NothingToUndo { offset, count },
         5 => EditRefusal::OutOfRange { offset, count },
         6 => EditRefusal::WrongId { offset, count },
         7 => EditRefusal::StartTaken { offset, count },
@@ -317,14 +368,14 @@ pub fn edit(list: &mut [u32], count: usize, pools: Pools, script: &[u8]) -> Resu
         12 => EditRefusal::Unsound { count },
         _ => unknown("eit_edit", number, value),
     };
-    if refusal.told() != (number, value, count) {
+    if refusal.answer() != (number, value, count) {
         unknown("eit_edit", number, value);
     }
     Err(refusal)
 }
 
-/// Writes the file of sections of a list of `count` records to the front of `out`, and returns the file's length. The bytes behind
-/// the file stay.
+/// Writes the file of sections of a list of `count` records to the front of `out`, and returns the file's length. The
+/// bytes behind the file stay.
 pub fn build(
     list: &[u32],
     count: usize,
@@ -362,7 +413,7 @@ pub fn build(
         12 => BuildRefusal::Unsound,
         _ => unknown("eit_build", number, value),
     };
-    if refusal.told() != (number, value) {
+    if refusal.answer() != (number, value) {
         unknown("eit_build", number, value);
     }
     Err(refusal)
@@ -378,8 +429,8 @@ pub fn plan(list: &[u32], count: usize, pools: Pools, counts: &mut [u8; SEGMENTS
     }
 }
 
-/// Reads a file of sections into `records`, six numbers for each event. They are a sound list with the file as day pool. The numbers
-/// behind them stay. 12,288 numbers are always enough.
+/// Reads a file of sections into `records`, six numbers for each event. They are a sound list with the file as day
+/// pool. The numbers behind them stay. [`NUMBERS_MAX`] numbers are always enough.
 pub fn read(file: &[u8], base_day: u32, records: &mut [u32]) -> Result<Reading, ReadRefusal> {
     // As in `edit`.
     reading("eit_read", unsafe { eit_read(file.as_ptr(), file.len(), base_day, records.as_mut_ptr(), records.len()) })
@@ -413,32 +464,50 @@ fn reading(call: &str, said: EitReading) -> Result<Reading, ReadRefusal> {
         27 if call == "eit_read" => ReadRefusal::RecordsShort { events: value },
         _ => unknown(call, number, value),
     };
-    if refusal.told() != (number, value) || (count, identity) != (0, Identity::default()) {
+    if refusal.answer() != (number, value) || (count, identity) != (0, Identity::default()) {
         unknown(call, number, value);
     }
     Err(refusal)
 }
 
 fn unknown(call: &str, number: u32, value: usize) -> ! {
-    panic!("chirdaluko.rs does not know the answer {number} {value} of {call}: the library is of another version")
+    panic!("the Rust wrapper does not know the answer {number} {value} of {call}: the library is of another version")
 }
 
+/// The number, its cause in words, and what the value means.
 impl Display for EditRefusal {
     fn fmt(&self, to: &mut Formatter) -> fmt::Result {
-        let (number, value, count) = self.told();
-        write!(to, "edit refused {number} {value}, {count} records held")
+        let (number, offset, count) = self.answer();
+        write!(to, "refused {number}: {}", cause(number))?;
+        match self {
+            EditRefusal::Unsound { .. } => Ok(()),
+            _ => write!(to, " (command at offset {offset}, {count} records held)"),
+        }
     }
 }
 
+/// The number, its cause in words, and what the value means.
 impl Display for BuildRefusal {
     fn fmt(&self, to: &mut Formatter) -> fmt::Result {
-        write!(to, "build refused {} {}", self.number(), self.value())
+        write!(to, "refused {}: {}", self.number(), cause(self.number()))?;
+        match self {
+            BuildRefusal::BaseDay | BuildRefusal::Version | BuildRefusal::Unsound => Ok(()),
+            BuildRefusal::Unpackable { segment } => write!(to, " (segment {segment})"),
+            BuildRefusal::OutputShort { needed } => write!(to, " ({needed} bytes needed)"),
+        }
     }
 }
 
+/// The number, its cause in words, and what the value means.
 impl Display for ReadRefusal {
     fn fmt(&self, to: &mut Formatter) -> fmt::Result {
-        write!(to, "file refused {} {}", self.number(), self.value())
+        write!(to, "refused {}: {}", self.number(), cause(self.number()))?;
+        match self {
+            ReadRefusal::BaseDay => Ok(()),
+            ReadRefusal::EarlyEnd { file_length } => write!(to, " (the file has {file_length} bytes)"),
+            ReadRefusal::RecordsShort { events } => write!(to, " ({events} events)"),
+            _ => write!(to, " (section at offset {})", self.value()),
+        }
     }
 }
 

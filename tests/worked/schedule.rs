@@ -1,5 +1,5 @@
-//! The worked list: a programme with descriptors of its own, two with those of their series, which fill more than a section, and a
-//! programme of the fifth day.
+//! The worked list: a programme with descriptors of its own, two with those of their series, which fill more than a
+//! section, and a programme of the fifth day.
 
 use crate::chirdaluko::{Identity, Record, RECORD};
 use crate::inputs::{chain, put, shift, withdraw, UNDO};

@@ -1,0 +1,144 @@
+/* Runs each call on stacks that are too small for it, from 2 KB up in steps of 1 KB until one is large enough. Below
+ * each stack lie a page that nobody may touch and, below that, memory that must stay as it is. A call that runs out of
+ * stack is stopped at the first address that it touches in that page, and has written nothing below. */
+#define _GNU_SOURCE
+#include "chirdaluko.h"
+
+#include <signal.h>
+#include <stdio.h>
+#include <stdlib.h>
+#include <string.h>
+#include <sys/mman.h>
+#include <sys/wait.h>
+#include <ucontext.h>
+#include <unistd.h>
+
+enum { PAGE = 4096, STEP = 1024, BELOW = 1 << 20, STACK = 512 << 10, UNTOUCHED = 0xA5 };
+enum { RETURNED = 0, STOPPED = 40, ELSEWHERE = 41, OVERWRITTEN = 42 };
+enum { BASE_DAY = 49273, CHAIN = 2000, MOVES = 300000 };
+
+static uint32_t list[EIT_NUMBERS_MAX];
+static uint32_t records[EIT_NUMBERS_MAX];
+static uint8_t pool[CHAIN];
+static uint8_t script[7 * MOVES];
+static uint8_t file[EIT_FILE_MAX];
+static size_t file_length;
+static uint8_t plan[EIT_SEGMENTS];
+
+/* The memory below, the page, and the stack, which ends where the memory ends. */
+static uint8_t *memory;
+
+/* 2,048 events, sixteen in a segment, two in a section; a script, long enough to be halved, that moves each to where it
+ * is. */
+static void fill(void) {
+    for (size_t place = 0; place < CHAIN; place += 250) {
+        pool[place] = 0x4D;
+        pool[place + 1] = 248;
+    }
+    for (uint32_t place = 0; place < EIT_EVENTS_MAX; place++) {
+        uint32_t record[EIT_RECORD] = {place, place * EIT_SEGMENT_SECONDS / 16, 60, 0, 0, CHAIN};
+        memcpy(list + EIT_RECORD * place, record, sizeof record);
+    }
+    for (size_t edit = 0; edit < MOVES; edit++) {
+        uint32_t id = edit % EIT_EVENTS_MAX;
+        uint32_t start = list[EIT_RECORD * id + 1];
+        uint8_t move[7] = {EIT_MOVE, id >> 8, id & 255, start >> 24, start >> 16 & 255, start >> 8 & 255, start & 255};
+        memcpy(script + sizeof move * edit, move, sizeof move);
+    }
+}
+
+static void edit(void) {
+    eit_edit(list, EIT_NUMBERS_MAX, EIT_EVENTS_MAX, pool, CHAIN, pool, 0, script, sizeof script);
+}
+
+static void plan_list(void) {
+    eit_plan(list, EIT_NUMBERS_MAX, EIT_EVENTS_MAX, pool, CHAIN, pool, 0, plan);
+}
+
+static void build(void) {
+    file_length = eit_build(list, EIT_NUMBERS_MAX, EIT_EVENTS_MAX, pool, CHAIN, pool, 0, BASE_DAY, 1, 2, 3, 0, file,
+                            sizeof file)
+                      .value;
+}
+
+static void check(void) {
+    eit_check(file, file_length, BASE_DAY);
+}
+
+static void read_file(void) {
+    eit_read(file, file_length, BASE_DAY, records, EIT_NUMBERS_MAX);
+}
+
+static void crc(void) {
+    eit_crc32(file, file_length);
+}
+
+static void stopped(int signal, siginfo_t *info, void *context) {
+    (void)signal, (void)context;
+    uint8_t *touched = (uint8_t *)info->si_addr;
+    for (size_t place = 0; place < BELOW; place++) {
+        if (memory[place] != UNTOUCHED) {
+            _exit(OVERWRITTEN);
+        }
+    }
+    _exit(memory + BELOW <= touched && touched < memory + BELOW + PAGE ? STOPPED : ELSEWHERE);
+}
+
+/* In a process of its own: the call on a stack of so many bytes. */
+static void run(void (*call)(void), size_t stack) {
+    static uint8_t signal_stack[64 << 10];
+    stack_t alternate = {.ss_sp = signal_stack, .ss_size = sizeof signal_stack};
+    struct sigaction action = {.sa_sigaction = stopped, .sa_flags = SA_SIGINFO | SA_ONSTACK};
+    memory = mmap(NULL, BELOW + PAGE + STACK, PROT_READ | PROT_WRITE, MAP_PRIVATE | MAP_ANONYMOUS, -1, 0);
+    if (memory == MAP_FAILED || mprotect(memory + BELOW, PAGE, PROT_NONE) || sigaltstack(&alternate, NULL)
+        || sigaction(SIGSEGV, &action, NULL) || sigaction(SIGBUS, &action, NULL)) {
+        _exit(ELSEWHERE);
+    }
+    memset(memory, UNTOUCHED, BELOW);
+    static ucontext_t caller, callee;
+    getcontext(&callee);
+    callee.uc_stack = (stack_t){.ss_sp = memory + BELOW + PAGE, .ss_size = stack};
+    callee.uc_link = &caller;
+    makecontext(&callee, call, 0);
+    swapcontext(&caller, &callee);
+    _exit(RETURNED);
+}
+
+/* How the call ends on a stack of so many bytes. */
+static int ends(void (*call)(void), size_t stack) {
+    pid_t child = fork();
+    if (child == 0) {
+        run(call, stack);
+    }
+    int status;
+    if (child < 0 || waitpid(child, &status, 0) != child || !WIFEXITED(status)) {
+        return ELSEWHERE;
+    }
+    return WEXITSTATUS(status);
+}
+
+static void try(const char *name, void (*call)(void)) {
+    size_t stack = 2 * STEP;
+    int end = ends(call, stack);
+    for (; end == STOPPED && stack < STACK; end = ends(call, stack)) {
+        stack += STEP;
+    }
+    if (end != RETURNED || stack == 2 * STEP) {
+        fprintf(stderr, "overflow: %s on %zu bytes of stack: %s\n", name, stack,
+                end == OVERWRITTEN ? "memory below is overwritten" : "it is not stopped at the page below");
+        exit(1);
+    }
+    printf("%s %zu\n", name, stack);
+}
+
+int main(void) {
+    fill();
+    build();
+    try("Edit", edit);
+    try("Plan", plan_list);
+    try("Build", build);
+    try("check", check);
+    try("Read", read_file);
+    try("CRC_32", crc);
+    return 0;
+}
