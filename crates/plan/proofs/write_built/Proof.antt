@@ -9,8 +9,8 @@ use lib.ListN.{length, take}
 use lib.Seq.{length-take-le}
 use Rattle.eit.proofs.Fields.{bytes-all, bytes-take}
 use Rattle.eit.specs.Sizes.{broadcast}
+use Rattle.eit.specs.Identity.{noIdentity}
 use Rattle.eit.specs.Records.{lentList}
-use Rattle.sections.specs.Read.{noIdentity}
 use Rattle.build_answer.proofs.Inside.{built-inside}
 use Rattle.plan_listing.proofs.SizeLaws.{refused-length, listing-length}
 use Rattle.plan.specs.PlanText.{noPools, baseDay}
