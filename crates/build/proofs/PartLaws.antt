@@ -9,8 +9,9 @@ use Rattle.eit.specs.Events.{Event}
 use Rattle.eit.specs.declared.Identity.{Identity}
 use Rattle.packing.specs.Greedy.{fit, greedy}
 use Rattle.sections.specs.Segment.{tableOf, firstSection}
-use Rattle.sections.specs.Section.{Header, Section, eventSize}
+use Rattle.sections.specs.Section.{Header, versionOf, Section, eventSize}
 use Rattle.sections.specs.Count.{segmentEvents}
+use Rattle.sections.proofs.Version.{version-of}
 use Rattle.codec_section.specs.HeaderRead.{heldHeader}
 use Rattle.schedule.specs.Extent.{lastTableIdOf}
 use Rattle.schedule.specs.SectionsOf.{packed, packedSegment, segmentLast, tableLast, headerOf, numberedFrom, sectionsOfSegment}
@@ -26,19 +27,22 @@ module _ (sizes : Sizes) (identity : Identity) (es : List Event) (index : ℕ) w
       → lastId ≡ lastTableIdOf es
       → heldHeader (firstHeader index sections last lastId identity) ≡ headerOf sizes identity es index (firstSection index)
   header-is {sections} {last} {lastId} counted is-last is-id =
-      let held : ℕ → ℕ → ℕ → Header =
-      λ G L i.
+      let held : ℕ → ℕ → ℕ → ℕ → Header =
+      λ v G L i.
       record {
         tableId = tableOf index;
         sectionNumber = firstSection index;
         lastSectionNumber = L;
         segmentLastSectionNumber = G;
         lastTableId = i;
-        identity = identity;
+        triplet = identity .triplet;
+        version = v;
       } in
+      let version : ℕ = versionOf identity (tableOf index) in
       let is-number : firstSection index + (sections - 1) ≡ segmentLast sizes es index =
       ap (λ (n : ℕ). firstSection index + (n - 1)) counted ∙ sym (segment-last-is sizes es index) in
-      ap (λ (G : ℕ). held G last lastId) is-number ∙ ap₂ (held (segmentLast sizes es index)) is-last is-id
+      let is-version : identity .version ≡ version = sym (version-of identity (tableOf index)) in
+      ap₂ (λ (v G : ℕ). held v G last lastId) is-version is-number ∙ ap₂ (held version (segmentLast sizes es index)) is-last is-id
 
   -- ---- the sections
 

@@ -44,7 +44,8 @@ numbered h n =
       «last_section_number» = h .«last_section_number»;
       «segment_last_section_number» = h .«segment_last_section_number»;
       «last_table_id» = h .«last_table_id»;
-      identity = h .identity;
+      triplet = h .triplet;
+      version = h .version;
     }
 
 module _ (pools : Pools) (numbers : List ℕ) (room : ℕ) (first : SectionHeader) (sections end : ℕ) where

@@ -28,7 +28,8 @@ firstHeader index sections last lastTable identity =
       «last_section_number» = last;
       «segment_last_section_number» = firstSection index + (sections - 1);
       «last_table_id» = lastTable;
-      identity = identity;
+      triplet = identity .triplet;
+      version = identity .version;
     }
 
 -- the header of the next section of a segment
@@ -40,7 +41,8 @@ nextHeader h =
       lastSectionNumber = h .lastSectionNumber;
       segmentLastSectionNumber = h .segmentLastSectionNumber;
       lastTableId = h .lastTableId;
-      identity = h .identity;
+      triplet = h .triplet;
+      version = h .version;
     }
 
 -- n sections, the first with this header, each with as many of the next events as fit in `room` bytes

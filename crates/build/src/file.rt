@@ -118,13 +118,15 @@ fn first_header(
     ensures { λ r. ⌜ r ≡ firstHeader index sections last «last_table_id» identity ⌝ }
 {
     let number = (SEGMENT_SECTIONS * (index % TABLE_SEGMENTS)) as u8;
+    let triplet = identity.triplet;
     SectionHeader {
         table_id: (TABLE_LEAST + index / TABLE_SEGMENTS) as u8,
         section_number: number,
         last_section_number: last,
         segment_last_section_number: number + (sections - 1),
         last_table_id,
-        identity,
+        triplet,
+        version: identity.version,
     }
 }
 

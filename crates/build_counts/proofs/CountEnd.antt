@@ -11,6 +11,7 @@ use lib.ListN.{length, replicate}
 use lib.Seq.{ext-getD}
 use Rattle.eit.specs.Sizes.{Sizes}
 use Rattle.eit.specs.Limits.{startLimit}
+use Rattle.eit.specs.Identity.{noIdentity}
 use Rattle.eit.specs.Fields.{Bytes}
 use Rattle.eit.specs.Pools.{Pools}
 use Rattle.eit.specs.Records.{EventList, lentList}
@@ -27,7 +28,7 @@ use Rattle.schedule.proofs.Each.{each-length, each-at}
 use Rattle.schedule.proofs.SoundEvents.{EventFacts, SoundEvents, sound-events}
 use Rattle.schedule.proofs.Plan.{plan-sound, plan-unsound}
 use Rattle.schedule.proofs.ByIndex.{flat-plan, file-by-index, lowest-by-index}
-use Rattle.build_counts.specs.Counting.{zeroIdentity, needOf, indexOr512, countedOf}
+use Rattle.build_counts.specs.Counting.{needOf, indexOr512, countedOf}
 use Rattle.build_counts.specs.declared.count.Counted.{Counted}
 use Rattle.build_counts.proofs.WalkLaws.{heldEvents, events-are}
 use Rattle.build_counts.proofs.CountLaws.{bytes-end}
@@ -132,7 +133,7 @@ module _ (sizes : Sizes) (pools : Pools) (numbers : List ℕ) (count : ℕ) (day
         let starts : Every (λ (e : Event). e .start < startLimit) es =
         every-map (λ (e : Event) (f : EventFacts e). f .start) es (facts .facts) in
         ap (needOf sizes) (events-are pools numbers count)
-        ∙ ap sectionSizes (file-by-index sizes zeroIdentity es starts)
+        ∙ ap sectionSizes (file-by-index sizes noIdentity es starts)
         ∙ end .bytes-are
         ∙ omega (arith, bytes-end sizes es index none-left)
 

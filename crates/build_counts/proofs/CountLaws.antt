@@ -10,6 +10,7 @@ use borrow.Author.Tests.{eq-eqb, ne-eqb}
 use lib.Dec.{T, eqb}
 use lib.ListN.{length}
 use Rattle.eit.specs.Sizes.{Sizes, sectionOverhead, room}
+use Rattle.eit.specs.Identity.{noIdentity}
 use Rattle.eit.specs.Events.{Event, rising}
 use Rattle.eit.proofs.Test.{true-is, false-is, test-or}
 use Rattle.packing.specs.Greedy.{AllFit, greedy, unpackable}
@@ -27,24 +28,24 @@ use Rattle.schedule.proofs.Packable.{test-is}
 use Rattle.schedule.proofs.Best.{part-parts, parts-are}
 use Rattle.schedule.proofs.Plan.{count-outside, count-inside, count-unpackable}
 use Rattle.schedule.proofs.ByIndex.{insidePart, part-inside, part-outside}
-use Rattle.build_counts.specs.Counting.{packedSizes, packedOf, zeroIdentity}
+use Rattle.build_counts.specs.Counting.{packedSizes, packedOf}
 use Rattle.build_counts.proofs.NeedLaws.{parts-sizes}
 
 -- ---- one segment
 
 -- the bytes of a segment's sections
 abbrev pub segmentBytes : Sizes → List Event → ℕ → ℕ
-segmentBytes sizes es index = sectionSizes (insidePart sizes zeroIdentity es index)
+segmentBytes sizes es index = sectionSizes (insidePart sizes noIdentity es index)
 
 -- and of those of the segments from `index` on
 abbrev pub bytesFrom : Sizes → List Event → ℕ → ℕ
-bytesFrom sizes es index = sectionSizes (flatten (each (insidePart sizes zeroIdentity es) index (512 - index)))
+bytesFrom sizes es index = sectionSizes (flatten (each (insidePart sizes noIdentity es) index (512 - index)))
 
 pub bytes-from : (sizes : Sizes) (es : List Event) (index : ℕ) → index < 512
     → bytesFrom sizes es index ≡ segmentBytes sizes es index + bytesFrom sizes es (index + 1)
 bytes-from sizes es index few =
     let left : 512 - index ≡ suc (512 - (index + 1)) = omega arith in
-    let f : ℕ → List Section = insidePart sizes zeroIdentity es in
+    let f : ℕ → List Section = insidePart sizes noIdentity es in
     ap (λ (n : ℕ). sectionSizes (flatten (each f index n))) left
     ∙ ap sectionSizes (joined-more f index (512 - (index + 1)))
     ∙ sizes-append (f index) (flatten (each f (suc index) (512 - (index + 1))))
@@ -97,9 +98,9 @@ module _ (sizes : Sizes) (es : List Event) (rises : T (rising es)) (index : ℕ)
   pub packed-bytes : packedOf (room sizes) (segmentEvents index es) .bytes ≡ segmentBytes sizes es index
   packed-bytes =
       sym
-      (ap sectionSizes (part-inside sizes zeroIdentity es index inside)
-      ∙ parts-sizes (sectionsOfSegment sizes zeroIdentity es index)
-      ∙ ap packedSizes (part-parts sizes zeroIdentity es index ∙ parts-are sizes es index))
+      (ap sectionSizes (part-inside sizes noIdentity es index inside)
+      ∙ parts-sizes (sectionsOfSegment sizes noIdentity es index)
+      ∙ ap packedSizes (part-parts sizes noIdentity es index ∙ parts-are sizes es index))
 
 -- outside the range there is nothing to count
 module _ (sizes : Sizes) (es : List Event) (rises : T (rising es)) (index : ℕ) (outside : T (not (isInside es index))) where
@@ -111,4 +112,4 @@ module _ (sizes : Sizes) (es : List Event) (rises : T (rising es)) (index : ℕ)
       (test-or (isUnpackable sizes es index))
 
   pub bytes-outside : segmentBytes sizes es index ≡ 0
-  bytes-outside = ap sectionSizes (part-outside sizes zeroIdentity es index outside)
+  bytes-outside = ap sectionSizes (part-outside sizes noIdentity es index outside)

@@ -3,6 +3,7 @@ use mathlib.Core.Path.{_≡_, refl, sym, ap, _∙_}
 use mathlib.Core.List.{List, [], _∷_, _++_, flatten, map-append}
 use Prim.Native.Nat.{ℕ, suc, _+_, _-_, _*_}
 use Rattle.eit.specs.Sizes.{Sizes, sectionOverhead}
+use Rattle.eit.specs.Identity.{noIdentity}
 use Rattle.eit.specs.Events.{Event}
 use Rattle.eit.specs.declared.Identity.{Identity}
 use Rattle.sections.specs.Section.{Section, eventSizes, sectionSizes, eventsBySection}
@@ -12,7 +13,7 @@ use Rattle.schedule.specs.SectionsOf.{packedSegment, sectionsOfSegment, section
 use Rattle.schedule.proofs.Each.{each-same, joined-map}
 use Rattle.schedule.proofs.Held.{table-is, file-is}
 use Rattle.schedule.proofs.Best.{part-parts}
-use Rattle.build_counts.specs.Counting.{packedSizes, zeroIdentity, needOf}
+use Rattle.build_counts.specs.Counting.{packedSizes, needOf}
 
 -- the bytes of sections are those of their parts
 pub parts-sizes : (ss : List Section) → sectionSizes ss ≡ packedSizes (eventsBySection ss)
@@ -47,5 +48,5 @@ module _ (sizes : Sizes) (es : List Event) where
   unfolding needOf
   need-is identity =
       parts-sizes (sectionsOf sizes identity es)
-      ∙ ap packedSizes (file-parts identity ∙ sym (file-parts zeroIdentity))
-      ∙ sym (parts-sizes (sectionsOf sizes zeroIdentity es))
+      ∙ ap packedSizes (file-parts identity ∙ sym (file-parts noIdentity))
+      ∙ sym (parts-sizes (sectionsOf sizes noIdentity es))

@@ -6,11 +6,11 @@ use mathlib.Core.List.{List, [], _∷_, flatten}
 use mathlib.Core.Option.{Option, none, some}
 use lib.ListN.{length}
 use Rattle.eit.specs.Sizes.{Sizes, sectionOverhead}
+use Rattle.eit.specs.Identity.{noIdentity}
 use Rattle.eit.specs.Pools.{Pools}
 use Rattle.eit.specs.Records.{EventList}
 use Rattle.eit.specs.Events.{Event}
 use Rattle.eit.specs.Sound.{sound, eventsOf}
-use Rattle.eit.specs.declared.Identity.{Identity}
 use Rattle.packing.specs.Greedy.{unpackable}
 use Rattle.sections.specs.Section.{eventSize, eventSizes, sectionSizes}
 use Rattle.schedule.specs.SectionsOf.{segmentMost, packed, lowestUnpackable, sectionsOf}
@@ -31,14 +31,10 @@ packedOf room es =
       bytes = packedSizes (packed room es);
     }
 
--- an identity: a file's length is the same under every other (`need-is`)
-abbrev pub zeroIdentity : Identity
-zeroIdentity = record { «service_id» = 0; «transport_stream_id» = 0; «original_network_id» = 0; version = 0 }
-
--- the bytes that Build's file needs
+-- the bytes that Build's file needs, under `noIdentity`: under every other they are as many (`need-is`)
 unfoldable pub needOf : Sizes → List Event → ℕ
 unfolding sectionsOf
-needOf sizes es = sectionSizes (sectionsOf sizes zeroIdentity es)
+needOf sizes es = sectionSizes (sectionsOf sizes noIdentity es)
 
 -- a segment index, 512 for none
 abbrev pub indexOr512 : Option ℕ → ℕ

@@ -13,7 +13,10 @@ use Rattle.chirdaluko.specs.declared.EitReading.{EitReading}
 
 abbrev pub givenIdentity : ℕ → ℕ → ℕ → ℕ → Identity
 givenIdentity service stream network version =
-    record { «service_id» = service; «transport_stream_id» = stream; «original_network_id» = network; version = version }
+    record {
+      triplet = record { «service_id» = service; «transport_stream_id» = stream; «original_network_id» = network };
+      version = version;
+    }
 
 abbrev pub editedOf : EitEdited → List ℕ → Edited
 editedOf r buffer = record { number = r .number; value = r .value; list = lentList buffer (r .count) }

@@ -1,6 +1,7 @@
 // The face for C and Rust: numbers and slices only (include/chirdaluko.h). Each call turns an answer into document 01's numbers,
 // and has the same equation as the call behind it.
 use eit::Identity;
+use eit::Triplet;
 use read_answer::CheckedFile;
 ghost use mathlib.Core.Path.{_≡_};
 ghost use mathlib.Core.List.{flatten};
@@ -86,12 +87,12 @@ pub extern "C" fn eit_build<'a>(
         (givenIdentity «service_id» «transport_stream_id» «original_network_id» version) (now (out .entry))
         ≡ builtOf r (now (out .exit)) ⌝ }
 {
-    let identity = Identity {
+    let triplet = Triplet {
         service_id,
         transport_stream_id,
         original_network_id,
-        version,
     };
+    let identity = Identity { triplet, version };
     let said = build::build(list, count, day, series, base_day, identity, out);
     EitBuilt {
         number: build_answer::number_of(said),
@@ -121,13 +122,14 @@ fn reading_of(checked: CheckedFile) -> EitReading
 {
     let said = checked.answer;
     let identity = checked.identity;
+    let triplet = identity.triplet;
     EitReading {
         number: read_answer::number_of(said),
         value: read_answer::value_of(said),
         count: read_answer::count_of(said),
-        service_id: identity.service_id,
-        transport_stream_id: identity.transport_stream_id,
-        original_network_id: identity.original_network_id,
+        service_id: triplet.service_id,
+        transport_stream_id: triplet.transport_stream_id,
+        original_network_id: triplet.original_network_id,
         version: identity.version,
     }
 }

@@ -4,7 +4,7 @@ use Prim.Native.Nat.{ℕ, _+_, _%_, _^_, _≤_, _<_}
 use mathlib.Core.List.{List, _++_}
 use mathlib.Core.Logic.{⊎-elim}
 use mathlib.Core.Option.{none, some}
-use mathlib.Core.Path.{_≡_, ap, _∙_}
+use mathlib.Core.Path.{_≡_, refl, ap, _∙_}
 use native.Mathlib.Omega.{arith}
 use borrow.Author.Tests.{le-leb, lt-leb}
 use lib.ListN.{length}
@@ -14,7 +14,6 @@ use Rattle.eit.proofs.Test.{le-or-lt}
 use Rattle.sections.specs.Section.{headerSize}
 use Rattle.sections.specs.Encode.{lengthWord, versionByte, headerBytes}
 use Rattle.sections.specs.Decode.{headerIn}
-use Rattle.sections.proofs.HeaderBytes.{version-of}
 use Rattle.codec.specs.Write.{writeAt}
 use Rattle.codec_section.specs.HeaderRead.{heldHeader, frontBytes, restBytes, headerTold, headerRead}
 use Rattle.codec_section.specs.declared.header.SectionHeader.{SectionHeader}
@@ -23,21 +22,21 @@ use Rattle.codec.proofs.WriteLaws.{write-then}
 
 pub header-joined : (size : ℕ) (h : SectionHeader) → frontBytes size h ++ restBytes h ≡ headerBytes size (heldHeader h)
 unfolding headerBytes
-header-joined size h = rw (version-of (h .identity) (h .«table_id»))
+header-joined size h = refl
 
 module _ (d : List ℕ) (at : ℕ) (h : SectionHeader) where
   pub front-written : (size : ℕ) {d₁ d₂ d₃ d₄ : List ℕ} {word : ℕ} → at + 6 ≤ length d
       → d₁ ≡ writeAt d at (bigEndian 1 (h .«table_id»))
       → word ≡ lengthWord size % 256 ^ 2
       → d₂ ≡ writeAt d₁ (at + 1) (bigEndian 2 word)
-      → d₃ ≡ writeAt d₂ (at + 3) (bigEndian 2 (h .identity .«service_id»))
-      → d₄ ≡ writeAt d₃ (at + 5) (bigEndian 1 (versionByte (h .identity .version)))
+      → d₃ ≡ writeAt d₂ (at + 3) (bigEndian 2 (h .triplet .«service_id»))
+      → d₄ ≡ writeAt d₃ (at + 5) (bigEndian 1 (versionByte (h .version)))
       → d₄ ≡ writeAt d at (frontBytes size h)
   front-written size {d₁} fits table is-word stated service version =
       let tables : List ℕ = bigEndian 1 (h .«table_id») in
       let lengths : List ℕ = bigEndian 2 (lengthWord size) in
-      let services : List ℕ = bigEndian 2 (h .identity .«service_id») in
-      let versions : List ℕ = bigEndian 1 (versionByte (h .identity .version)) in
+      let services : List ℕ = bigEndian 2 (h .triplet .«service_id») in
+      let versions : List ℕ = bigEndian 1 (versionByte (h .version)) in
       let same : bigEndian 2 _ ≡ lengths = ap (bigEndian 2) is-word ∙ big-endian-mod 2 (lengthWord size) in
       let to-length = write-then d at tables lengths (omega arith) table (stated ∙ ap (writeAt d₁ (at + 1)) same) in
       let to-service = write-then d at (tables ++ lengths) services (omega arith) to-length service in
@@ -46,16 +45,16 @@ module _ (d : List ℕ) (at : ℕ) (h : SectionHeader) where
   pub rest-written : {d₁ d₂ d₃ d₄ d₅ d₆ : List ℕ} → at + 8 ≤ length d
       → d₁ ≡ writeAt d at (bigEndian 1 (h .«section_number»))
       → d₂ ≡ writeAt d₁ (at + 1) (bigEndian 1 (h .«last_section_number»))
-      → d₃ ≡ writeAt d₂ (at + 2) (bigEndian 2 (h .identity .«transport_stream_id»))
-      → d₄ ≡ writeAt d₃ (at + 4) (bigEndian 2 (h .identity .«original_network_id»))
+      → d₃ ≡ writeAt d₂ (at + 2) (bigEndian 2 (h .triplet .«transport_stream_id»))
+      → d₄ ≡ writeAt d₃ (at + 4) (bigEndian 2 (h .triplet .«original_network_id»))
       → d₅ ≡ writeAt d₄ (at + 6) (bigEndian 1 (h .«segment_last_section_number»))
       → d₆ ≡ writeAt d₅ (at + 7) (bigEndian 1 (h .«last_table_id»))
       → d₆ ≡ writeAt d at (restBytes h)
   rest-written fits number last stream network segment table =
       let numbers : List ℕ = bigEndian 1 (h .«section_number») in
       let lasts : List ℕ = bigEndian 1 (h .«last_section_number») in
-      let streams : List ℕ = bigEndian 2 (h .identity .«transport_stream_id») in
-      let networks : List ℕ = bigEndian 2 (h .identity .«original_network_id») in
+      let streams : List ℕ = bigEndian 2 (h .triplet .«transport_stream_id») in
+      let networks : List ℕ = bigEndian 2 (h .triplet .«original_network_id») in
       let segments : List ℕ = bigEndian 1 (h .«segment_last_section_number») in
       let tables : List ℕ = bigEndian 1 (h .«last_table_id») in
       let to-last = write-then d at numbers lasts (omega arith) number last in

@@ -23,7 +23,8 @@ heldHeader h =
       lastSectionNumber = h .«last_section_number»;
       segmentLastSectionNumber = h .«segment_last_section_number»;
       lastTableId = h .«last_table_id»;
-      identity = h .identity;
+      triplet = h .triplet;
+      version = h .version;
     }
 
 -- its bytes, in two parts (`header-joined`): table_id, section_length, service_id and version ..
@@ -31,16 +32,16 @@ abbrev pub frontBytes : ℕ → SectionHeader → List ℕ
 frontBytes size h =
     bigEndian 1 (h .«table_id»)
     ++ bigEndian 2 (lengthWord size)
-    ++ bigEndian 2 (h .identity .«service_id»)
-    ++ bigEndian 1 (versionByte (h .identity .version))
+    ++ bigEndian 2 (h .triplet .«service_id»)
+    ++ bigEndian 1 (versionByte (h .version))
 
 -- .. and the section's numbers, the other ids and last_table_id
 abbrev pub restBytes : SectionHeader → List ℕ
 restBytes h =
     bigEndian 1 (h .«section_number»)
     ++ bigEndian 1 (h .«last_section_number»)
-    ++ bigEndian 2 (h .identity .«transport_stream_id»)
-    ++ bigEndian 2 (h .identity .«original_network_id»)
+    ++ bigEndian 2 (h .triplet .«transport_stream_id»)
+    ++ bigEndian 2 (h .triplet .«original_network_id»)
     ++ bigEndian 1 (h .«segment_last_section_number»)
     ++ bigEndian 1 (h .«last_table_id»)
 

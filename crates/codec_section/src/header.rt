@@ -1,6 +1,6 @@
 // A section's header as bytes, and back (01, "The file of sections").
 use codec::fields;
-use eit::Identity;
+use eit::Triplet;
 use eit::sizes::HEADER_SIZE;
 ghost use mathlib.Core.Path.{_≡_};
 ghost use Prim.Native.Nat.{_+_, _%_, _≤_};
@@ -17,7 +17,8 @@ pub struct SectionHeader {
     pub last_section_number: u8,
     pub segment_last_section_number: u8,
     pub last_table_id: u8,
-    pub identity: Identity,
+    pub triplet: Triplet,
+    pub version: u8,
 }
 
 // What the front of a section shows.
@@ -42,11 +43,11 @@ fn write_front(out: &mut [u8], at: usize, size: usize, header: SectionHeader)
     requires { ⌜ at + 6 ≤ length (now out) ⌝ }
     ensures { λ _. ⌜ now (out .exit) ≡ writeAt (now (out .entry)) at (frontBytes size header) ⌝ }
 {
-    let identity = header.identity;
+    let triplet = header.triplet;
     fields::write_field(out, at, 1, header.table_id as usize);
     fields::write_field(out, at + 1, 2, length_word(size));
-    fields::write_field(out, at + 3, 2, identity.service_id as usize);
-    fields::write_field(out, at + 5, 1, 0xC0 + identity.version as usize * 2 + 1);
+    fields::write_field(out, at + 3, 2, triplet.service_id as usize);
+    fields::write_field(out, at + 5, 1, 0xC0 + header.version as usize * 2 + 1);
 }
 
 // The eight bytes behind them: the section's numbers, and what every section of the file has besides.
@@ -54,11 +55,11 @@ fn write_rest(out: &mut [u8], at: usize, header: SectionHeader)
     requires { ⌜ at + 8 ≤ length (now out) ⌝ }
     ensures { λ _. ⌜ now (out .exit) ≡ writeAt (now (out .entry)) at (restBytes header) ⌝ }
 {
-    let identity = header.identity;
+    let triplet = header.triplet;
     fields::write_field(out, at, 1, header.section_number as usize);
     fields::write_field(out, at + 1, 1, header.last_section_number as usize);
-    fields::write_field(out, at + 2, 2, identity.transport_stream_id as usize);
-    fields::write_field(out, at + 4, 2, identity.original_network_id as usize);
+    fields::write_field(out, at + 2, 2, triplet.transport_stream_id as usize);
+    fields::write_field(out, at + 4, 2, triplet.original_network_id as usize);
     fields::write_field(out, at + 6, 1, header.segment_last_section_number as usize);
     fields::write_field(out, at + 7, 1, header.last_table_id as usize);
 }
@@ -95,11 +96,10 @@ pub fn read_header(bytes: &[u8]) -> HeaderRead
     if bytes.len() < HEADER_SIZE {
         return HeaderRead::Short;
     }
-    let identity = Identity {
+    let triplet = Triplet {
         service_id: word_at(bytes, 3),
         transport_stream_id: word_at(bytes, 8),
         original_network_id: word_at(bytes, 10),
-        version: byte_at(bytes, 5) / 2 % 32,
     };
     HeaderRead::Header(SectionHeader {
         table_id: byte_at(bytes, 0),
@@ -107,6 +107,7 @@ pub fn read_header(bytes: &[u8]) -> HeaderRead
         last_section_number: byte_at(bytes, 7),
         segment_last_section_number: byte_at(bytes, 12),
         last_table_id: byte_at(bytes, 13),
-        identity,
+        triplet,
+        version: byte_at(bytes, 5) / 2 % 32,
     })
 }

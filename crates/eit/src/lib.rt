@@ -5,6 +5,7 @@ ghost use mathlib.Core.Bool.{_&&_};
 ghost use lib.Dec.{ltb, leb};
 ghost use Rattle.eit.specs.Limits.{startLimit, durationLeast, durationMost};
 ghost use Rattle.eit.specs.Time.{timeOf};
+ghost use Rattle.eit.specs.Identity.{noIdentity};
 
 pub mod sizes;
 
@@ -22,12 +23,32 @@ pub struct Record {
     pub chain_length: u32,
 }
 
-// 01's term: identity. It is the same in every section of a file ("The file of sections").
-pub struct Identity {
+// A DVB triplet: the ids of a service.
+pub struct Triplet {
     pub service_id: u16,
     pub transport_stream_id: u16,
     pub original_network_id: u16,
+}
+
+// 01's term: identity. It is the same in every section of a file ("The file of sections").
+pub struct Identity {
+    pub triplet: Triplet,
     pub version: u8,
+}
+
+// Ids and version 0: what a refusal of Read returns.
+pub fn no_identity() -> Identity
+    ensures { λ r. ⌜ r ≡ noIdentity ⌝ }
+{
+    let triplet = Triplet {
+        service_id: 0,
+        transport_stream_id: 0,
+        original_network_id: 0,
+    };
+    Identity {
+        triplet,
+        version: 0,
+    }
 }
 
 // A time of day or a duration, as its six BCD digits show it.

@@ -6,6 +6,7 @@ use native.Mathlib.Omega.{arith}
 use borrow.Author.Tests.{le-leb, lt-leb, eq-eqb, ne-eqb}
 use lib.ListN.{length, take, replicate, length-replicate}
 use Rattle.eit.specs.Sizes.{broadcast}
+use Rattle.eit.specs.Identity.{noIdentity}
 use Rattle.eit.specs.Overwrite.{overwrite}
 use Rattle.eit.specs.Records.{EventList, lentList}
 use Rattle.script.specs.Edit.{Edited, edit}
@@ -13,7 +14,6 @@ use Rattle.schedule.specs.Build.{Built, build}
 use Rattle.plan_listing.specs.Fill.{Fills}
 use Rattle.plan_listing.specs.Listing.{listing, refusedText, tooLong}
 use Rattle.plan_listing.proofs.FillLaws.{filled-whole, filled-same}
-use Rattle.sections.specs.Read.{noIdentity}
 use Rattle.plan.specs.PlanText.{scriptMost, outputSize, bufferSize, noPools, baseDay}
 use Rattle.plan.specs.PlanText.{builtText, listText, editedText, textWithin, planText, textMost, Written}
 

@@ -5,10 +5,10 @@ use mathlib.Core.List.{List, []}
 use lib.Dec.{eqb, leb}
 use lib.ListN.{length, replicate}
 use Rattle.eit.specs.Sizes.{broadcast}
+use Rattle.eit.specs.Identity.{noIdentity}
 use Rattle.eit.specs.Pools.{Pools, lentPools}
 use Rattle.eit.specs.Records.{EventList, lentList}
 use Rattle.script.specs.Edit.{Edited, edit}
-use Rattle.sections.specs.Read.{noIdentity}
 use Rattle.schedule.specs.Build.{Built, build, fileOf}
 use Rattle.plan_listing.specs.Fill.{Fills}
 use Rattle.plan_listing.specs.Listing.{listing, refusedText, tooLong}

@@ -1,5 +1,4 @@
 // Program plan (01, "Samples with the cuts marked"): the sections of the schedule that a script on standard input makes.
-use eit::Identity;
 use libc::STDERR_FILENO;
 use libc::STDIN_FILENO;
 use libc::STDOUT_FILENO;
@@ -29,12 +28,7 @@ fn write_built(list: &[u32], count: usize, output: &mut [u8], text: &mut [u8]) -
         Written (now (text .entry)) (listText (now (output .entry)) (lentList (now (list .entry)) count)) (now (text .exit)) r
         (4 * length (now (output .entry)) + 64) ⌝ }
 {
-    let identity = Identity {
-        service_id: 0,
-        transport_stream_id: 0,
-        original_network_id: 0,
-        version: 0,
-    };
+    let identity = eit::no_identity();
     let built = build::build(list, count, b"", b"", BASE_DAY, identity, output);
     let number = build_answer::number_of(built);
     if number != 0 {

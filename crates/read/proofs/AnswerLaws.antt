@@ -6,9 +6,10 @@ use Prim.Native.Nat.{ℕ, _*_, _/_, _≤_, _<_}
 use native.Mathlib.Omega.{arith}
 use lib.ListN.{length}
 use Rattle.eit.specs.Sizes.{broadcast}
+use Rattle.eit.specs.Identity.{noIdentity}
 use Rattle.eit.specs.Overwrite.{overwrite}
 use Rattle.eit.specs.Records.{recordSize, numbersOfAll}
-use Rattle.sections.specs.Read.{Answer, noIdentity, refusal, checkFile, fileRecords, read}
+use Rattle.sections.specs.Read.{Answer, refusal, checkFile, fileRecords, read}
 use Rattle.sections.proofs.Read.{read-refused, read-short, read-succeeds}
 use Rattle.sections.proofs.Exact.{accepted-answer}
 use Rattle.read_answer.specs.Told.{answerNumber, answerCount, told}

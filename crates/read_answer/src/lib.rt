@@ -1,7 +1,7 @@
 // What Read says: a case for each cause of 01's table ("When a call says no").
 use eit::Identity;
 ghost use mathlib.Core.Path.{_≡_};
-ghost use Rattle.sections.specs.Read.{noIdentity};
+ghost use Rattle.eit.specs.Identity.{noIdentity};
 ghost use Rattle.read_answer.specs.Told.{answerNumber, answerValue, answerCount};
 
 pub enum ReadAnswer {
@@ -39,12 +39,7 @@ pub fn refused(answer: ReadAnswer) -> CheckedFile
 {
     CheckedFile {
         answer,
-        identity: Identity {
-            service_id: 0,
-            transport_stream_id: 0,
-            original_network_id: 0,
-            version: 0,
-        },
+        identity: eit::no_identity(),
     }
 }
 

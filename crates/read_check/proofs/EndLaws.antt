@@ -4,8 +4,10 @@ use mathlib.Core.Bool.{Bool, true, false, _&&_}
 use mathlib.Core.List.{List}
 use Prim.Native.Nat.{ℕ}
 use lib.Dec.{eqb}
+use Rattle.sections.specs.Section.{headerIdentity}
 use Rattle.sections.specs.Walk.{Progress, passed}
 use Rattle.sections.specs.Read.{refusal, success, isComplete, identityOf, atEnd}
+use Rattle.codec_section.specs.HeaderRead.{heldHeader}
 use Rattle.codec_section.specs.declared.header.SectionHeader.{SectionHeader}
 use Rattle.read_checks.specs.Kept.{keptHeader}
 use Rattle.read_checks.specs.declared.header.Kept.the-variants.{Header as Behind, Nothing}
@@ -30,6 +32,6 @@ module _ {offset : ℕ} {state : WalkState} {words : List ℕ} {p : Progress} (t
 
     pub ends-whole :
         (eqb (last .«section_number») (last .«last_section_number») && eqb (last .«table_id») (last .«last_table_id»)) ≡ true
-        → atEnd size (passed p) ≡ success (last .identity) (state .count)
+        → atEnd size (passed p) ≡ success (headerIdentity (heldHeader last)) (state .count)
     ends-whole holds =
         rw (atEnd, complete holds) (ap₂ success (ap identityOf (tracks .before-is ∙ ap keptHeader is)) (tracks .count-is))

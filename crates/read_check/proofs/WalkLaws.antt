@@ -8,9 +8,10 @@ use native.Mathlib.Omega.{arith}
 use lib.ListN.{length, drop, replicate}
 use Rattle.eit.specs.Sizes.{Sizes}
 use Rattle.eit.specs.Limits.{baseMost}
+use Rattle.eit.specs.Identity.{noIdentity}
 use Rattle.sections.specs.Decode.{cutFile}
 use Rattle.sections.specs.Walk.{Progress, atStart, passed, refused, step, walk}
-use Rattle.sections.specs.Read.{noIdentity, atEnd, checkFile}
+use Rattle.sections.specs.Read.{atEnd, checkFile}
 use Rattle.read_walk.specs.SectionAt.{sectionAt, sectionEnd}
 use Rattle.read_walk.proofs.SectionAtLaws.{walk-end, walk-next, end-inside, end-is}
 use Rattle.read_checks.specs.declared.header.Kept.the-variants.{Nothing}

@@ -2,6 +2,7 @@
 use crate::section;
 use crate::section::SectionVerdict;
 use crate::section::WalkState;
+use eit::Identity;
 use eit::sizes::BASE_DAY_MOST;
 use eit::sizes::ID_WORDS;
 use read_answer::CheckedFile;
@@ -28,7 +29,11 @@ fn at_end(state: WalkState, size: usize) -> CheckedFile
     if last.section_number != last.last_section_number || last.table_id != last.last_table_id {
         return read_answer::refused(ReadAnswer::EarlyEnd(size));
     }
-    let identity = last.identity;
+    let triplet = last.triplet;
+    let identity = Identity {
+        triplet,
+        version: last.version,
+    };
     CheckedFile {
         answer: ReadAnswer::Done(state.count),
         identity,

@@ -4,11 +4,10 @@ use codec::fields;
 use codec_section::header;
 use codec_section::header::HeaderRead;
 use codec_section::header::SectionHeader;
-use eit::Identity;
+use eit::Triplet;
 ghost use mathlib.Core.Path.{_≡_};
-ghost use Prim.Native.Nat.{ℕ};
 ghost use Rattle.codec_section.specs.HeaderRead.{heldHeader};
-ghost use Rattle.sections.specs.JudgeHeader.{hasFixedBits, isIdentity, isSameFile};
+ghost use Rattle.sections.specs.JudgeHeader.{hasFixedBits, isTriplet, isSameFile};
 ghost use Rattle.read_checks.specs.Kept.{keptHeader, checkedHeader};
 
 // The header of the section before, or of a section that passes.
@@ -26,24 +25,24 @@ fn has_fixed_bits(section: &[u8]) -> bool
     fields::read_field(section, 1, 2) / 0x1000 == 0xF && version / 64 == 3 && version % 2 == 1
 }
 
-// Whether a section shows the identity of the file.
-fn is_identity(shown: Identity, identity: Identity) -> bool
-    ensures { λ r. ⌜ ((table : ℕ) → r ≡ isIdentity table identity shown) ⌝ }
+// Whether the triplet that a section shows is this one.
+fn is_triplet(shown: Triplet, triplet: Triplet) -> bool
+    ensures { λ r. ⌜ r ≡ isTriplet triplet shown ⌝ }
 {
-    shown.service_id == identity.service_id
-        && shown.transport_stream_id == identity.transport_stream_id
-        && shown.original_network_id == identity.original_network_id
-        && shown.version == identity.version
+    shown.service_id == triplet.service_id
+        && shown.transport_stream_id == triplet.transport_stream_id
+        && shown.original_network_id == triplet.original_network_id
 }
 
-// Identity and last_table_id are those of the section before.
+// Triplet, version and last_table_id are those of the section before.
 fn is_same_file(before: Kept, header: SectionHeader) -> bool
     ensures { λ r. ⌜ r ≡ isSameFile (keptHeader before) (heldHeader header) ⌝ }
 {
     match before {
         Kept::Nothing => true,
         Kept::Header(last) => {
-            is_identity(header.identity, last.identity)
+            is_triplet(header.triplet, last.triplet)
+                && header.version == last.version
                 && header.last_table_id == last.last_table_id
         }
     }

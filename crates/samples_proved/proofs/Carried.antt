@@ -6,7 +6,7 @@ use Rattle.eit.specs.Sizes.{broadcast}
 use Rattle.eit.specs.Crc.{crc32}
 use Rattle.eit.specs.Records.{recordsOf}
 use Rattle.eit.specs.Sound.{sound, eventsOf}
-use Rattle.sections.specs.Encode.{versionOf}
+use Rattle.sections.specs.Section.{versionOf}
 use Rattle.schedule.specs.Build.{build}
 use Rattle.schedule.specs.Given.{Given, Carries}
 use Rattle.schedule.specs.ExampleLists.{row, bare}
@@ -26,7 +26,11 @@ nothing =
       seriesBytes = tt;
       isSound = tt;
       legalBase = omega arith;
-      legalIdentity = record { service = omega arith; stream = omega arith; network = omega arith; version = omega arith };
+      legalIdentity =
+          record {
+            tripletRules = record { service = omega arith; stream = omega arith; network = omega arith };
+            version = omega arith;
+          };
     }
 
 pub carried : Carries nothing emptyFile

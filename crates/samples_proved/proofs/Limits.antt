@@ -6,7 +6,7 @@ use Rattle.eit.specs.Pools.{choose}
 use Rattle.eit.specs.Records.{recordsOf}
 use Rattle.eit.specs.Events.{follows}
 use Rattle.eit.specs.Sound.{sound, eventsOf}
-use Rattle.sections.specs.Encode.{versionOf}
+use Rattle.sections.specs.Section.{versionOf}
 use Rattle.schedule.specs.Plan.{plan}
 use Rattle.schedule.specs.Build.{build}
 use Rattle.schedule.specs.ExampleLists.{row}

@@ -12,8 +12,7 @@ use Rattle.eit.specs.Sound.{sound, eventsOf}
 use Rattle.script.specs.Form.{formOf}
 use Rattle.script.specs.Struck.{unstruckIn}
 use Rattle.script.specs.Edit.{edit}
-use Rattle.sections.specs.Section.{eventOverhead}
-use Rattle.sections.specs.Encode.{versionOf}
+use Rattle.sections.specs.Section.{versionOf, eventOverhead}
 use Rattle.schedule.specs.Plan.{plan}
 use Rattle.schedule.specs.Build.{build}
 use Rattle.schedule.specs.ExampleLists.{row, bare}

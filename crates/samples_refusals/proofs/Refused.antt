@@ -3,7 +3,6 @@ use mathlib.Core.Path.{refl}
 use Rattle.eit.specs.Crc.{crc32}
 use Rattle.eit.specs.Chain.{isChain}
 use Rattle.eit.specs.Events.{follows}
-use Rattle.sections.specs.Encode.{versionOf}
 use Rattle.sections.specs.JudgeHeader.{isFramed, isClosed, isHeader, isInPlace}
 use Rattle.sections.specs.JudgeEvents.{isEvent, isEventLoop, isWithinLimit}
 use Rattle.sections.specs.Read.{read}
@@ -11,7 +10,7 @@ use Rattle.samples_refusals.specs.Refusals.{Refusals}
 use Rattle.samples_refusals.specs.EventRefusals.{EventRefusals}
 
 pub refusals : Refusals
-unfolding read versionOf isFramed isClosed isHeader isInPlace isEvent isEventLoop isWithinLimit crc32 isChain follows
+unfolding read isFramed isClosed isHeader isInPlace isEvent isEventLoop isWithinLimit crc32 isChain follows
 refusals =
     record {
       base = refl;
@@ -55,7 +54,7 @@ refusals =
     }
 
 pub event-refusals : EventRefusals
-unfolding read versionOf isFramed isClosed isHeader isInPlace isEvent isEventLoop isWithinLimit crc32 isChain follows
+unfolding read isFramed isClosed isHeader isInPlace isEvent isEventLoop isWithinLimit crc32 isChain follows
 event-refusals =
     record {
       event-kept = refl;

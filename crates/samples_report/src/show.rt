@@ -1,6 +1,7 @@
 // What the calls say of a list.
 use crate::lines;
 use eit::Identity;
+use eit::Triplet;
 ghost use mathlib.Core.Path.{_≡_};
 ghost use Prim.Native.Nat.{_≤_};
 ghost use lib.ListN.{length};
@@ -15,10 +16,13 @@ const FILE_SIZE: usize = 65_536;
 
 // Service, stream and network 1, 2 and 3.
 fn identity() -> Identity {
-    Identity {
+    let triplet = Triplet {
         service_id: 1,
         transport_stream_id: 2,
         original_network_id: 3,
+    };
+    Identity {
+        triplet,
         version: 0,
     }
 }

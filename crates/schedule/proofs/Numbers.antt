@@ -115,7 +115,8 @@ module _ (sizes : Sizes) (identity : Identity) (es : List Event) where
   header-keeps index S table inside least most =
       let s0 : firstOf S ≡ firstSection index = first-is index S least most in
       record {
-        sameIdentity = refl;
+        sameTriplet = refl;
+        sameVersion = refl;
         sameLastTable = refl;
         least = omega arith;
         most = omega arith;

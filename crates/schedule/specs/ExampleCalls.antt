@@ -14,7 +14,7 @@ use Rattle.schedule.specs.ExampleLists.{Case}
 
 -- an identity
 abbrev pub versioned : ℕ → Identity
-versioned version = record { «service_id» = 1; «transport_stream_id» = 2; «original_network_id» = 3; version = version }
+versioned version = record { triplet = record { «service_id» = 1; «transport_stream_id» = 2; «original_network_id» = 3 }; version = version }
 
 -- Build under a base day and a version, into an output
 abbrev pub buildWith : Sizes → Case → ℕ → ℕ → List ℕ → Built

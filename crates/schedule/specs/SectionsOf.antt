@@ -10,7 +10,7 @@ use Rattle.eit.specs.Events.{Event}
 use Rattle.eit.specs.declared.Identity.{Identity}
 use Rattle.packing.specs.Greedy.{reach, greedy, unpackable}
 use Rattle.sections.specs.Segment.{tableOf, firstSection}
-use Rattle.sections.specs.Section.{Header, Section, eventSize}
+use Rattle.sections.specs.Section.{Header, versionOf, Section, eventSize}
 use Rattle.sections.specs.Count.{segmentEvents}
 use Rattle.schedule.specs.Each.{each, lowest}
 use Rattle.schedule.specs.Extent.{tableSegments, lastIndex, lastTable, lastTableIdOf, lastSegment}
@@ -62,7 +62,8 @@ module _ (sizes : Sizes) (identity : Identity) (es : List Event) where
         lastSectionNumber = tableLast sizes es (index / tableSegments);
         segmentLastSectionNumber = segmentLast sizes es index;
         lastTableId = lastTableIdOf es;
-        identity = identity;
+        triplet = identity .triplet;
+        version = versionOf identity (tableOf index);
       }
 
   -- sections with these events, numbered from S on

@@ -17,6 +17,7 @@ use Rattle.sections.specs.JudgeHeader.{isSameFile, isNext}
 use Rattle.sections.specs.JudgeEvents.{areNew}
 use Rattle.sections.specs.Walk.{Progress, atStart, behindAll}
 use Rattle.sections.specs.Read.{isComplete, identityOf}
+use Rattle.sections.proofs.Version.{versions-same, identity-shown}
 use Rattle.sections.proofs.SameFile.{file-same}
 use Rattle.sections.proofs.Numbering.{first-is, next-is, last-is}
 use Rattle.sections.proofs.Order.{seen-length, new-parts}
@@ -62,16 +63,22 @@ module _ (sizes : Sizes) (base : ℕ) (identity : Identity) (lastTableId : ℕ) 
   unfolding sectionEvents
   accepts [] p s rules same next succeeding new few =
       let (first, others) = new-parts (p .seen) (s .events) [] new in
+      let this = rules .0 .headerRules in
+      let shown = identity-shown identity (s .header .tableId) (s .header) (this .sameTriplet) (this .sameVersion) in
       accepts-one p s [] (rules .0) same next first (omega (arith, length-append (s .events) []))
-      (record { all = tt; complete = last-is (s .header) succeeding; same = rules .0 .headerRules .sameIdentity })
+      (record { all = tt; complete = last-is (s .header) succeeding; same = shown })
   accepts (t ∷ ss) p s rules same next succeeding new few =
       let this = rules .0 .headerRules in
       let that = rules .1 .0 .headerRules in
       let (first, others) = new-parts (p .seen) (s .events) (sectionEvents (t ∷ ss)) new in
       let count = length-append (s .events) (sectionEvents (t ∷ ss)) in
       let file =
-      file-same (s .header) (t .header) (that .sameIdentity ∙ sym (this .sameIdentity))
-      (that .sameLastTable ∙ sym (this .sameLastTable)) in
+      file-same (s .header) (t .header) (record {
+        triplet = that .sameTriplet ∙ sym (this .sameTriplet);
+        version =
+            that .sameVersion ∙ versions-same identity (t .header .tableId) (s .header .tableId) ∙ sym (this .sameVersion);
+        lastTable = that .sameLastTable ∙ sym (this .sameLastTable);
+      }) in
       let behind = next-is (s .header) (t .header) (this .numbered) (succeeding .0) in
       accepts-one p s (map (sectionBytes base) (t ∷ ss)) (rules .0) same next first (omega arith)
       (accepts ss (knownBehind p s) t (rules .1) file behind (succeeding .1) others

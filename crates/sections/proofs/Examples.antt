@@ -6,7 +6,7 @@ use Rattle.eit.specs.Crc.{crc32}
 use Rattle.eit.specs.Chain.{isChain}
 use Rattle.eit.specs.Events.{follows}
 use Rattle.sections.specs.Section.{sectionEvents}
-use Rattle.sections.specs.Encode.{versionOf, fileBytes}
+use Rattle.sections.specs.Encode.{fileBytes}
 use Rattle.sections.specs.JudgeHeader.{isFramed, isClosed, isHeader, isInPlace}
 use Rattle.sections.specs.JudgeEvents.{isEvent, isEventLoop, isWithinLimit}
 use Rattle.sections.specs.Count.{sectionsCounted, eventsCounted}
@@ -15,7 +15,7 @@ use Rattle.sections.specs.Examples.{Examples}
 use Rattle.sections.specs.Broken.{Broken}
 
 pub examples : Examples
-unfolding read versionOf isFramed isClosed isHeader isInPlace isEvent isEventLoop isWithinLimit crc32 isChain follows fileBytes sectionsCounted eventsCounted
+unfolding read isFramed isClosed isHeader isInPlace isEvent isEventLoop isWithinLimit crc32 isChain follows fileBytes sectionsCounted eventsCounted
 examples =
     record {
       places = (refl, refl, refl, refl, refl, refl);

@@ -14,7 +14,7 @@ use Rattle.eit.specs.declared.Identity.{Identity}
 use Rattle.eit.proofs.Test.{tests}
 use Rattle.eit.proofs.Fields.{bytes-parts}
 use Rattle.sections.specs.Every.{Every}
-use Rattle.sections.specs.Section.{Header, Section, headersOf, sectionEvents}
+use Rattle.sections.specs.Section.{Header, headerIdentity, Section, headersOf, sectionEvents}
 use Rattle.sections.specs.Encode.{sectionBytes}
 use Rattle.sections.specs.Decode.{headerIn, eventIn, cutEvents, sectionIn}
 use Rattle.sections.specs.Rules.{Numbered, Next, Succeeding, SectionRules, Rules}
@@ -22,7 +22,7 @@ use Rattle.sections.specs.JudgeHeader.{isHeader, isInPlace}
 use Rattle.sections.specs.JudgeEvents.{areNew, isEventLoop, isWithinLimit}
 use Rattle.sections.specs.Walk.{Progress, atStart, behind, behindAll}
 use Rattle.sections.specs.Read.{isComplete, identityOf}
-use Rattle.sections.proofs.SameFile.{same-file}
+use Rattle.sections.proofs.SameFile.{SameFile, same-file}
 use Rattle.sections.proofs.Numbering.{is-first, is-next, is-last}
 use Rattle.sections.proofs.Order.{InOrder, seen-length, new-order, new-append}
 use Rattle.sections.proofs.Walk.{AllPass}
@@ -82,9 +82,9 @@ module _ (sizes : Sizes) (base : ℕ) where
   -- those behind it
   record RulesBehind (g : Header) (xs : List (List ℕ)) (end : Progress) : Type 0 where
     bytes : map (sectionBytes base) (shown base xs) ≡ xs
-    rules : Every (SectionRules sizes (g .identity) (g .lastTableId)) (shown base xs)
+    rules : Every (SectionRules sizes (headerIdentity g) (g .lastTableId)) (shown base xs)
     succeeding : Succeeding g (headersOf (shown base xs))
-    identity : identityOf (end .before) ≡ g .identity
+    identity : identityOf (end .before) ≡ headerIdentity g
 
   behind-forth : (offset : ℕ) (g : Header) (seen : List Event) (xs : List (List ℕ))
       → Bytes (flatten xs)
@@ -103,12 +103,14 @@ module _ (sizes : Sizes) (base : ℕ) where
       let this : Shown sizes base bs = section-forth sizes base p bs first (all .0) in
       let header = all .0 .header in
       let place = all .0 .place in
-      let (sameIdentity, sameLast) = same-file g h (search tests) in
+      let same : SameFile g h = same-file g h (search tests) in
+      let sameIdentity : headerIdentity h ≡ headerIdentity g =
+      (λ i. record { triplet = same .triplet i; version = same .version i }) in
       let next : Next g h = is-next g h numbered (search tests) in
       let behind = behind-forth (q .offset) h (q .seen) rest others (this .rules .headerRules .numbered) (all .1) complete in
       record {
         bytes = λ i. this .bytes i ∷ behind .bytes i;
-        rules = same-rules (shown base (bs ∷ rest)) sameIdentity sameLast (this .rules, behind .rules);
+        rules = same-rules (shown base (bs ∷ rest)) sameIdentity (same .lastTable) (this .rules, behind .rules);
         succeeding = (next, behind .succeeding);
         identity = behind .identity ∙ sameIdentity;
       }

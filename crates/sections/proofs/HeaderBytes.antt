@@ -1,7 +1,7 @@
 -- A header that fits comes back from its 14 bytes, and 14 bytes with the fixed bits are those of the header that they show: field by
 -- field, where section_length and the version share their bytes with fixed bits by arithmetic.
 -- Assumes nothing.
-use mathlib.Core.Path.{_≡_, refl, ap, _∙_}
+use mathlib.Core.Path.{_≡_, ap, _∙_}
 use Prim.Native.Nat.{ℕ, _+_, _-_, _/_, _%_, _^_, _≤_, _<_}
 use native.Mathlib.Nat.{add-sub-of-le}
 use native.Mathlib.Omega.{arith}
@@ -17,26 +17,23 @@ use Rattle.eit.proofs.Fields.{value-back, field-fits, field-forth}
 use Rattle.eit.proofs.Test.{and-parts}
 use Rattle.sections.specs.Segment.{tableMost}
 use Rattle.sections.specs.Section.{Header}
-use Rattle.sections.specs.Encode.{versionOf, lengthWord, versionByte, headerBytes}
+use Rattle.sections.specs.Encode.{lengthWord, versionByte, headerBytes}
 use Rattle.sections.specs.Decode.{statedSectionSize, headerIn}
 use Rattle.sections.specs.JudgeHeader.{hasFixedBits}
-use Rattle.sections.specs.Rules.{IdentityRules, HeaderRules}
+use Rattle.sections.specs.Rules.{TripletRules, IdentityRules, HeaderRules}
+use Rattle.sections.proofs.Version.{version-fits}
 
 -- ---- headers that fit
 
--- the fields have a byte each, and the identity's fit theirs
+-- the numbers have a byte each, and triplet and version fit their fields
 pub record HeaderFits (h : Header) : Type 0 where
   pub table : h .tableId < 256
   pub number : h .sectionNumber < 256
   pub last : h .lastSectionNumber < 256
   pub segmentLast : h .segmentLastSectionNumber < 256
   pub lastTable : h .lastTableId < 256
-  pub identityRules : IdentityRules (h .identity)
-
--- versions do not differ between tables
-pub version-of : (identity : Identity) (table : ℕ) → versionOf identity table ≡ identity .version
-unfolding versionOf
-version-of identity table = refl
+  pub tripletRules : TripletRules (h .triplet)
+  pub version : h .version ≤ versionMost
 
 -- a header that keeps the rules fits
 pub rules-fit : (identity : Identity) (lastTableId : ℕ) (h : Header)
@@ -52,7 +49,8 @@ rules-fit identity lastTableId h known most rules =
       last = rules .byte;
       segmentLast = omega (arith, n .table, rules .byte);
       lastTable = omega (arith, rules .sameLastTable);
-      identityRules = rw (rules .sameIdentity) known;
+      tripletRules = rw (rules .sameTriplet) (known .tripletRules);
+      version = rw (rules .sameVersion) (version-fits identity (h .tableId) known);
     }
 
 -- ---- fields that share their bytes with fixed bits
@@ -108,26 +106,25 @@ byte-back n few = value-back 1 n few
 pub header-back : (size : ℕ) (h : Header) (rest : List ℕ) → HeaderFits h → headerIn (headerBytes size h ++ rest) ≡ h
 unfolding headerBytes
 header-back size h rest fits =
-    let i = h .identity in
-    let rules = fits .identityRules in
-    let v : ℕ = versionOf i (h .tableId) in
-    let same : v ≡ i .version = version-of i (h .tableId) in
-    let most : v ≤ versionMost = rw same (rules .version) in
+    let t = h .triplet in
+    let rules = fits .tripletRules in
+    let v : ℕ = h .version in
+    let most : v ≤ versionMost = fits .version in
     let byte : valueOf (bigEndian 1 (versionByte v)) ≡ versionByte v = byte-back (versionByte v) (version-byte v most) in
-    let version : valueOf (bigEndian 1 (versionByte v)) / 2 % 32 ≡ i .version = rw byte (version-back v most ∙ same) in
+    let version : valueOf (bigEndian 1 (versionByte v)) / 2 % 32 ≡ v = rw byte (version-back v most) in
     λ k. record {
       tableId = byte-back (h .tableId) (fits .table) k;
       sectionNumber = byte-back (h .sectionNumber) (fits .number) k;
       lastSectionNumber = byte-back (h .lastSectionNumber) (fits .last) k;
       segmentLastSectionNumber = byte-back (h .segmentLastSectionNumber) (fits .segmentLast) k;
       lastTableId = byte-back (h .lastTableId) (fits .lastTable) k;
-      identity =
+      triplet =
           record {
-            «service_id» = value-back 2 (i .«service_id») (rules .service) k;
-            «transport_stream_id» = value-back 2 (i .«transport_stream_id») (rules .stream) k;
-            «original_network_id» = value-back 2 (i .«original_network_id») (rules .network) k;
-            version = version k;
+            «service_id» = value-back 2 (t .«service_id») (rules .service) k;
+            «transport_stream_id» = value-back 2 (t .«transport_stream_id») (rules .stream) k;
+            «original_network_id» = value-back 2 (t .«original_network_id») (rules .network) k;
           };
+      version = version k;
     }
 
 length-back : (size : ℕ) → size - 3 < 0x1000 → valueOf (bigEndian 2 (lengthWord size)) ≡ lengthWord size
@@ -148,16 +145,15 @@ header-stated size h rest least most =
 pub header-fixed : (size : ℕ) (h : Header) (rest : List ℕ)
     → 3 ≤ size
     → size < 0x1003
-    → h .identity .version ≤ versionMost
+    → h .version ≤ versionMost
     → T (hasFixedBits (headerBytes size h ++ rest))
 unfolding headerBytes
 header-fixed size h rest least most known =
-    let v : ℕ = versionOf (h .identity) (h .tableId) in
-    let few-versions : v ≤ versionMost = rw (version-of (h .identity) (h .tableId)) known in
+    let v : ℕ = h .version in
     let few : size - 3 < 0x1000 = omega arith in
     let word : valueOf (bigEndian 2 (lengthWord size)) ≡ lengthWord size = length-back size few in
-    let byte : valueOf (bigEndian 1 (versionByte v)) ≡ versionByte v = byte-back (versionByte v) (version-byte v few-versions) in
-    let (high, low) = version-fixed v few-versions in
+    let byte : valueOf (bigEndian 1 (versionByte v)) ≡ versionByte v = byte-back (versionByte v) (version-byte v known) in
+    let (high, low) = version-fixed v known in
     fixed-bits (valueOf (bigEndian 2 (lengthWord size))) (valueOf (bigEndian 1 (versionByte v)))
     (rw word (length-word (size - 3) few .1))
     (rw byte high)
@@ -181,23 +177,17 @@ module _ (bs : List ℕ) (bytes : Bytes bs) (enough : 14 ≤ length bs) where
         last = fits 7 1 (omega arith);
         segmentLast = fits 12 1 (omega arith);
         lastTable = fits 13 1 (omega arith);
-        identityRules =
-            record {
-              service = fits 3 2 (omega arith);
-              stream = fits 8 2 (omega arith);
-              network = fits 10 2 (omega arith);
-              version = version-most (field 5 1 bs);
-            };
+        tripletRules =
+            record { service = fits 3 2 (omega arith); stream = fits 8 2 (omega arith); network = fits 10 2 (omega arith) };
+        version = version-most (field 5 1 bs);
       }
 
   length-forth : field 1 2 bs / 0x1000 ≡ 0xF → bigEndian 2 (lengthWord (statedSectionSize bs)) ≡ bytesAt 1 2 bs
   length-forth fixed = ap (bigEndian 2) (length-word-only (field 1 2 bs) fixed) ∙ forth 1 2 (omega arith)
 
   version-forth : field 5 1 bs / 64 ≡ 3 → field 5 1 bs % 2 ≡ 1
-      → bigEndian 1 (versionByte (versionOf (headerIn bs .identity) (headerIn bs .tableId))) ≡ bytesAt 5 1 bs
-  version-forth high low =
-      ap (λ (v : ℕ). bigEndian 1 (versionByte v)) (version-of (headerIn bs .identity) (headerIn bs .tableId))
-      ∙ ap (bigEndian 1) (version-only (field 5 1 bs) high low) ∙ forth 5 1 (omega arith)
+      → bigEndian 1 (versionByte (headerIn bs .version)) ≡ bytesAt 5 1 bs
+  version-forth high low = ap (bigEndian 1) (version-only (field 5 1 bs) high low) ∙ forth 5 1 (omega arith)
 
   -- 14 bytes with the fixed bits are those of the header that they show
   pub header-forth : T (hasFixedBits bs) → headerBytes (statedSectionSize bs) (headerIn bs) ≡ take 14 bs

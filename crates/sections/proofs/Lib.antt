@@ -1,5 +1,7 @@
 -- a property of every element of a list
 pub mod Every
+-- the version that an identity has for a table
+pub mod Version
 -- how long the bytes of events, sections and files are
 pub mod Lengths
 -- the bytes of events and of sections in a row
@@ -12,7 +14,7 @@ pub mod EventBytes
 pub mod EventLoop
 -- a section's header and its bytes
 pub mod HeaderBytes
--- Read's test of identity and last_table_id
+-- Read's test of triplet, version and last_table_id
 pub mod SameFile
 -- Read's tests of numbering and the rules
 pub mod Numbering

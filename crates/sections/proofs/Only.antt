@@ -14,8 +14,8 @@ use Rattle.eit.specs.declared.Identity.{Identity}
 use Rattle.eit.proofs.Test.{test-or, le-or-lt}
 use Rattle.sections.specs.Every.{Every}
 use Rattle.sections.specs.Segment.{tableLeast}
-use Rattle.sections.specs.Section.{Header, Section, headersOf, eventsBySection}
-use Rattle.sections.specs.Rules.{Numbered, Next, Succeeding, SectionRules, Rules}
+use Rattle.sections.specs.Section.{Header, versionOf, Section, headersOf, eventsBySection}
+use Rattle.sections.specs.Rules.{Numbered, Next, Succeeding, HeaderRules, SectionRules, Rules}
 use Rattle.sections.specs.Count.{isInFirst, segmentSections}
 use Rattle.sections.proofs.FileSize.{sectionPlace, next-later}
 use Rattle.sections.proofs.Count.{index-of, in-first, first-in, first-more, first-same}
@@ -139,17 +139,19 @@ same-section : (s t : Section) → Level (s .header) (t .header)
     → s .header .segmentLastSectionNumber ≡ t .header .segmentLastSectionNumber
     → s .header .lastSectionNumber ≡ t .header .lastSectionNumber
     → s .header .lastTableId ≡ t .header .lastTableId
-    → s .header .identity ≡ t .header .identity
+    → s .header .triplet ≡ t .header .triplet
+    → s .header .version ≡ t .header .version
     → s .events ≡ t .events
     → s ≡ t
-same-section s t (table, section) segmentLast last lastTable identity events = λ i. record {
+same-section s t (table, section) segmentLast last lastTable triplet version events = λ i. record {
   header = record {
     tableId = table i;
     sectionNumber = section i;
     lastSectionNumber = last i;
     segmentLastSectionNumber = segmentLast i;
     lastTableId = lastTable i;
-    identity = identity i;
+    triplet = triplet i;
+    version = version i;
   };
   events = events i;
 }
@@ -191,6 +193,12 @@ module _ (sizes : Sizes) (identity : Identity) where
 
     abbrev Theirs : Section → Type 0
     Theirs t = SectionRules sizes identity m t
+
+    -- at the same place they have the same version
+    same-version : (s t : Section) → Level (s .header) (t .header)
+        → HeaderRules identity l (s .header) → HeaderRules identity m (t .header)
+        → s .header .version ≡ t .header .version
+    same-version s t level g h = g .sameVersion ∙ ap (versionOf identity) (level .0) ∙ sym (h .sameVersion)
 
     -- the next sections are at the same place too
     next-level : (s t s' t' : Section) (ss ts : List Section) → Level (s .header) (t .header)
@@ -237,7 +245,8 @@ module _ (sizes : Sizes) (identity : Identity) where
         ) in
         ap (λ (u : Section). u ∷ [])
         (same-section s t level numbers (omega (arith, one .section, other .section)) (omega (arith, one .table, other .table))
-        (g .sameIdentity ∙ sym (h .sameIdentity))
+        (g .sameTriplet ∙ sym (h .sameTriplet))
+        (same-version s t level g h)
         (heads-same s t [] [] level agree (g .least) (byte-number sizes identity l 0 s (ours .0))))
     sections-from s t (s' ∷ ss) [] level ours theirs one other agree =
         let rests : Agree (s' ∷ ss) [] = rests-agree s t (s' ∷ ss) [] level agree in
@@ -261,7 +270,8 @@ module _ (sizes : Sizes) (identity : Identity) where
         g .sameLastTable ∙ sym (ours .1 .0 .headerRules .sameLastTable) ∙ ap (λ (u : Header). u .lastTableId) header
         ∙ theirs .1 .0 .headerRules .sameLastTable ∙ sym (h .sameLastTable) in
         ap₂ (λ (u : Section) (us : List Section). u ∷ us)
-        (same-section s t level (numbers .0) (numbers .1) lastTable (g .sameIdentity ∙ sym (h .sameIdentity))
+        (same-section s t level (numbers .0) (numbers .1) lastTable (g .sameTriplet ∙ sym (h .sameTriplet))
+        (same-version s t level g h)
         (heads-same s t (s' ∷ ss) (t' ∷ ts) level agree (g .least) (byte-number sizes identity l 0 s (ours .0))))
         same
 

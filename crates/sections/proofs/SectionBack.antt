@@ -162,7 +162,7 @@ module _ (sizes : Sizes) (base : ℕ) (identity : Identity) (lastTableId : ℕ) 
     fixed : T (hasFixedBits (sectionBytes base s))
     fixed =
         rw (section-parts base s)
-        (header-fixed (sectionSize s) (s .header) _ (omega arith) (omega (arith, legal .lengthFits, rules .size)) (fits .identityRules .version))
+        (header-fixed (sectionSize s) (s .header) _ (omega arith) (omega (arith, legal .lengthFits, rules .size)) (fits .version))
 
     header-passes : (before : Option Header) → T (isSameFile before (s .header)) → T (isHeader before (sectionBytes base s))
     unfolding isHeader

@@ -16,13 +16,14 @@ use Rattle.eit.proofs.Fields.{bytes-append, bytes-take, bytes-drop, field-bytes
 use Rattle.eit.proofs.Crc.{closed-only}
 use Rattle.sections.specs.Every.{Every}
 use Rattle.sections.specs.Segment.{tableLeast, tableMost}
-use Rattle.sections.specs.Section.{Header, headerSize, sectionSize}
+use Rattle.sections.specs.Section.{Header, headerIdentity, headerSize, sectionSize}
 use Rattle.sections.specs.Encode.{headerBytes, eventLoopBytes, coveredBytes, sectionBytes}
 use Rattle.sections.specs.Decode.{statedEventSize, eventIn, statedSectionSize, headerIn, eventLoop, cutEvents, sectionIn}
 use Rattle.sections.specs.Rules.{Alone, IdentityRules, EventRules, SectionRules}
 use Rattle.sections.specs.JudgeHeader.{isFramed, isClosed, hasFixedBits, isHeader, isNumbered, isInPlace}
 use Rattle.sections.specs.JudgeEvents.{isFilledOrAlone, areEvents, isEventLoop}
 use Rattle.sections.specs.Walk.{Progress}
+use Rattle.sections.proofs.Version.{version-shown}
 use Rattle.sections.proofs.Lengths.{loop-length}
 use Rattle.sections.proofs.Cut.{cut-joined}
 use Rattle.sections.proofs.EventLoop.{events-forth}
@@ -33,9 +34,9 @@ use Rattle.sections.proofs.Walk.{Passes}
 -- what Read knows of a section that passes: its bytes are those of the section that it shows, which keeps the rules
 pub record Shown (sizes : Sizes) (base : ℕ) (bs : List ℕ) : Type 0 where
   pub bytes : sectionBytes base (sectionIn base bs) ≡ bs
-  pub identityRules : IdentityRules (headerIn bs .identity)
+  pub identityRules : IdentityRules (headerIdentity (headerIn bs))
   pub lastTable : headerIn bs .lastTableId ≤ tableMost
-  pub rules : SectionRules sizes (headerIn bs .identity) (headerIn bs .lastTableId) (sectionIn base bs)
+  pub rules : SectionRules sizes (headerIdentity (headerIn bs)) (headerIn bs .lastTableId) (sectionIn base bs)
 
 alone-forth : (base : ℕ) (h : Header) (xs : List (List ℕ)) → T (isFilledOrAlone h xs) → map (eventIn base) xs ≡ [] → Alone h
 alone-forth base h [] t empty = is-alone h t
@@ -131,13 +132,14 @@ module _ (sizes : Sizes) (base : ℕ) (p : Progress) (bs : List ℕ) (bytes : By
       let fits : HeaderFits (headerIn bs) = header-fits bs bytes enough in
       record {
         bytes = bytes-forth;
-        identityRules = fits .identityRules;
+        identityRules = record { tripletRules = fits .tripletRules; version = fits .version };
         lastTable = header-parts .1;
         rules =
             record {
               headerRules =
                   record {
-                    sameIdentity = refl;
+                    sameTriplet = refl;
+                    sameVersion = version-shown (headerIn bs) (headerIn bs .tableId);
                     sameLastTable = refl;
                     least = framed-parts .3;
                     most = place-parts .1;

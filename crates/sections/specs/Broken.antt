@@ -18,7 +18,8 @@ numbered S G L =
       lastSectionNumber = L;
       segmentLastSectionNumber = G;
       lastTableId = 0x50;
-      identity = identity;
+      triplet = identity .triplet;
+      version = identity .version;
     }
 
 -- two events of a second without descriptors, each with its id and start, in one section

@@ -49,13 +49,13 @@ headerIn bs =
       lastSectionNumber = field 7 1 bs;
       segmentLastSectionNumber = field 12 1 bs;
       lastTableId = field 13 1 bs;
-      identity =
+      triplet =
           record {
             «service_id» = field 3 2 bs;
             «transport_stream_id» = field 8 2 bs;
             «original_network_id» = field 10 2 bs;
-            version = field 5 1 bs / 2 % 32;
           };
+      version = field 5 1 bs / 2 % 32;
     }
 
 -- the bytes between the header and CRC_32

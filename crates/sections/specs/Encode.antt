@@ -8,7 +8,6 @@ use Rattle.eit.specs.Fields.{bigEndian}
 use Rattle.eit.specs.Time.{startBytes, durationBytes}
 use Rattle.eit.specs.Crc.{crc32}
 use Rattle.eit.specs.Events.{Event}
-use Rattle.eit.specs.declared.Identity.{Identity}
 use Rattle.sections.specs.Section.{Header, Section, sectionSize}
 
 -- running_status: 0, or 5 for off air
@@ -32,10 +31,6 @@ eventBytes base e =
     ++ bigEndian 2 (statusWord e)
     ++ e .chain
 
--- the version that sections of a table have: the same in every section, so the table does not matter
-unfoldable pub versionOf : Identity → ℕ → ℕ
-versionOf identity table = identity .version
-
 -- bits 1111, then 12-bit section_length: bytes after this field, of a section of `size` bytes
 abbrev pub lengthWord : ℕ → ℕ
 lengthWord size = 0xF000 + (size - 3)
@@ -49,12 +44,12 @@ unfoldable pub headerBytes : ℕ → Header → List ℕ
 headerBytes size h =
     bigEndian 1 (h .tableId)
     ++ bigEndian 2 (lengthWord size)
-    ++ bigEndian 2 (h .identity .«service_id»)
-    ++ bigEndian 1 (versionByte (versionOf (h .identity) (h .tableId)))
+    ++ bigEndian 2 (h .triplet .«service_id»)
+    ++ bigEndian 1 (versionByte (h .version))
     ++ bigEndian 1 (h .sectionNumber)
     ++ bigEndian 1 (h .lastSectionNumber)
-    ++ bigEndian 2 (h .identity .«transport_stream_id»)
-    ++ bigEndian 2 (h .identity .«original_network_id»)
+    ++ bigEndian 2 (h .triplet .«transport_stream_id»)
+    ++ bigEndian 2 (h .triplet .«original_network_id»)
     ++ bigEndian 1 (h .segmentLastSectionNumber)
     ++ bigEndian 1 (h .lastTableId)
 

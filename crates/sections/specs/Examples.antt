@@ -20,7 +20,7 @@ abbrev pub startPlace : ℕ → ℕ × ℕ
 startPlace start = (tableOf (segmentIndex start), firstSection (segmentIndex start))
 
 abbrev pub identity : Identity
-identity = record { «service_id» = 1; «transport_stream_id» = 2; «original_network_id» = 3; version = 0 }
+identity = record { triplet = record { «service_id» = 1; «transport_stream_id» = 2; «original_network_id» = 3 }; version = 0 }
 
 -- an event with one descriptor, off air or not, and with free_CA_mode or not; and its bytes, but for the one that
 -- says so
@@ -56,8 +56,8 @@ pub record Examples : Type 0 where
               lastSectionNumber = 16;
               segmentLastSectionNumber = 10;
               lastTableId = 0x52;
-              identity =
-                  record { «service_id» = 0x1122; «transport_stream_id» = 0x3344; «original_network_id» = 0x5566; version = 5 };
+              triplet = record { «service_id» = 0x1122; «transport_stream_id» = 0x3344; «original_network_id» = 0x5566 };
+              version = 5;
             };
         events = [];
       }
@@ -74,7 +74,7 @@ pub record Examples : Type 0 where
       ≡ record {
         number = 0;
         value = 8;
-        identity = record { «service_id» = 1; «transport_stream_id» = 2; «original_network_id» = 3; version = 31 };
+        identity = record { triplet = record { «service_id» = 1; «transport_stream_id» = 2; «original_network_id» = 3 }; version = 31 };
         count = 8;
       }
   -- marks 4 for off air, 1 for free_CA_mode, and both

@@ -99,7 +99,7 @@ acceptedWith events =
     record {
       number = 0;
       value = events;
-      identity = record { «service_id» = 1; «transport_stream_id» = 2; «original_network_id» = 3; version = 0 };
+      identity = record { triplet = record { «service_id» = 1; «transport_stream_id» = 2; «original_network_id» = 3 }; version = 0 };
       count = events;
     }
 
@@ -109,6 +109,6 @@ refusedWith number value =
     record {
       number = number;
       value = value;
-      identity = record { «service_id» = 0; «transport_stream_id» = 0; «original_network_id» = 0; version = 0 };
+      identity = record { triplet = record { «service_id» = 0; «transport_stream_id» = 0; «original_network_id» = 0 }; version = 0 };
       count = 0;
     }

@@ -9,10 +9,9 @@ use lib.ListN.{length}
 use Rattle.eit.specs.Sizes.{Sizes, sectionOverhead}
 use Rattle.eit.specs.Fields.{field}
 use Rattle.eit.specs.Crc.{crc32}
-use Rattle.eit.specs.declared.Identity.{Identity}
+use Rattle.eit.specs.declared.Triplet.{Triplet}
 use Rattle.sections.specs.Segment.{tableLeast, tableMost, firstOf}
 use Rattle.sections.specs.Section.{Header}
-use Rattle.sections.specs.Encode.{versionOf}
 use Rattle.sections.specs.Decode.{statedSectionSize, headerIn}
 
 -- table_id, 0x50 to 0x5F; last_table_id (0x50 to 0x5F)
@@ -33,17 +32,18 @@ isClosed bs = eqb (crc32 bs) 0
 abbrev pub hasFixedBits : List ℕ → Bool
 hasFixedBits bs = eqb (field 1 2 bs / 0x1000) 0xF && (eqb (field 5 1 bs / 64) 3 && eqb (field 5 1 bs % 2) 1)
 
--- i is the identity that a section of `table` shows in a file with this identity
-abbrev pub isIdentity : ℕ → Identity → Identity → Bool
-isIdentity table identity i =
-    eqb (i .«service_id») (identity .«service_id»)
-    && (eqb (i .«transport_stream_id») (identity .«transport_stream_id»)
-    && (eqb (i .«original_network_id») (identity .«original_network_id») && eqb (i .version) (versionOf identity table)))
+-- t is this triplet
+abbrev pub isTriplet : Triplet → Triplet → Bool
+isTriplet triplet t =
+    eqb (t .«service_id») (triplet .«service_id»)
+    && (eqb (t .«transport_stream_id») (triplet .«transport_stream_id»)
+    && eqb (t .«original_network_id») (triplet .«original_network_id»))
 
--- identity and last_table_id are those of the section before
+-- triplet, version and last_table_id are those of the section before
 abbrev pub isSameFile : Option Header → Header → Bool
 isSameFile none h = true
-isSameFile (some g) h = isIdentity (h .tableId) (g .identity) (h .identity) && eqb (h .lastTableId) (g .lastTableId)
+isSameFile (some g) h =
+    isTriplet (g .triplet) (h .triplet) && (eqb (h .version) (g .version) && eqb (h .lastTableId) (g .lastTableId))
 
 -- 22: fixed bits, identity, last_table_id (0x50 to 0x5F)
 unfoldable pub isHeader : Option Header → List ℕ → Bool

@@ -8,11 +8,12 @@ use lib.Dec.{eqb, leb}
 use lib.ListN.{length}
 use Rattle.eit.specs.Sizes.{Sizes}
 use Rattle.eit.specs.Limits.{baseMost}
+use Rattle.eit.specs.Identity.{noIdentity}
 use Rattle.eit.specs.Overwrite.{overwrite}
 use Rattle.eit.specs.Records.{EventList, recordSize, numbersOfAll}
 use Rattle.eit.specs.declared.Identity.{Identity}
 use Rattle.eit.specs.declared.Record.{Record}
-use Rattle.sections.specs.Section.{Header}
+use Rattle.sections.specs.Section.{Header, headerIdentity}
 use Rattle.sections.specs.Decode.{cutFile, cutSections}
 use Rattle.sections.specs.Places.{recordsFrom}
 use Rattle.sections.specs.Walk.{atStart, Verdict, passed, refused, walk}
@@ -22,14 +23,10 @@ abbrev pub isComplete : Option Header → Bool
 isComplete none = false
 isComplete (some h) = eqb (h .sectionNumber) (h .lastSectionNumber) && eqb (h .tableId) (h .lastTableId)
 
--- the identity that a refusal returns
-abbrev pub noIdentity : Identity
-noIdentity = record { «service_id» = 0; «transport_stream_id» = 0; «original_network_id» = 0; version = 0 }
-
 -- the identity of the file, which every header has: that of the last
 abbrev pub identityOf : Option Header → Identity
 identityOf none = noIdentity
-identityOf (some h) = h .identity
+identityOf (some h) = headerIdentity h
 
 -- what is returned: number and value of the answer, the identity and the number of events. A refusal has identity 0 and count 0
 pub record Answer : Type 0 where

@@ -13,10 +13,11 @@ use Rattle.eit.specs.Fields.{Bytes}
 use Rattle.eit.specs.Among.{allDiffer}
 use Rattle.eit.specs.Chain.{isChain}
 use Rattle.eit.specs.Events.{Event, rising}
+use Rattle.eit.specs.declared.Triplet.{Triplet}
 use Rattle.eit.specs.declared.Identity.{Identity}
 use Rattle.sections.specs.Every.{Every}
 use Rattle.sections.specs.Segment.{tableLeast, tableMost, segmentIndex, tableOf, firstSection, firstOf}
-use Rattle.sections.specs.Section.{Header, Section, sectionSize, headersOf, sectionEvents, eventIds}
+use Rattle.sections.specs.Section.{Header, versionOf, Section, sectionSize, headersOf, sectionEvents, eventIds}
 
 -- ---- numbering. Let a section have section_number S, segment_last_section_number G, last_section_number L, and s0 = S − S mod 8
 
@@ -65,16 +66,21 @@ Ordered (h ∷ hs) = First h × Succeeding h hs
 
 -- ---- one section
 
--- service_id, transport_stream_id and original_network_id have two bytes, version 5 bits
+-- service_id, transport_stream_id and original_network_id have two bytes ..
+pub record TripletRules (triplet : Triplet) : Type 0 where
+  pub service : triplet .«service_id» < 256 ^ 2
+  pub stream : triplet .«transport_stream_id» < 256 ^ 2
+  pub network : triplet .«original_network_id» < 256 ^ 2
+
+-- .. and version 5 bits
 pub record IdentityRules (identity : Identity) : Type 0 where
-  pub service : identity .«service_id» < 256 ^ 2
-  pub stream : identity .«transport_stream_id» < 256 ^ 2
-  pub network : identity .«original_network_id» < 256 ^ 2
+  pub tripletRules : TripletRules (identity .triplet)
   pub version : identity .version ≤ versionMost
 
 -- identity and last_table_id are the same in every section; no table is past last_table_id; the numbers have a byte each
 pub record HeaderRules (identity : Identity) (lastTableId : ℕ) (h : Header) : Type 0 where
-  pub sameIdentity : h .identity ≡ identity
+  pub sameTriplet : h .triplet ≡ identity .triplet
+  pub sameVersion : h .version ≡ versionOf identity (h .tableId)
   pub sameLastTable : h .lastTableId ≡ lastTableId
   pub least : tableLeast ≤ h .tableId
   pub most : h .tableId ≤ lastTableId

@@ -1,9 +1,11 @@
--- A section as data, and how many bytes it has (01, "The file of sections"). Laws: proofs/Lengths.antt. Assumes nothing.
+-- A section as data, and how many bytes it has (01, "The file of sections"). Laws: proofs/Version.antt, proofs/Lengths.antt.
+-- Assumes nothing.
 use Prim.Native.Nat.{ℕ, _+_}
 use mathlib.Core.List.{List, [], _∷_, map, flatten}
 use lib.ListN.{length}
 use Rattle.eit.specs.Sizes.{sectionOverhead}
 use Rattle.eit.specs.Events.{Event}
+use Rattle.eit.specs.declared.Triplet.{Triplet}
 use Rattle.eit.specs.declared.Identity.{Identity}
 
 -- what stands before a section's events, but for section_length and the fixed bits
@@ -13,7 +15,16 @@ pub record Header : Type 0 where
   pub lastSectionNumber : ℕ
   pub segmentLastSectionNumber : ℕ
   pub lastTableId : ℕ
-  pub identity : Identity
+  pub triplet : Triplet
+  pub version : ℕ
+
+-- the version that sections of a table have in a file with this identity: the same in every section, so the table does not matter
+unfoldable pub versionOf : Identity → ℕ → ℕ
+versionOf identity table = identity .version
+
+-- the identity of a file as one of its headers shows it
+abbrev pub headerIdentity : Header → Identity
+headerIdentity h = record { triplet = h .triplet; version = h .version }
 
 -- a section: its header and its events
 pub record Section : Type 0 where

@@ -1,7 +1,7 @@
 -- `plan::write_built` meets its contract: Build's answer decides between a refusal and the listing of the file, which lies in the
 -- output. Assumes nothing.
 use Prim.Native.Nat.{_≤_}
-use mathlib.Core.Path.{sym}
+use mathlib.Core.Path.{_≡_, sym, ap, _∙_}
 use native.Mathlib.Omega.{arith}
 use denote.Ref.{now}
 use borrow.Author.Needs.{needs}
@@ -9,8 +9,10 @@ use lib.ListN.{length, take}
 use lib.Seq.{length-take-le}
 use Rattle.eit.proofs.Fields.{bytes-all, bytes-take}
 use Rattle.eit.specs.Sizes.{broadcast}
+use Rattle.eit.specs.Identity.{noIdentity}
 use Rattle.eit.specs.Records.{lentList}
-use Rattle.sections.specs.Read.{noIdentity}
+use Rattle.eit.specs.declared.Identity.{Identity}
+use Rattle.schedule.specs.Build.{Built, build}
 use Rattle.build_answer.proofs.Inside.{built-inside}
 use Rattle.plan_listing.proofs.SizeLaws.{refused-length, listing-length}
 use Rattle.plan.specs.PlanText.{noPools, baseDay}
@@ -18,12 +20,30 @@ use Rattle.plan.proofs.PlanLaws.{list-refused, list-built, written-as}
 use Rattle.plan.proofs.write_built.Statement.{statement}
 use Rattle.plan.proofs.write_built.Tie as tie
 
--- back from Build's number to Build and to the call
+-- back from Build's number to Build, to the identity and to the call
 abbrev builds : tie.After-number-of → tie.After-build
 builds c = c .before .before .before
 
+abbrev given : tie.After-number-of → tie.After-no-identity
+given c = builds c .before .before .before .before
+
 abbrev start : tie.After-number-of → tie.Start
-start c = builds c .before .before .before .before .before .before .before
+start c = given c .before .before .before .before
+
+-- Build under the identity given is Build under that of zeros
+under-none : (c : tie.After-number-of) {built : Built}
+    → (let a = start c .args in
+    build broadcast noPools (lentList (now (a .list)) (a .count)) baseDay (given c .no-identity .result) (now (a .output)) ≡ built)
+    → (let a = start c .args in
+    build broadcast noPools (lentList (now (a .list)) (a .count)) baseDay noIdentity (now (a .output)) ≡ built)
+under-none c is =
+    let a = start c .args in
+    ap (λ (i : Identity). build broadcast noPools (lentList (now (a .list)) (a .count)) baseDay i (now (a .output)))
+    (sym (given c .no-identity .ensures))
+    ∙ is
+
+no-identity-requires : tie.Need-no-identity-requires
+no-identity-requires c κs = search needs
 
 slice-aggregate-build : tie.Need-slice-aggregate-build
 slice-aggregate-build c = search needs
@@ -52,7 +72,7 @@ returns c =
     let numbered = refused .before .before .before in
     let a = start numbered .args in
     written-as (now (a .text)) _
-    (list-refused (now (a .output)) (lentList (now (a .list)) (a .count)) _ (builds numbered .build .ensures)
+    (list-refused (now (a .output)) (lentList (now (a .list)) (a .count)) _ (under-none numbered (builds numbered .build .ensures))
     (numbered .number-of .ensures) (refused .before .before .if1 .taken))
     (refused .write-refused .ensures)
     (omega (arith, refused-length (numbered .number-of .result) (omega arith)))
@@ -66,7 +86,7 @@ inside c =
     let numbered = c .before .before in
     let a = start numbered .args in
     built-inside broadcast noPools (lentList (now (a .list)) (a .count)) baseDay noIdentity (now (a .output)) _
-    (builds numbered .build .ensures)
+    (under-none numbered (builds numbered .build .ensures))
     (numbered .number-of .ensures) (c .value-of .ensures) (c .before .if1 .left)
 
 slice-reshare-prefix-write-listing : tie.Need-slice-reshare-prefix-write-listing
@@ -96,7 +116,7 @@ returns-2 c =
     let bytes = bytes-take size output (bytes-all output (λ k. numbered .before .slice-known3 .given k .fits)) in
     let length-is = length-take-le size output (omega (arith, inside valued)) in
     written-as (now (a .text)) _
-    (list-built (now (a .output)) (lentList (now (a .list)) (a .count)) _ (builds numbered .build .ensures)
+    (list-built (now (a .output)) (lentList (now (a .list)) (a .count)) _ (under-none numbered (builds numbered .build .ensures))
     (numbered .number-of .ensures) (valued .value-of .ensures) (valued .before .if1 .left))
     (listed .write-listing .ensures)
     (omega (arith, inside valued, length-is, listing-length (take size output) bytes (omega (arith, length-is))))
@@ -105,6 +125,7 @@ pub write-built-spec : {M : Type 1} → statement M
 write-built-spec =
     tie.close
     (tie.spec
+    no-identity-requires
     slice-aggregate-build
     slice-aggregate-build-2
     build-requires

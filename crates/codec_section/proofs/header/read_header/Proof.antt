@@ -47,17 +47,17 @@ returns-2 c =
     let bs = now (entered .before .before .args .bytes) in
     rw (headerRead, le-leb headerSize (length bs) (entered .if1 .left))
     (λ i. some (record {
-      tableId = c .before .before .before .before .byte-at2 .ensures i;
-      sectionNumber = c .before .before .before .byte-at3 .ensures i;
-      lastSectionNumber = c .before .before .byte-at4 .ensures i;
-      segmentLastSectionNumber = c .before .byte-at5 .ensures i;
-      lastTableId = c .byte-at6 .ensures i;
-      identity = record {
+      tableId = c .before .before .before .before .before .byte-at .ensures i;
+      sectionNumber = c .before .before .before .before .byte-at2 .ensures i;
+      lastSectionNumber = c .before .before .before .byte-at3 .ensures i;
+      segmentLastSectionNumber = c .before .before .byte-at4 .ensures i;
+      lastTableId = c .before .byte-at5 .ensures i;
+      triplet = record {
         «service_id» = stream .before .word-at .ensures i;
         «transport_stream_id» = stream .word-at2 .ensures i;
         «original_network_id» = c .before .before .before .before .before .before .word-at3 .ensures i;
-        version = c .before .before .before .before .before .byte-at .ensures i / 2 % 32;
       };
+      version = c .byte-at6 .ensures i / 2 % 32;
     }))
 
 pub read-header-spec : {M : Type 1} → statement M
