@@ -7,7 +7,7 @@ use build_counts::segment::SEGMENTS;
 use build_counts::segment::TABLE_SEGMENTS;
 use codec_section::header::SectionHeader;
 use eit::Identity;
-use eit::sizes::SECTION_OVERHEAD;
+use eit::limits::SECTION_OVERHEAD;
 ghost use mathlib.Core.Path.{_≡_};
 ghost use Prim.Native.Nat.{_+_, _≤_, _<_};
 ghost use lib.ListN.{length, drop};

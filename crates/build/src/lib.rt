@@ -1,7 +1,7 @@
 // Plan and Build (01, "Build, Read").
 use build_answer::BuildAnswer;
 use eit::Identity;
-use eit::sizes::EVENT_LIMIT;
+use eit::limits::EVENT_LIMIT;
 ghost use mathlib.Core.Path.{_≡_};
 ghost use Rattle.eit.specs.Sizes.{broadcast};
 ghost use Rattle.eit.specs.Pools.{lentPools};

@@ -4,7 +4,7 @@ use build_answer::BuildAnswer;
 use build_counts::count;
 use build_counts::segment::SEGMENTS;
 use eit::Identity;
-use eit::sizes::BASE_DAY_MOST;
+use eit::limits::BASE_DAY_MOST;
 ghost use mathlib.Core.Path.{_≡_};
 ghost use Rattle.eit.specs.Sizes.{sized};
 ghost use Rattle.eit.specs.Pools.{lentPools};

@@ -2,7 +2,7 @@
 use crate::cut;
 use crate::segment;
 use crate::segment::SEGMENTS;
-use eit::sizes::SECTION_OVERHEAD;
+use eit::limits::SECTION_OVERHEAD;
 ghost use mathlib.Core.Path.{_≡_};
 ghost use lib.Dec.{T};
 ghost use Rattle.eit.specs.Sizes.{room, sized, sectionsUpTo};

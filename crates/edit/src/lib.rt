@@ -3,7 +3,7 @@ use edit_answer::EditAnswer;
 use edit_answer::Edited;
 use edit_scan::scan;
 use edit_scan::scan::Form;
-use eit::sizes::EVENT_LIMIT;
+use eit::limits::EVENT_LIMIT;
 ghost use mathlib.Core.Path.{_≡_};
 ghost use Prim.Native.Nat.{_≤_};
 ghost use Rattle.eit.specs.Sizes.{broadcast, limitedTo};

@@ -8,7 +8,7 @@ use edit_answer::EditAnswer;
 use edit_answer::Edited;
 use edit_scan::command;
 use edit_scan::scan;
-use eit::sizes::EVENT_LIMIT;
+use eit::limits::EVENT_LIMIT;
 use list_records::records::RECORD_SIZE;
 ghost use mathlib.Core.Path.{_≡_};
 ghost use Prim.Native.Nat.{ℕ, _*_, _≤_};

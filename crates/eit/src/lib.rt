@@ -6,7 +6,7 @@ ghost use lib.Dec.{ltb, leb};
 ghost use Rattle.eit.specs.Limits.{startLimit, durationLeast, durationMost};
 ghost use Rattle.eit.specs.Time.{timeOf};
 
-pub mod sizes;
+pub mod limits;
 
 // 01's term: record. Six numbers of the lent list (01, "Event record and sound list").
 pub struct Record {

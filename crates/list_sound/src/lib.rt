@@ -3,7 +3,7 @@ use codec::pools;
 use codec::seen;
 use eit::Record;
 use eit::Time;
-use eit::sizes::ID_WORDS;
+use eit::limits::ID_WORDS;
 use list_records::records;
 use list_records::records::RECORD_SIZE;
 ghost use mathlib.Core.Path.{_≡_};

@@ -1,6 +1,6 @@
 // Read without a record buffer (01, "Build, Read", "When a call says no"): check. It looks at every section once, and writes
 // nothing.
-use eit::sizes::EVENT_LIMIT;
+use eit::limits::EVENT_LIMIT;
 use read_answer::CheckedFile;
 ghost use mathlib.Core.Path.{_≡_};
 ghost use Rattle.eit.specs.Sizes.{broadcast};

@@ -2,8 +2,8 @@
 use crate::section;
 use crate::section::SectionVerdict;
 use crate::section::WalkState;
-use eit::sizes::BASE_DAY_MOST;
-use eit::sizes::ID_WORDS;
+use eit::limits::BASE_DAY_MOST;
+use eit::limits::ID_WORDS;
 use read_answer::CheckedFile;
 use read_answer::ReadAnswer;
 use read_checks::header::Kept;

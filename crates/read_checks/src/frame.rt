@@ -1,7 +1,7 @@
 // A section's frame and its CRC_32 (01, "The file of sections").
 use codec::fields;
 use codec_crc::CRC_FIRST;
-use eit::sizes::SECTION_OVERHEAD;
+use eit::limits::SECTION_OVERHEAD;
 ghost use mathlib.Core.Path.{_≡_};
 ghost use Rattle.eit.specs.Sizes.{sectionsUpTo};
 ghost use Rattle.sections.specs.JudgeHeader.{isTable, isFramed};
