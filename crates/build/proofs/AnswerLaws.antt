@@ -1,5 +1,5 @@
 -- What Build answers, case by case, by what it has found out of the list. Assumes nothing.
-use mathlib.Core.Path.{_≡_, refl, sym, ap, ap₂, subst, _∙_}
+use mathlib.Core.Path.{_≡_, sym, ap, ap₂, subst, _∙_}
 use mathlib.Core.Bool.{Bool, true, false, not}
 use mathlib.Core.Logic.{⊎-elim}
 use mathlib.Core.List.{List, flatten}
@@ -8,7 +8,7 @@ use Prim.Native.Nat.{ℕ, _≤_, _<_}
 use native.Mathlib.Omega.{arith}
 use lib.Dec.{T}
 use lib.ListN.{length}
-use Rattle.eit.specs.Sizes.{Sizes, sized, sectionsUpTo}
+use Rattle.eit.specs.declared.Sizes.{Sizes}
 use Rattle.eit.specs.Limits.{baseMost, versionMost, startLimit}
 use Rattle.eit.specs.Fields.{Bytes}
 use Rattle.eit.specs.Overwrite.{overwrite}
@@ -18,14 +18,13 @@ use Rattle.eit.specs.Events.{Event, eventsIn}
 use Rattle.eit.specs.Sound.{sound, eventsOf}
 use Rattle.eit.specs.declared.Identity.{Identity}
 use Rattle.sections.specs.Every.{Every}
-use Rattle.sections.specs.Section.{Section, sectionSizes}
+use Rattle.sections.specs.Section.{sectionSizes}
 use Rattle.sections.specs.Encode.{fileBytes}
 use Rattle.sections.proofs.Every.{every-map}
 use Rattle.schedule.specs.Each.{each}
 use Rattle.schedule.specs.SectionsOf.{isUnpackable, lowestUnpackable, sectionsOf}
 use Rattle.schedule.specs.Plan.{sectionCount, plan}
 use Rattle.schedule.specs.Build.{Built, written, buildEvents, build}
-use Rattle.schedule.proofs.Each.{each-same}
 use Rattle.schedule.proofs.SoundEvents.{EventFacts, SoundEvents, sound-events}
 use Rattle.schedule.proofs.Packable.{packable-or}
 use Rattle.schedule.proofs.Plan.{plan-sound}
@@ -42,29 +41,9 @@ index-found : (o : Option ℕ) {n : ℕ} → n ≡ indexOr512 o → n < 512 → 
 index-found none is few = absurd (omega arith)
 index-found (some index) is few = ap some (sym is)
 
--- ---- a section does not see the limit of events
-
-module _ (bytes limit : ℕ) (es : List Event) where
-  unpackable-sized : (index : ℕ) → isUnpackable (sectionsUpTo bytes) es index ≡ isUnpackable (sized bytes limit) es index
-  unfolding isUnpackable
-  unpackable-sized index = refl
-
-  count-sized : (index : ℕ) → sectionCount (sectionsUpTo bytes) es index ≡ sectionCount (sized bytes limit) es index
-  unfolding sectionCount
-  count-sized index = refl
-
-  sections-sized : (identity : Identity) → sectionsOf (sectionsUpTo bytes) identity es ≡ sectionsOf (sized bytes limit) identity es
-  unfolding sectionsOf
-  sections-sized identity = refl
-
--- ---- the answers
-
-module _ (bytes limit : ℕ) (pools : Pools) (numbers : List ℕ) (count : ℕ) (counted : Counted)
-    (is-counted : counted ≡ countedOf (sized bytes limit) pools (lentList numbers count)) (base : ℕ) (identity : Identity)
+module _ (sizes : Sizes) (pools : Pools) (numbers : List ℕ) (count : ℕ) (counted : Counted)
+    (is-counted : counted ≡ countedOf sizes pools (lentList numbers count)) (base : ℕ) (identity : Identity)
     (output : List ℕ) (legalBase : base ≤ baseMost) (legalVersion : identity .version ≤ versionMost) where
-  abbrev sizes : Sizes
-  sizes = sized bytes limit
-
   abbrev list : EventList
   list = lentList numbers count
 
@@ -125,36 +104,34 @@ module _ (bytes limit : ℕ) (pools : Pools) (numbers : List ℕ) (count : ℕ) 
       starts : Every (λ (e : Event). e .start < startLimit) es
       starts = every-map (λ (e : Event) (f : EventFacts e). f .start) es (facts .facts)
 
-      counts-are : counted .counts ≡ each (sectionCount (sectionsUpTo bytes) es) 0 512
+      counts-are : counted .counts ≡ each (sectionCount sizes es) 0 512
       counts-are =
           ap (λ (c : Counted). c .counts) found
           ∙ ap flatten (plan-sound sizes pools list holds)
           ∙ flat-plan (sectionCount sizes es)
-          ∙ each-same (sectionCount sizes es) (sectionCount (sectionsUpTo bytes) es) 0 512 (λ index. sym (count-sized bytes limit es index))
 
       pub answer-writable : counted .need ≤ length output
-          → Writable (sectionsUpTo bytes) identity (eventsIn pools (recordsIn count numbers)) (counted .counts) output
+          → Writable sizes identity (eventsIn pools (recordsIn count numbers)) (counted .counts) output
       answer-writable fits =
-          subst (λ (fs : List Event). Writable (sectionsUpTo bytes) identity fs (counted .counts) output) (events-are pools numbers count)
+          subst (λ (fs : List Event). Writable sizes identity fs (counted .counts) output) (events-are pools numbers count)
           (record {
             rises = facts .rises;
             starts = starts;
-            packs = λ index. subst (λ (b : Bool). T (not b)) (sym (unpackable-sized bytes limit es index)) (none-unpackable .1 index);
+            packs = none-unpackable .1;
             counted = counts-are;
-            fits = omega (arith, need-found, ap sectionSizes (sections-sized bytes limit es identity));
+            fits = omega (arith, need-found);
           })
 
       pub answer-done : counted .need ≤ length output → {after : List ℕ}
           → after
           ≡ overwrite output 0
-          (fileBytes base (sectionsOf (sectionsUpTo bytes) identity (eventsIn pools (recordsIn count numbers))))
+          (fileBytes base (sectionsOf sizes identity (eventsIn pools (recordsIn count numbers))))
           → answer ≡ record { number = 0; value = counted .need; output = after }
       answer-done fits {after} is-after =
           let same : after ≡ overwrite output 0 (fileBytes base (sectionsOf sizes identity es)) =
           is-after
-          ∙ ap (λ (fs : List Event). overwrite output 0 (fileBytes base (sectionsOf (sectionsUpTo bytes) identity fs)))
-          (sym (events-are pools numbers count))
-          ∙ ap (λ (ss : List Section). overwrite output 0 (fileBytes base ss)) (sections-sized bytes limit es identity) in
+          ∙ ap (λ (fs : List Event). overwrite output 0 (fileBytes base (sectionsOf sizes identity fs)))
+          (sym (events-are pools numbers count)) in
           built-sections
           ∙ written-fits base (sectionsOf sizes identity es) output (omega (arith, need-found))
           ∙ ap₂ (λ (n : ℕ) (o : List ℕ). record { number = 0; value = n; output = o }) (sym need-found) (sym same)

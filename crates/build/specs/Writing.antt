@@ -5,7 +5,7 @@ use mathlib.Core.List.{List}
 use Prim.Native.Nat.{ℕ, _≤_, _<_}
 use lib.Dec.{T}
 use lib.ListN.{length}
-use Rattle.eit.specs.Sizes.{Sizes}
+use Rattle.eit.specs.declared.Sizes.{Sizes}
 use Rattle.eit.specs.Limits.{startLimit}
 use Rattle.eit.specs.Events.{Event, rising}
 use Rattle.eit.specs.declared.Identity.{Identity}

@@ -7,11 +7,11 @@ use build_counts::segment::SEGMENTS;
 use build_counts::segment::TABLE_SEGMENTS;
 use codec_section::header::SectionHeader;
 use eit::Identity;
-use eit::sizes::SECTION_OVERHEAD;
+use eit::Sizes;
+use eit::limits::SECTION_OVERHEAD;
 ghost use mathlib.Core.Path.{_≡_};
 ghost use Prim.Native.Nat.{_+_, _≤_, _<_};
 ghost use lib.ListN.{length, drop};
-ghost use Rattle.eit.specs.Sizes.{sectionsUpTo};
 ghost use Rattle.eit.specs.Overwrite.{overwrite};
 ghost use Rattle.eit.specs.Pools.{lentPools};
 ghost use Rattle.eit.specs.Records.{recordsIn};
@@ -139,20 +139,19 @@ pub fn write_file<'a>(
     count: usize,
     day: &'a [u8],
     series: &'a [u8],
-    section_size: u16,
+    sizes: Sizes,
     counts: &[u8],
 )
     requires { ⌜
-        Writable (sectionsUpTo «section_size») identity (eventsIn (lentPools (now day) (now series)) (recordsIn count (now list)))
+        Writable sizes identity (eventsIn (lentPools (now day) (now series)) (recordsIn count (now list)))
         (now counts) (now out) ⌝ }
     ensures { λ _. ⌜
         now (out .exit)
         ≡ overwrite (now (out .entry)) 0
         (fileBytes «base_day»
-        (sectionsOf (sectionsUpTo «section_size») identity
+        (sectionsOf sizes identity
         (eventsIn (lentPools (now (day .entry)) (now (series .entry))) (recordsIn count (now (list .entry)))))) ⌝ }
 {
-    let room = count::room_of(section_size);
     let crc_tables = codec_crc::tables();
     let last_table_id = (TABLE_LEAST + segment::last_index(list, count) / TABLE_SEGMENTS) as u8;
     let mut last: u8 = 0;
@@ -178,7 +177,7 @@ pub fn write_file<'a>(
                 end,
                 day,
                 series,
-                room,
+                count::room_of(sizes),
                 &crc_tables,
             );
             from = end;

@@ -1,7 +1,10 @@
 // Plan and Build (01, "Build, Read").
 use build_answer::BuildAnswer;
+use build_counts::count;
+use build_counts::segment::SEGMENTS;
 use eit::Identity;
-use eit::sizes::EVENT_LIMIT;
+use eit::Sizes;
+use eit::limits::BASE_DAY_MOST;
 ghost use mathlib.Core.Path.{_≡_};
 ghost use Rattle.eit.specs.Sizes.{broadcast};
 ghost use Rattle.eit.specs.Pools.{lentPools};
@@ -12,17 +15,80 @@ ghost use Rattle.build_answer.specs.Told.{told};
 
 mod file;
 mod section;
-mod sizes;
 
-// Bytes of a section at most (01, "The file of sections").
-const SECTION_SIZE: u16 = 4_096;
+// The most that a version may be.
+const VERSION_MOST: u8 = 31;
+
+// The counts of all segments, 254 each if the list is unsound.
+fn plan_within<'a>(
+    list: &[u32],
+    count: usize,
+    day: &'a [u8],
+    series: &'a [u8],
+    sizes: Sizes,
+) -> [[u8; 32]; 16]
+    ensures { λ r. ⌜
+        r ≡ plan sizes (lentPools (now (day .entry)) (now (series .entry))) (lentList (now (list .entry)) count) ⌝ }
+{
+    let counted = count::count_sections(list, count, day, series, sizes);
+    let counts = counted.counts;
+    build_plan::tables_of(&counts)
+}
 
 // 01's Plan: sixteen tables of thirty-two section counts, each that of the definition.
 pub fn plan<'a>(list: &[u32], count: usize, day: &'a [u8], series: &'a [u8]) -> [[u8; 32]; 16]
     ensures { λ r. ⌜
         r ≡ plan broadcast (lentPools (now (day .entry)) (now (series .entry))) (lentList (now (list .entry)) count) ⌝ }
 {
-    sizes::plan_within(list, count, day, series, SECTION_SIZE, EVENT_LIMIT)
+    plan_within(list, count, day, series, Sizes::BROADCAST)
+}
+
+// Build: each refusal is excluded before anything is written.
+fn build_within<'a>(
+    list: &[u32],
+    count: usize,
+    day: &'a [u8],
+    series: &'a [u8],
+    base_day: u32,
+    identity: Identity,
+    out: &mut [u8],
+    sizes: Sizes,
+) -> BuildAnswer
+    ensures { λ r. ⌜
+        build sizes (lentPools (now (day .entry)) (now (series .entry))) (lentList (now (list .entry)) count) «base_day»
+        identity (now (out .entry))
+        ≡ told r (now (out .exit)) ⌝ }
+{
+    if BASE_DAY_MOST < base_day {
+        return BuildAnswer::BaseDay;
+    }
+    if VERSION_MOST < identity.version {
+        return BuildAnswer::Version;
+    }
+    let counted = count::count_sections(list, count, day, series, sizes);
+    if !counted.is_sound {
+        return BuildAnswer::Unsound;
+    }
+    if counted.lowest < SEGMENTS {
+        return BuildAnswer::Unpackable(counted.lowest);
+    }
+    let need = counted.need;
+    if out.len() < need {
+        return BuildAnswer::OutputShort(need);
+    }
+    let counts = counted.counts;
+    file::write_file(
+        out,
+        base_day,
+        identity,
+        list,
+        count,
+        day,
+        series,
+        sizes,
+        &counts,
+    );
+    BuildAnswer::Done(need)
 }
 
 // 01's Build: number, value and every byte of the output are those of the definition.
@@ -40,7 +106,7 @@ pub fn build<'a>(
         (now (out .entry))
         ≡ told r (now (out .exit)) ⌝ }
 {
-    sizes::build_within(
+    build_within(
         list,
         count,
         day,
@@ -48,7 +114,6 @@ pub fn build<'a>(
         base_day,
         identity,
         out,
-        SECTION_SIZE,
-        EVENT_LIMIT,
+        Sizes::BROADCAST,
     )
 }

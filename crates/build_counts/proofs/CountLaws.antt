@@ -9,7 +9,8 @@ use native.Mathlib.Omega.{arith}
 use borrow.Author.Tests.{eq-eqb, ne-eqb}
 use lib.Dec.{T, eqb}
 use lib.ListN.{length}
-use Rattle.eit.specs.Sizes.{Sizes, sectionOverhead, room}
+use Rattle.eit.specs.Sizes.{sectionOverhead, room}
+use Rattle.eit.specs.declared.Sizes.{Sizes}
 use Rattle.eit.specs.Identity.{noIdentity}
 use Rattle.eit.specs.Events.{Event, rising}
 use Rattle.eit.proofs.Test.{true-is, false-is, test-or}

@@ -11,7 +11,8 @@ use borrow.Author.Tests.{eq-eqb, ne-eqb}
 use lib.Dec.{T, eqb}
 use lib.ListN.{length, getD, set, replicate, length-set, length-replicate, getD-replicate}
 use lib.Seq.{getD-set-same, getD-set-other}
-use Rattle.eit.specs.Sizes.{Sizes, sectionOverhead, room}
+use Rattle.eit.specs.Sizes.{sectionOverhead, room}
+use Rattle.eit.specs.declared.Sizes.{Sizes}
 use Rattle.eit.specs.Pools.{Pools}
 use Rattle.eit.specs.Events.{Event, rising}
 use Rattle.eit.proofs.Test.{true-is, false-is, le-or-lt, eq-or-not}

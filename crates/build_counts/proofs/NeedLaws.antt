@@ -2,7 +2,8 @@
 use mathlib.Core.Path.{_≡_, refl, sym, ap, _∙_}
 use mathlib.Core.List.{List, [], _∷_, _++_, flatten, map-append}
 use Prim.Native.Nat.{ℕ, suc, _+_, _-_, _*_}
-use Rattle.eit.specs.Sizes.{Sizes, sectionOverhead}
+use Rattle.eit.specs.Sizes.{sectionOverhead}
+use Rattle.eit.specs.declared.Sizes.{Sizes}
 use Rattle.eit.specs.Identity.{noIdentity}
 use Rattle.eit.specs.Events.{Event}
 use Rattle.eit.specs.declared.Identity.{Identity}

@@ -2,10 +2,11 @@
 use crate::cut;
 use crate::segment;
 use crate::segment::SEGMENTS;
-use eit::sizes::SECTION_OVERHEAD;
+use eit::Sizes;
+use eit::limits::SECTION_OVERHEAD;
 ghost use mathlib.Core.Path.{_≡_};
 ghost use lib.Dec.{T};
-ghost use Rattle.eit.specs.Sizes.{room, sized, sectionsUpTo};
+ghost use Rattle.eit.specs.Sizes.{room};
 ghost use Rattle.eit.specs.Pools.{lentPools};
 ghost use Rattle.eit.specs.Records.{lentList};
 ghost use Rattle.eit.specs.Sound.{sound};
@@ -36,13 +37,13 @@ const UNPACKABLE: u8 = 255;
 const UNSOUND: u8 = 254;
 
 // The bytes that events have in a section.
-pub fn room_of(section_size: u16) -> u16
-    ensures { λ r. ⌜ r ≡ room (sectionsUpTo «section_size») ⌝ }
+pub fn room_of(sizes: Sizes) -> u16
+    ensures { λ r. ⌜ r ≡ room sizes ⌝ }
 {
-    if section_size < SECTION_OVERHEAD as u16 {
+    if sizes.section_limit < SECTION_OVERHEAD as u16 {
         return 0;
     }
-    section_size - SECTION_OVERHEAD as u16
+    sizes.section_limit - SECTION_OVERHEAD as u16
 }
 
 // The sections of the events from `from` to `end`, which are those of a segment.
@@ -84,16 +85,13 @@ fn count_sound<'a>(
     count: usize,
     day: &'a [u8],
     series: &'a [u8],
-    section_size: u16,
-    event_limit: usize,
+    sizes: Sizes,
 ) -> Counted
-    requires { ⌜ T (sound (sized «section_size» «event_limit») (lentPools (now day) (now series)) (lentList (now list) count)) ⌝ }
+    requires { ⌜ T (sound sizes (lentPools (now day) (now series)) (lentList (now list) count)) ⌝ }
     ensures { λ r. ⌜
         r
-        ≡ countedOf (sized «section_size» «event_limit») (lentPools (now (day .entry)) (now (series .entry)))
-        (lentList (now (list .entry)) count) ⌝ }
+        ≡ countedOf sizes (lentPools (now (day .entry)) (now (series .entry))) (lentList (now (list .entry)) count) ⌝ }
 {
-    let room = room_of(section_size);
     let mut counts = [0u8; 512];
     let mut lowest = SEGMENTS;
     let mut need = 0;
@@ -102,7 +100,7 @@ fn count_sound<'a>(
     while index < SEGMENTS {
         if segment::is_inside(list, from, count, index) {
             let end = segment::end_of(list, from, count, index);
-            let packed = count_segment(list, from, end, day, series, room);
+            let packed = count_segment(list, from, end, day, series, room_of(sizes));
             counts[index] = packed.sections;
             need += packed.bytes;
             if packed.sections == UNPACKABLE && lowest == SEGMENTS {
@@ -126,15 +124,13 @@ pub fn count_sections<'a>(
     count: usize,
     day: &'a [u8],
     series: &'a [u8],
-    section_size: u16,
-    event_limit: usize,
+    sizes: Sizes,
 ) -> Counted
     ensures { λ r. ⌜
         r
-        ≡ countedOf (sized «section_size» «event_limit») (lentPools (now (day .entry)) (now (series .entry)))
-        (lentList (now (list .entry)) count) ⌝ }
+        ≡ countedOf sizes (lentPools (now (day .entry)) (now (series .entry))) (lentList (now (list .entry)) count) ⌝ }
 {
-    if !list_sound::is_sound(list, count, day, series, event_limit) {
+    if !list_sound::is_sound(list, count, day, series, sizes) {
         return Counted {
             is_sound: false,
             counts: [UNSOUND; 512],
@@ -142,5 +138,5 @@ pub fn count_sections<'a>(
             need: 0,
         };
     }
-    count_sound(list, count, day, series, section_size, event_limit)
+    count_sound(list, count, day, series, sizes)
 }

@@ -1,6 +1,6 @@
 // The events that one section takes (01, "Build, Read": "each section takes as many of the segment's next events as fit").
 use codec::pools;
-use eit::sizes::EVENT_OVERHEAD;
+use eit::limits::EVENT_OVERHEAD;
 use list_records::records;
 ghost use mathlib.Core.Path.{_≡_};
 ghost use Prim.Native.Nat.{_*_};

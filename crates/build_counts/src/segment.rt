@@ -1,5 +1,5 @@
 // The segments of a list's events (01, "The file of sections": start ÷ 10,800, rounded down, is the segment index).
-use eit::sizes::SEGMENT_SECONDS;
+use eit::limits::SEGMENT_SECONDS;
 use list_records::records;
 ghost use mathlib.Core.Path.{_≡_};
 ghost use Prim.Native.Nat.{_+_, _*_};

@@ -3,7 +3,7 @@ use codec::chain;
 use codec::fields;
 use codec_time::TimeRead;
 use eit::Record;
-use eit::sizes::EVENT_OVERHEAD;
+use eit::limits::EVENT_OVERHEAD;
 ghost use mathlib.Core.Path.{_≡_};
 ghost use mathlib.Core.Bool.{_||_};
 ghost use Prim.Native.Nat.{_+_, _*_};

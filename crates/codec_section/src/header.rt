@@ -1,7 +1,7 @@
 // A section's header as bytes, and back (01, "The file of sections").
 use codec::fields;
 use eit::Triplet;
-use eit::sizes::HEADER_SIZE;
+use eit::limits::HEADER_SIZE;
 ghost use mathlib.Core.Path.{_≡_};
 ghost use Prim.Native.Nat.{_+_, _%_, _≤_};
 ghost use lib.ListN.{length};

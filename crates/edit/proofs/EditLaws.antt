@@ -7,7 +7,7 @@ use native.Mathlib.Omega.{arith}
 use lib.Dec.{T}
 use lib.ListN.{take}
 use lib.Seq.{take-all}
-use Rattle.eit.specs.Sizes.{limitedTo}
+use Rattle.eit.specs.declared.Sizes.{Sizes}
 use Rattle.eit.specs.Pools.{lentPools}
 use Rattle.eit.specs.Records.{EventList}
 use Rattle.eit.specs.Sound.{sound}
@@ -23,49 +23,49 @@ use Rattle.edit_scan.proofs.ScanLaws.{form-whole-is, form-count-is, form-broken
 use Rattle.edit.specs.Run.{runPart}
 use Rattle.edit.proofs.RunLaws.{none-done}
 
-module _ (limit : ℕ) (day series : List ℕ) (list : EventList) (script : List ℕ) where
+module _ (sizes : Sizes) (day series : List ℕ) (list : EventList) (script : List ℕ) where
   -- b is what the soundness pass says
-  module _ (b : Bool) (says : b ≡ sound (limitedTo limit) (lentPools day series) list) where
-    pub is-sound : b ≡ true → T (sound (limitedTo limit) (lentPools day series) list)
+  module _ (b : Bool) (says : b ≡ sound sizes (lentPools day series) list) where
+    pub is-sound : b ≡ true → T (sound sizes (lentPools day series) list)
     is-sound e = subst T says (rw e tt)
 
-    pub edit-12 : b ≡ false → edit (limitedTo limit) (lentPools day series) list script ≡ refusal 12 0 list
+    pub edit-12 : b ≡ false → edit sizes (lentPools day series) list script ≡ refusal 12 0 list
     edit-12 e =
-        let unsound : T (not (sound (limitedTo limit) (lentPools day series) list)) = subst (λ (s : Bool). T (not s)) says (rw e tt) in
-        edit-unsound (limitedTo limit) (lentPools day series) list script unsound
+        let unsound : T (not (sound sizes (lentPools day series) list)) = subst (λ (s : Bool). T (not s)) says (rw e tt) in
+        edit-unsound sizes (lentPools day series) list script unsound
 
-  module _ (its-sound : T (sound (limitedTo limit) (lentPools day series) list)) where
+  module _ (its-sound : T (sound sizes (lentPools day series) list)) where
     pub edit-3 : (at : ℕ) → formTold (formOf script) ≡ Broken at
-        → edit (limitedTo limit) (lentPools day series) list script ≡ refusal 3 at list
-    edit-3 at f = edit-broken (limitedTo limit) (lentPools day series) list script its-sound at (form-broken-is script at f)
+        → edit sizes (lentPools day series) list script ≡ refusal 3 at list
+    edit-3 at f = edit-broken sizes (lentPools day series) list script its-sound at (form-broken-is script at f)
 
     module _ (k : ℕ) (whole : formTold (formOf script) ≡ Whole k) where
       pub edit-4 : (at : ℕ) → strikesTold (unstruckIn (commandsAt 0 script)) ≡ NothingAt at
-          → edit (limitedTo limit) (lentPools day series) list script ≡ refusal 4 at list
+          → edit sizes (lentPools day series) list script ≡ refusal 4 at list
       edit-4 at u =
-          edit-nothing (limitedTo limit) (lentPools day series) list script its-sound (commandsAt 0 script) at
+          edit-nothing sizes (lentPools day series) list script its-sound (commandsAt 0 script) at
           (form-whole-is script k whole) (strikes-nothing-is (commandsAt 0 script) at u)
 
       -- the part that has all commands, with no UNDO behind it
       pub edit-goes-on : strikesTold (unstruckIn (commandsAt 0 script)) ≡ Enough
-          → edit (limitedTo limit) (lentPools day series) list script ≡ runPart limit day series list 0 k 0 script
+          → edit sizes (lentPools day series) list script ≡ runPart sizes day series list 0 k 0 script
       edit-goes-on u =
-          edit-runs (limitedTo limit) (lentPools day series) list script its-sound (commandsAt 0 script)
+          edit-runs sizes (lentPools day series) list script its-sound (commandsAt 0 script)
           (live 0 (commandsAt 0 script)) (form-whole-is script k whole) (strikes-enough-is (commandsAt 0 script) u)
-          ∙ ap (λ (cs : List Command). run (limitedTo limit) (lentPools day series) list (live 0 cs))
+          ∙ ap (λ (cs : List Command). run sizes (lentPools day series) list (live 0 cs))
           (sym (take-all k (commandsAt 0 script) (omega (arith, form-count-is script k whole))))
 
       -- no UNDO is left pending before the commands, so each has something to strike
       pub edit-unpending : passed 0 (take k (commandsAt 0 script)) ≡ 0
-          → edit (limitedTo limit) (lentPools day series) list script ≡ runPart limit day series list 0 k 0 script
+          → edit sizes (lentPools day series) list script ≡ runPart sizes day series list 0 k 0 script
       edit-unpending none =
           let all : take k (commandsAt 0 script) ≡ commandsAt 0 script =
           take-all k (commandsAt 0 script) (omega (arith, form-count-is script k whole)) in
           edit-goes-on (ap strikesTold (struck-enough (commandsAt 0 script) (ap (passed 0) (sym all) ∙ none)))
 
       -- no command at all
-      pub edit-none : k ≡ 0 → edit (limitedTo limit) (lentPools day series) list script ≡ record { number = 0; value = list .count; list = list }
+      pub edit-none : k ≡ 0 → edit sizes (lentPools day series) list script ≡ record { number = 0; value = list .count; list = list }
       edit-none none =
           edit-unpending (ap (λ (n : ℕ). passed 0 (take n (commandsAt 0 script))) none)
-          ∙ ap (λ (n : ℕ). runPart limit day series list 0 n 0 script) none
-          ∙ none-done (limitedTo limit) (lentPools day series) list
+          ∙ ap (λ (n : ℕ). runPart sizes day series list 0 n 0 script) none
+          ∙ none-done sizes (lentPools day series) list

@@ -6,7 +6,7 @@ use mathlib.Core.List.{List, _∷_, _++_}
 use Prim.Native.Nat.{ℕ, _+_, _*_, _≤_, _<_}
 use lib.Dec.{T}
 use lib.ListN.{length, drop, drop-of-length-le}
-use Rattle.eit.specs.Sizes.{limitedTo}
+use Rattle.eit.specs.declared.Sizes.{Sizes}
 use Rattle.eit.specs.Pools.{lentPools}
 use Rattle.eit.specs.Records.{EventList, lentList, recordSize}
 use Rattle.eit.specs.Sound.{sound}
@@ -22,29 +22,29 @@ use Rattle.edit.proofs.LiveLaws.{live-begins, live-passes}
 use Rattle.edit.proofs.RunLaws.{none-done, run-ends}
 
 -- the buffer of a sound list has room for its records
-pub sound-held : (limit : ℕ) (day series d : List ℕ) (n : ℕ) → T (sound (limitedTo limit) (lentPools day series) (lentList d n))
+pub sound-held : (sizes : Sizes) (day series d : List ℕ) (n : ℕ) → T (sound sizes (lentPools day series) (lentList d n))
     → n * recordSize ≤ length d
-sound-held limit day series d n t = sound-list (limitedTo limit) (lentPools day series) (lentList d n) t .held
+sound-held sizes day series d n t = sound-list sizes (lentPools day series) (lentList d n) t .held
 
-module _ (limit : ℕ) (day series : List ℕ) (first : EventList) (places : List ℕ) (cs : List Command) where
+module _ (sizes : Sizes) (day series : List ℕ) (first : EventList) (places : List ℕ) (cs : List Command) where
   -- all live edits on the first list come to those from this place on on this list, which is sound
   pub record Carried (list : EventList) (place : ℕ) : Type 0 where
-    pub is-sound : T (sound (limitedTo limit) (lentPools day series) list)
+    pub is-sound : T (sound sizes (lentPools day series) list)
     pub left : (undos : ℕ) → LivePlaces places undos cs
-        → run (limitedTo limit) (lentPools day series) first (live undos cs)
-        ≡ run (limitedTo limit) (lentPools day series) list (live undos (drop place cs))
+        → run sizes (lentPools day series) first (live undos cs)
+        ≡ run sizes (lentPools day series) list (live undos (drop place cs))
 
-  pub carried-none : T (sound (limitedTo limit) (lentPools day series) first) → Carried first 0
+  pub carried-none : T (sound sizes (lentPools day series) first) → Carried first 0
   carried-none t = record { is-sound = t; left = λ undos are. refl }
 
   module _ {list : EventList} {place : ℕ} (d : Carried list place) where
     -- no place is left
     pub carried-all : length cs ≤ place → (undos : ℕ) → LivePlaces places undos cs
-        → run (limitedTo limit) (lentPools day series) first (live undos cs) ≡ record { number = 0; value = list .count; list = list }
+        → run sizes (lentPools day series) first (live undos cs) ≡ record { number = 0; value = list .count; list = list }
     carried-all all undos are =
         d .left undos are
-        ∙ ap (λ (rest : List Command). run (limitedTo limit) (lentPools day series) list (live undos rest)) (drop-of-length-le cs {i = place} all)
-        ∙ none-done (limitedTo limit) (lentPools day series) list
+        ∙ ap (λ (rest : List Command). run sizes (lentPools day series) list (live undos rest)) (drop-of-length-le cs {i = place} all)
+        ∙ none-done sizes (lentPools day series) list
 
     -- c is the command at the place
     module _ (some : place < length cs) (c : Command) (split : drop place cs ≡ c ∷ drop (place + 1) cs) where
@@ -54,38 +54,38 @@ module _ (limit : ℕ) (day series : List ℕ) (first : EventList) (places : Lis
             is-sound = d .is-sound;
             left = λ undos are.
                 d .left undos are
-                ∙ ap (run (limitedTo limit) (lentPools day series) list)
+                ∙ ap (run sizes (lentPools day series) list)
                 (ap (live undos) split
                 ∙ live-passes undos c (drop (place + 1) cs) (sym (ap (beginsLive undos) split) ∙ sym (are place some) ∙ e));
           }
 
       -- o is what it comes to
-      module _ (e : isSeen places place ≡ true) (o : Edited) (does : runOne limit day series list c ≡ o) where
+      module _ (e : isSeen places place ≡ true) (o : Edited) (does : runOne sizes day series list c ≡ o) where
         with-it : (undos : ℕ) → LivePlaces places undos cs
-            → run (limitedTo limit) (lentPools day series) first (live undos cs)
-            ≡ run (limitedTo limit) (lentPools day series) list (editsOf c ++ live undos (drop (place + 1) cs))
+            → run sizes (lentPools day series) first (live undos cs)
+            ≡ run sizes (lentPools day series) list (editsOf c ++ live undos (drop (place + 1) cs))
         with-it undos are =
             d .left undos are
-            ∙ ap (run (limitedTo limit) (lentPools day series) list)
+            ∙ ap (run sizes (lentPools day series) list)
             (ap (live undos) split
             ∙ live-begins undos c (drop (place + 1) cs) (sym (ap (beginsLive undos) split) ∙ sym (are place some) ∙ e))
 
         pub carried-ends : (o .number ≡ 0 → ⊥) → (undos : ℕ) → LivePlaces places undos cs
-            → run (limitedTo limit) (lentPools day series) first (live undos cs) ≡ o
+            → run sizes (lentPools day series) first (live undos cs) ≡ o
         carried-ends refuses undos are =
             with-it undos are
-            ∙ run-ends (limitedTo limit) (lentPools day series) list (editsOf c) (live undos (drop (place + 1) cs))
+            ∙ run-ends sizes (lentPools day series) list (editsOf c) (live undos (drop (place + 1) cs))
             (λ z. refuses (sym (ap (λ (x : Edited). x .number) does) ∙ z))
             ∙ does
 
         pub carried-on : o .number ≡ 0 → Carried (o .list) (place + 1)
         carried-on z =
             record {
-              is-sound = subst (λ (x : Edited). T (sound (limitedTo limit) (lentPools day series) (x .list))) does
-                  (run-sound (limitedTo limit) (lentPools day series) list (editsOf c) (d .is-sound));
+              is-sound = subst (λ (x : Edited). T (sound sizes (lentPools day series) (x .list))) does
+                  (run-sound sizes (lentPools day series) list (editsOf c) (d .is-sound));
               left = λ undos are.
                   with-it undos are
-                  ∙ run-append (limitedTo limit) (lentPools day series) list (editsOf c) (live undos (drop (place + 1) cs))
+                  ∙ run-append sizes (lentPools day series) list (editsOf c) (live undos (drop (place + 1) cs))
                   (ap (λ (x : Edited). x .number) does ∙ z)
-                  ∙ ap (λ (x : Edited). run (limitedTo limit) (lentPools day series) (x .list) (live undos (drop (place + 1) cs))) does;
+                  ∙ ap (λ (x : Edited). run sizes (lentPools day series) (x .list) (live undos (drop (place + 1) cs))) does;
             }

@@ -7,7 +7,7 @@ use mathlib.Core.List.{List, _++_}
 use lib.Dec.{T}
 use lib.ListN.{length, drop, take, length-take, length-drop}
 use lib.Seq.{take-add}
-use Rattle.eit.specs.Sizes.{limitedTo}
+use Rattle.eit.specs.declared.Sizes.{Sizes}
 use Rattle.eit.specs.Pools.{lentPools}
 use Rattle.eit.specs.Records.{EventList}
 use Rattle.eit.specs.Sound.{sound}
@@ -47,44 +47,44 @@ module _ (script : List ℕ) (k at h mid : ℕ) (fits : h ≤ k) (there : mid �
 
 -- ---- what is carried out
 
-module _ (limit : ℕ) (day series : List ℕ) (list : EventList) (script : List ℕ) where
+module _ (sizes : Sizes) (day series : List ℕ) (list : EventList) (script : List ℕ) where
   module _ (p k at : ℕ) where
     -- as many UNDOs as commands strike all
-    pub part-struck : k ≤ p → runPart limit day series list p k at script ≡ record { number = 0; value = list .count; list = list }
+    pub part-struck : k ≤ p → runPart sizes day series list p k at script ≡ record { number = 0; value = list .count; list = list }
     part-struck h =
-        ap (run (limitedTo limit) (lentPools day series) list)
+        ap (run sizes (lentPools day series) list)
         (live-none p (take k (commandsAt at script)) (omega (arith, length-take k (commandsAt at script))))
-        ∙ none-done (limitedTo limit) (lentPools day series) list
+        ∙ none-done sizes (lentPools day series) list
 
     -- o is what the first half comes to
     module _ (h mid : ℕ) (fits : h ≤ k) (there : mid ≡ offsetBehind h at script)
         (q : ℕ) (before : q ≡ passed p (take (k - h) (commandsAt mid script)))
-        (o : Edited) (does : runPart limit day series list q h at script ≡ o) where
-      halves : runPart limit day series list p k at script
-          ≡ run (limitedTo limit) (lentPools day series) list (live q (take h (commandsAt at script)) ++ live p (take (k - h) (commandsAt mid script)))
-      halves = ap (run (limitedTo limit) (lentPools day series) list) (live-halves script k at h mid fits there p q before)
+        (o : Edited) (does : runPart sizes day series list q h at script ≡ o) where
+      halves : runPart sizes day series list p k at script
+          ≡ run sizes (lentPools day series) list (live q (take h (commandsAt at script)) ++ live p (take (k - h) (commandsAt mid script)))
+      halves = ap (run sizes (lentPools day series) list) (live-halves script k at h mid fits there p q before)
 
       -- a refusal in the first half ends the run
-      pub half-ends : (o .number ≡ 0 → ⊥) → runPart limit day series list p k at script ≡ o
+      pub half-ends : (o .number ≡ 0 → ⊥) → runPart sizes day series list p k at script ≡ o
       half-ends refuses =
           halves
-          ∙ run-ends (limitedTo limit) (lentPools day series) list (live q (take h (commandsAt at script)))
+          ∙ run-ends sizes (lentPools day series) list (live q (take h (commandsAt at script)))
           (live p (take (k - h) (commandsAt mid script))) (λ z. refuses (sym (ap (λ (e : Edited). e .number) does) ∙ z))
           ∙ does
 
       -- otherwise the second half goes on with its list
       pub half-goes-on : o .number ≡ 0
-          → runPart limit day series list p k at script ≡ runPart limit day series (o .list) p (k - h) mid script
+          → runPart sizes day series list p k at script ≡ runPart sizes day series (o .list) p (k - h) mid script
       half-goes-on z =
           halves
-          ∙ run-append (limitedTo limit) (lentPools day series) list (live q (take h (commandsAt at script)))
+          ∙ run-append sizes (lentPools day series) list (live q (take h (commandsAt at script)))
           (live p (take (k - h) (commandsAt mid script))) (ap (λ (e : Edited). e .number) does ∙ z)
-          ∙ ap (λ (e : Edited). runPart limit day series (e .list) p (k - h) mid script) does
+          ∙ ap (λ (e : Edited). runPart sizes day series (e .list) p (k - h) mid script) does
 
     -- a part leaves a sound list
-    pub part-sound : (o : Edited) → runPart limit day series list p k at script ≡ o
-        → T (sound (limitedTo limit) (lentPools day series) list)
-        → T (sound (limitedTo limit) (lentPools day series) (o .list))
+    pub part-sound : (o : Edited) → runPart sizes day series list p k at script ≡ o
+        → T (sound sizes (lentPools day series) list)
+        → T (sound sizes (lentPools day series) (o .list))
     part-sound o does t =
-        subst (λ (x : Edited). T (sound (limitedTo limit) (lentPools day series) (x .list))) does
-        (run-sound (limitedTo limit) (lentPools day series) list (live p (take k (commandsAt at script))) t)
+        subst (λ (x : Edited). T (sound sizes (lentPools day series) (x .list))) does
+        (run-sound sizes (lentPools day series) list (live p (take k (commandsAt at script))) t)

@@ -7,7 +7,7 @@ use Prim.Native.Nat.{ℕ, _+_, _*_, _≤_, _<_}
 use native.Mathlib.Omega.{arith}
 use lib.Dec.{T}
 use lib.ListN.{length, drop}
-use Rattle.eit.specs.Sizes.{limitedTo}
+use Rattle.eit.specs.declared.Sizes.{Sizes}
 use Rattle.eit.specs.Pools.{lentPools}
 use Rattle.eit.specs.Records.{EventList, recordSize}
 use Rattle.eit.specs.Sound.{sound}
@@ -21,13 +21,13 @@ use Rattle.edit.specs.declared.indexed.Reached.{Reached}
 use Rattle.edit.proofs.ForwardLaws.{Carried, carried-none, carried-past, carried-on}
 use Rattle.edit.proofs.RenewLaws.{kept-sound}
 
-module _ (limit : ℕ) (day series : List ℕ) (first : EventList) (places : List ℕ) (cs : List Command) where
+module _ (sizes : Sizes) (day series : List ℕ) (first : EventList) (places : List ℕ) (cs : List Command) where
   -- before a place: an index, in a lent list of so many numbers, that stands for the list that the live edits so far have made
   pub record Running (size : ℕ) (list slots order ids : List ℕ) (held used place : ℕ) : Type 0 where
     pub same-size : length list ≡ size
     pub index : Index slots order ids held used
     pub fits : held * recordSize ≤ length list
-    pub carried : Carried limit day series first places cs (indexedList list slots order held) place
+    pub carried : Carried sizes day series first places cs (indexedList list slots order held) place
 
   -- the same in other words
   pub running-same : {size place : ℕ} {list slots order ids list' slots' order' ids' : List ℕ} {held used held' used' : ℕ}
@@ -38,7 +38,7 @@ module _ (limit : ℕ) (day series : List ℕ) (first : EventList) (places : Lis
   module _ {size : ℕ} {list slots order ids : List ℕ} {held used place : ℕ} (r : Running size list slots order ids held used place) where
     -- what the next edit asks for
     pub running-kept : Kept list slots order ids held used
-    running-kept = kept-sound limit day series list slots order ids held used (r .index) (r .fits) (r .carried .is-sound)
+    running-kept = kept-sound sizes day series list slots order ids held used (r .index) (r .fits) (r .carried .is-sound)
 
     pub running-few : held ≤ length order
     running-few = omega (arith, r .index .few, r .index .orderSize)
@@ -51,12 +51,12 @@ module _ (limit : ℕ) (day series : List ℕ) (first : EventList) (places : Lis
             same-size = r .same-size;
             index = r .index;
             fits = r .fits;
-            carried = carried-past limit day series first places cs (r .carried) some c split e;
+            carried = carried-past sizes day series first places cs (r .carried) some c split e;
           }
 
       -- it is carried out
       pub running-on : isSeen places place ≡ true → (next : Reached) (list' slots' order' ids' : List ℕ)
-          → Leaves (runOne limit day series (indexedList list slots order held) c) next list' slots' order' ids'
+          → Leaves (runOne sizes day series (indexedList list slots order held) c) next list' slots' order' ids'
           → length list' ≡ length list → answerNumber (next .answer) ≡ 0
           → Running size list' slots' order' ids' (next .count) (next .used) (place + 1)
       running-on e next list' slots' order' ids' leaves same z =
@@ -64,12 +64,12 @@ module _ (limit : ℕ) (day series : List ℕ) (first : EventList) (places : Lis
             same-size = same ∙ r .same-size;
             index = leaves .index;
             fits = leaves .fits;
-            carried = carried-on limit day series first places cs (r .carried) some c split e _ (leaves .says) z;
+            carried = carried-on sizes day series first places cs (r .carried) some c split e _ (leaves .says) z;
           }
 
-pub running-first : (limit : ℕ) (day series places : List ℕ) (cs : List Command) (list slots order ids : List ℕ) (count used : ℕ)
+pub running-first : (sizes : Sizes) (day series places : List ℕ) (cs : List Command) (list slots order ids : List ℕ) (count used : ℕ)
     → Index slots order ids count used → count * recordSize ≤ length list
-    → T (sound (limitedTo limit) (lentPools day series) (indexedList list slots order count))
-    → Running limit day series (indexedList list slots order count) places cs (length list) list slots order ids count used 0
-running-first limit day series places cs list slots order ids count used x fits t =
-    record { same-size = λ i. length list; index = x; fits = fits; carried = carried-none limit day series _ places cs t }
+    → T (sound sizes (lentPools day series) (indexedList list slots order count))
+    → Running sizes day series (indexedList list slots order count) places cs (length list) list slots order ids count used 0
+running-first sizes day series places cs list slots order ids count used x fits t =
+    record { same-size = λ i. length list; index = x; fits = fits; carried = carried-none sizes day series _ places cs t }

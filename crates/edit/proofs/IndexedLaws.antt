@@ -9,7 +9,7 @@ use Prim.Native.Nat.{ℕ, suc, _-_, _*_, _≤_, _<_}
 use native.Mathlib.Omega.{arith}
 use lib.Dec.{T, not-T}
 use lib.ListN.{length, getD, take, replicate, length-append, List·getD-eq-default}
-use Rattle.eit.specs.Sizes.{limitedTo}
+use Rattle.eit.specs.declared.Sizes.{Sizes}
 use Rattle.eit.specs.Pools.{lentPools}
 use Rattle.eit.specs.Overwrite.{overwrite}
 use Rattle.eit.specs.Among.{isAmong}
@@ -55,7 +55,7 @@ kept-ordered list slots order ids count used k =
       rises = k .rises;
     }
 
-module _ (limit : ℕ) (day series list slots order ids : List ℕ) (count used : ℕ) (k : Kept list slots order ids count used) (at : ℕ) where
+module _ (sizes : Sizes) (day series list slots order ids : List ℕ) (count used : ℕ) (k : Kept list slots order ids count used) (at : ℕ) where
   abbrev rs : List Record
   rs = recordsAt slots (take count order)
 
@@ -64,7 +64,7 @@ module _ (limit : ℕ) (day series list slots order ids : List ℕ) (count used 
 
   -- what one edit comes to
   abbrev pub does : Act → model.Edited
-  does a = runOne limit day series stands (doEdit (record { at = at; act = a }))
+  does a = runOne sizes day series stands (doEdit (record { at = at; act = a }))
 
   pub stands-records : recordsOf stands ≡ rs
   stands-records = index-records slots order ids count used (k .index) list
@@ -74,9 +74,9 @@ module _ (limit : ℕ) (day series list slots order ids : List ℕ) (count used 
 
   -- ---- a refusal changes nothing
 
-  pub refuses : (a : Act) (number : ℕ) → step (limitedTo limit) (lentPools day series) stands a ≡ refused number
+  pub refuses : (a : Act) (number : ℕ) → step sizes (lentPools day series) stands a ≡ refused number
       → does a ≡ record { number = number; value = at; list = stands }
-  refuses a number q = one-refused (limitedTo limit) (lentPools day series) stands (record { at = at; act = a }) number q
+  refuses a number q = one-refused sizes (lentPools day series) stands (record { at = at; act = a }) number q
 
   pub stays : (a : Act) (answer : EditAnswer)
       → does a ≡ told (record { answer = answer; count = count }) (indexedNumbers list slots order count)
@@ -85,14 +85,14 @@ module _ (limit : ℕ) (day series list slots order ids : List ℕ) (count used 
 
   -- ---- an edit that is done
 
-  pub passes : (a : Act) (next : EventList) → step (limitedTo limit) (lentPools day series) stands a ≡ done next
+  pub passes : (a : Act) (next : EventList) → step sizes (lentPools day series) stands a ≡ done next
       → (newList newSlots newOrder newIds : List ℕ) (n u : ℕ) → next ≡ indexedList newList newSlots newOrder n
       → Index newSlots newOrder newIds n u → n * recordSize ≤ length newList
       → Leaves (does a) (record { answer = Done; count = n; used = u }) newList newSlots newOrder newIds
   passes a next q newList newSlots newOrder newIds n u same x fits =
       record {
         says =
-            one-done (limitedTo limit) (lentPools day series) stands (record { at = at; act = a }) next q
+            one-done sizes (lentPools day series) stands (record { at = at; act = a }) next q
             ∙ (λ i. record { number = 0; value = same i .count; list = same i });
         index = x;
         fits = fits;
@@ -155,7 +155,7 @@ module _ (limit : ℕ) (day series list slots order ids : List ℕ) (count used 
         → Leaves (does (withdraw id)) (record { answer = WrongId at; count = count; used = used }) list slots order ids
     withdraw-absent none =
         stays (withdraw id) (WrongId at)
-        (refuses (withdraw id) 6 (withdraw-6 (limitedTo limit) (lentPools day series) stands id (rw stands-records (absent none))))
+        (refuses (withdraw id) 6 (withdraw-6 sizes (lentPools day series) stands id (rw stands-records (absent none))))
 
     pub withdraw-present : (some : number ≡ 0 → ⊥) (event : Record) → event ≡ slotRecord slots (number - 1)
         → (place : ℕ) → place ≡ placeOf (event .start) (recordsAt slots (take count order)) → (newList newOrder newIds : List ℕ)
@@ -185,6 +185,6 @@ module _ (limit : ℕ) (day series list slots order ids : List ℕ) (count used 
         lentList (overwrite (indexedNumbers list slots order count) 0 (numbersOfAll (without id qs ++ (zeroRecord ∷ [])))) (count - 1))
         stands-records
         ∙ ap (λ (ns : List ℕ). lentList ns (count - 1)) numbers in
-        passes (withdraw id) (afterWithdraw stands id) (withdraw-passes (limitedTo limit) (lentPools day series) stands id a)
+        passes (withdraw id) (afterWithdraw stands id) (withdraw-passes sizes (lentPools day series) stands id a)
         newList slots newOrder newIds (count - 1) used next (out-index some event is place at-place newOrder newIds out)
         (omega (arith, k .fits, ap length clears))

@@ -9,7 +9,7 @@ use native.Mathlib.Omega.{arith}
 use borrow.Author.Tests.{le-leb, lt-leb}
 use lib.Dec.{T, ltb}
 use lib.ListN.{length, getD, take, drop}
-use Rattle.eit.specs.Sizes.{limitedTo}
+use Rattle.eit.specs.declared.Sizes.{Sizes}
 use Rattle.eit.specs.Limits.{startLimit}
 use Rattle.eit.specs.Pools.{lentPools}
 use Rattle.eit.specs.Overwrite.{overwrite}
@@ -36,7 +36,7 @@ use Rattle.edit.proofs.IndexedLaws.{does, stands-records, records-lengt
 use Rattle.edit.proofs.IndexedLaws.{its-record, its-place, out-records, out-index}
 use Rattle.edit.proofs.PutLaws.{holds, fails}
 
-module _ (limit : ℕ) (day series list slots order ids : List ℕ) (count used : ℕ) (k : Kept list slots order ids count used) (at : ℕ)
+module _ (sizes : Sizes) (day series list slots order ids : List ℕ) (count used : ℕ) (k : Kept list slots order ids count used) (at : ℕ)
     (id start : ℕ) where
   abbrev rs : List Record
   rs = recordsAt slots (take count order)
@@ -46,37 +46,37 @@ module _ (limit : ℕ) (day series list slots order ids : List ℕ) (count used 
 
   abbrev Refused : EditAnswer → Type 0
   Refused answer =
-      Leaves (does limit day series list slots order ids count used k at (move id start)) (record { answer = answer; count = count; used = used })
+      Leaves (does sizes day series list slots order ids count used k at (move id start)) (record { answer = answer; count = count; used = used })
       list slots order ids
 
   pub move-outside : ltb start startLimit ≡ false → Refused (OutOfRange at)
   move-outside e =
-      stays limit day series list slots order ids count used k at (move id start) (OutOfRange at)
-      (refuses limit day series list slots order ids count used k at (move id start) 5
-      (move-5 (limitedTo limit) (lentPools day series) stands id start (fails e)))
+      stays sizes day series list slots order ids count used k at (move id start) (OutOfRange at)
+      (refuses sizes day series list slots order ids count used k at (move id start) 5
+      (move-5 sizes (lentPools day series) stands id start (fails e)))
 
   module _ (range : ltb start startLimit ≡ true) (number : ℕ) (found : number ≡ getD ids id 0) where
     pub move-absent : number ≡ 0 → Refused (WrongId at)
     move-absent none =
-        stays limit day series list slots order ids count used k at (move id start) (WrongId at)
-        (refuses limit day series list slots order ids count used k at (move id start) 6
-        (move-6 (limitedTo limit) (lentPools day series) stands id start (holds range)
-        (rw (stands-records limit day series list slots order ids count used k at)
-        (absent limit day series list slots order ids count used k at id number found none))))
+        stays sizes day series list slots order ids count used k at (move id start) (WrongId at)
+        (refuses sizes day series list slots order ids count used k at (move id start) 6
+        (move-6 sizes (lentPools day series) stands id start (holds range)
+        (rw (stands-records sizes day series list slots order ids count used k at)
+        (absent sizes day series list slots order ids count used k at id number found none))))
 
     module _ (some : number ≡ 0 → ⊥) (event : Record) (is : event ≡ slotRecord slots (number - 1)) where
       old : T (isAmong id (idsOf rs))
-      old = present limit day series list slots order ids count used k at id number found some
+      old = present sizes day series list slots order ids count used k at id number found some
 
       old-id : T (isAmong id (idsOf (recordsOf stands)))
-      old-id = rw (stands-records limit day series list slots order ids count used k at) old
+      old-id = rw (stands-records sizes day series list slots order ids count used k at) old
 
       its : event ≡ find id rs
-      its = its-record limit day series list slots order ids count used k at id number found some event is
+      its = its-record sizes day series list slots order ids count used k at id number found some event is
 
       others : isAmong start (startsOf (without id (recordsOf stands))) ≡ isAmong start (startsOf (without id rs))
       others =
-          ap (λ (qs : List Record). isAmong start (startsOf (without id qs))) (stands-records limit day series list slots order ids count used k at)
+          ap (λ (qs : List Record). isAmong start (startsOf (without id qs))) (stands-records sizes day series list slots order ids count used k at)
 
       module _ (p : Place) (at-place : p ≡ placeIn start rs) where
         -- another start than its own
@@ -87,9 +87,9 @@ module _ (limit : ℕ) (day series list slots order ids : List ℕ) (count used 
 
         pub move-taken : (start ≡ event .start → ⊥) → p .«is_taken» ≡ true → Refused (StartTaken at)
         move-taken other taken =
-            stays limit day series list slots order ids count used k at (move id start) (StartTaken at)
-            (refuses limit day series list slots order ids count used k at (move id start) 7
-            (move-7 (limitedTo limit) (lentPools day series) stands id start (holds range) old-id
+            stays sizes day series list slots order ids count used k at (move id start) (StartTaken at)
+            (refuses sizes day series list slots order ids count used k at (move id start) 7
+            (move-7 sizes (lentPools day series) stands id start (holds range) old-id
             (holds (others ∙ other-start other ∙ taken))))
 
         pub free-other : (start ≡ event .start → ⊥) → p .«is_taken» ≡ false → T (not (isAmong start (startsOf (without id rs))))
@@ -102,18 +102,18 @@ module _ (limit : ℕ) (day series list slots order ids : List ℕ) (count used 
           (out : TakenOut order ids count (place - 1) id midOrder midIds) where
         left-records : recordsAt slots (take (count - 1) midOrder) ≡ without id rs
         left-records =
-            out-records limit day series list slots order ids count used k at id number found some event is place was midOrder midIds out
+            out-records sizes day series list slots order ids count used k at id number found some event is place was midOrder midIds out
 
         left-index : Index slots midOrder midIds (count - 1) used
         left-index =
-            out-index limit day series list slots order ids count used k at id number found some event is place was midOrder midIds out
+            out-index sizes day series list slots order ids count used k at id number found some event is place was midOrder midIds out
 
         pub id-within : event .id < length midIds
         id-within =
             omega (
               arith,
               ap (λ (r : Record). r .id) its ∙ find-id id rs old,
-              id-small limit day series list slots order ids count used k at id number found some,
+              id-small sizes day series list slots order ids count used k at id number found some,
               left-index .idsSize,
             )
 
@@ -121,7 +121,7 @@ module _ (limit : ℕ) (day series list slots order ids : List ℕ) (count used 
         left-place : (p : Place) → p ≡ placeIn start rs → placeLeft (p .place) place ≡ placeOf start (without id rs)
         left-place p at-place =
             let was-place : place ≡ suc (indexOf id rs) =
-            its-place limit day series list slots order ids count used k at id number found some event is place was in
+            its-place sizes day series list slots order ids count used k at id number found some event is place was in
             let all : p .place ≡ placeOf start rs = ap (λ (q : Place). q .place) at-place in
             ⊎-elim
             (λ before.
@@ -133,17 +133,17 @@ module _ (limit : ℕ) (day series list slots order ids : List ℕ) (count used 
         pub move-goes : T (not (isAmong start (startsOf (without id rs)))) → used < slotLimit → (moved : Record)
             → moved ≡ withStart start event → (p : Place) → p ≡ placeIn start rs → (next : ℕ) → next ≡ placeLeft (p .place) place
             → (newSlots newOrder newIds : List ℕ) → Added slots midOrder midIds (count - 1) used next moved newSlots newOrder newIds
-            → Leaves (does limit day series list slots order ids count used k at (move id start))
+            → Leaves (does sizes day series list slots order ids count used k at (move id start))
             (record { answer = Done; count = count; used = used + 1 }) list newSlots newOrder newIds
         move-goes free slot moved is-moved p at-place next is-next newSlots newOrder newIds added =
             let left : List Record = without id rs in
             let r : Record = withStart start (find id rs) in
             let same : moved ≡ r = is-moved ∙ ap (withStart start) its in
             let size : suc (length left) ≡ count =
-            without-length id rs old ∙ records-length limit day series list slots order ids count used k at in
+            without-length id rs old ∙ records-length sizes day series list slots order ids count used k at in
             let again : count - 1 + 1 ≡ count = omega arith in
             let its-id : moved .id ≡ id = ap (λ (q : Record). q .id) same ∙ find-id id rs old in
-            let small = id-small limit day series list slots order ids count used k at id number found some in
+            let small = id-small sizes day series list slots order ids count used k at id number found some in
             let gone : T (not (isAmong (moved .id) (idsOf (recordsAt slots (take (count - 1) midOrder))))) =
             rw (left-records, its-id) (without-gone id rs (k .differ)) in
             let at-next : next ≡ placeOf start left = is-next ∙ left-place p at-place in
@@ -167,12 +167,12 @@ module _ (limit : ℕ) (day series list slots order ids : List ℕ) (count used 
             ap
             (λ (qs : List Record).
             lentList (overwrite (indexedNumbers list slots order count) 0 (numbersOfAll (insert (withStart start (find id qs)) (without id qs)))) count)
-            (stands-records limit day series list slots order ids count used k at)
+            (stands-records sizes day series list slots order ids count used k at)
             ∙ ap (λ (ns : List ℕ). lentList ns count)
-            (written-over limit day series list slots order ids count used k at (insert r left) (omega (arith, insert-length r left))
+            (written-over sizes day series list slots order ids count used k at (insert r left) (omega (arith, insert-length r left))
             ∙ ap (λ (qs : List Record). overwrite list 0 (numbersOfAll qs)) (sym records)) in
             let index =
             rw again at (add-index slots midOrder midIds (count - 1) used left-index next moved there (omega arith) slot (omega arith) gone) in
-            passes limit day series list slots order ids count used k at (move id start) (afterMove stands id start)
-            (move-passes (limitedTo limit) (lentPools day series) stands id start (holds range) old-id (rw others free))
+            passes sizes day series list slots order ids count used k at (move id start) (afterMove stands id start)
+            (move-passes sizes (lentPools day series) stands id start (holds range) old-id (rw others free))
             list newSlots newOrder newIds count (used + 1) after (rw (added .slotsAre, added .orderIs, added .idsAre) index) (k .fits)

@@ -7,7 +7,7 @@ use native.Mathlib.Omega.{arith}
 use borrow.Author.Tests.{le-ltb}
 use lib.Dec.{T, lt→ltb}
 use lib.ListN.{length, getD, take, drop}
-use Rattle.eit.specs.Sizes.{limitedTo}
+use Rattle.eit.specs.declared.Sizes.{Sizes}
 use Rattle.eit.specs.Pools.{lentPools}
 use Rattle.eit.specs.Overwrite.{overwrite}
 use Rattle.eit.specs.Among.{isAmong}
@@ -40,7 +40,7 @@ holds e = rw e tt
 pub fails : {b : Bool} → b ≡ false → T (not b)
 fails e = rw e tt
 
-module _ (limit : ℕ) (day series list slots order ids : List ℕ) (count used : ℕ) (k : Kept list slots order ids count used) (at : ℕ)
+module _ (sizes : Sizes) (day series list slots order ids : List ℕ) (count used : ℕ) (k : Kept list slots order ids count used) (at : ℕ)
     (r : Record) where
   abbrev rs : List Record
   rs = recordsAt slots (take count order)
@@ -51,75 +51,78 @@ module _ (limit : ℕ) (day series list slots order ids : List ℕ) (count used 
   -- a refusal
   abbrev Refused : EditAnswer → Type 0
   Refused answer =
-      Leaves (does limit day series list slots order ids count used k at (put r)) (record { answer = answer; count = count; used = used })
+      Leaves (does sizes day series list slots order ids count used k at (put r)) (record { answer = answer; count = count; used = used })
       list slots order ids
 
   pub put-outside : inRange r ≡ false → Refused (OutOfRange at)
   put-outside e =
-      stays limit day series list slots order ids count used k at (put r) (OutOfRange at)
-      (refuses limit day series list slots order ids count used k at (put r) 5
-      (put-5 (limitedTo limit) (lentPools day series) stands r (fails e)))
+      stays sizes day series list slots order ids count used k at (put r) (OutOfRange at)
+      (refuses sizes day series list slots order ids count used k at (put r) 5
+      (put-5 sizes (lentPools day series) stands r (fails e)))
 
   module _ (range : inRange r ≡ true) where
     pub put-unchained : hasChain (lentPools day series) r ≡ false → Refused (NoChain at)
     put-unchained e =
-        stays limit day series list slots order ids count used k at (put r) (NoChain at)
-        (refuses limit day series list slots order ids count used k at (put r) 9
-        (put-9 (limitedTo limit) (lentPools day series) stands r (holds range) (fails e)))
+        stays sizes day series list slots order ids count used k at (put r) (NoChain at)
+        (refuses sizes day series list slots order ids count used k at (put r) 9
+        (put-9 sizes (lentPools day series) stands r (holds range) (fails e)))
 
     module _ (chain : hasChain (lentPools day series) r ≡ true) (number : ℕ) (found : number ≡ getD ids (r .id) 0) where
       pub put-present : (number ≡ 0 → ⊥) → Refused (WrongId at)
       put-present some =
           let a : T (isAmong (r .id) (idsOf (recordsOf stands))) =
-          rw (stands-records limit day series list slots order ids count used k at)
-          (present limit day series list slots order ids count used k at (r .id) number found some) in
-          stays limit day series list slots order ids count used k at (put r) (WrongId at)
-          (refuses limit day series list slots order ids count used k at (put r) 6
-          (put-6 (limitedTo limit) (lentPools day series) stands r (holds range) (holds chain)
+          rw (stands-records sizes day series list slots order ids count used k at)
+          (present sizes day series list slots order ids count used k at (r .id) number found some) in
+          stays sizes day series list slots order ids count used k at (put r) (WrongId at)
+          (refuses sizes day series list slots order ids count used k at (put r) 6
+          (put-6 sizes (lentPools day series) stands r (holds range) (holds chain)
           (not-not (isAmong (r .id) (idsOf (recordsOf stands))) a)))
 
       module _ (none : number ≡ 0) (p : Place) (at-place : p ≡ placeIn (r .start) rs) where
         new : T (not (isAmong (r .id) (idsOf rs)))
-        new = absent limit day series list slots order ids count used k at (r .id) number found none
+        new = absent sizes day series list slots order ids count used k at (r .id) number found none
 
         new-id : T (not (isAmong (r .id) (idsOf (recordsOf stands))))
-        new-id = rw (stands-records limit day series list slots order ids count used k at) new
+        new-id = rw (stands-records sizes day series list slots order ids count used k at) new
 
         tested : isAmong (r .start) (startsOf (recordsOf stands)) ≡ p .«is_taken»
         tested =
-            ap (λ (qs : List Record). isAmong (r .start) (startsOf qs)) (stands-records limit day series list slots order ids count used k at)
+            ap (λ (qs : List Record). isAmong (r .start) (startsOf qs)) (stands-records sizes day series list slots order ids count used k at)
             ∙ ap (λ (q : Place). q .«is_taken») (sym at-place)
 
         pub put-taken : p .«is_taken» ≡ true → Refused (StartTaken at)
         put-taken e =
-            stays limit day series list slots order ids count used k at (put r) (StartTaken at)
-            (refuses limit day series list slots order ids count used k at (put r) 7
-            (put-7 (limitedTo limit) (lentPools day series) stands r (holds range) (holds chain) new-id
+            stays sizes day series list slots order ids count used k at (put r) (StartTaken at)
+            (refuses sizes day series list slots order ids count used k at (put r) 7
+            (put-7 sizes (lentPools day series) stands r (holds range) (holds chain) new-id
             (not-not (isAmong (r .start) (startsOf (recordsOf stands))) (holds (tested ∙ e)))))
 
         module _ (free : p .«is_taken» ≡ false) where
           size : length (indexedNumbers list slots order count) ≡ length list
           size =
               over-length list 0 (numbersOfAll rs)
-              (omega (arith, numbers-length rs, records-length limit day series list slots order ids count used k at, k .fits))
+              (omega (arith, numbers-length rs, records-length sizes day series list slots order ids count used k at, k .fits))
 
-          pub put-full : min (length list / recordSize) limit ≤ count → Refused (ListFull at)
+          pub put-full : min (length list / recordSize) (sizes .«event_limit») ≤ count → Refused (ListFull at)
           put-full h =
-              let most : min (length (indexedNumbers list slots order count) / recordSize) limit ≤ count = rw size h in
-              stays limit day series list slots order ids count used k at (put r) (ListFull at)
-              (refuses limit day series list slots order ids count used k at (put r) 8
-              (put-8 (limitedTo limit) (lentPools day series) stands r (holds range) (holds chain) new-id (fails (tested ∙ free))
-              (fails (le-ltb count (limitOf (limitedTo limit) stands) most))))
+              let most : min (length (indexedNumbers list slots order count) / recordSize) (sizes .«event_limit») ≤ count =
+              rw size h in
+              stays sizes day series list slots order ids count used k at (put r) (ListFull at)
+              (refuses sizes day series list slots order ids count used k at (put r) 8
+              (put-8 sizes (lentPools day series) stands r (holds range) (holds chain) new-id (fails (tested ∙ free))
+              (fails (le-ltb count (limitOf sizes stands) most))))
 
-          pub put-goes-in : count < limit → count < length list / recordSize → limit ≤ orderLimit → used < slotLimit
+          pub put-goes-in : count < sizes .«event_limit» → count < length list / recordSize → sizes .«event_limit» ≤ orderLimit
+              → used < slotLimit
               → (newSlots newOrder newIds : List ℕ) → Added slots order ids count used (p .place) r newSlots newOrder newIds
-              → Leaves (does limit day series list slots order ids count used k at (put r))
+              → Leaves (does sizes day series list slots order ids count used k at (put r))
               (record { answer = Done; count = count + 1; used = used + 1 }) list newSlots newOrder newIds
           put-goes-in few room capacity slot newSlots newOrder newIds added =
-              let below : count < min (length (indexedNumbers list slots order count) / recordSize) limit = rw size (omega arith) in
+              let below : count < min (length (indexedNumbers list slots order count) / recordSize) (sizes .«event_limit») =
+              rw size (omega arith) in
               let place : p .place ≡ placeOf (r .start) rs = ap (λ (q : Place). q .place) at-place in
               let there : p .place ≤ count =
-              omega (arith, place-length (r .start) rs, records-length limit day series list slots order ids count used k at) in
+              omega (arith, place-length (r .start) rs, records-length sizes day series list slots order ids count used k at) in
               let small : r .id < idLimit = omega (arith, range-facts r (holds range) .id) in
               let records : recordsAt newSlots (take (count + 1) newOrder) ≡ insert r rs =
               rw (added .slotsAre, added .orderIs)
@@ -128,14 +131,14 @@ module _ (limit : ℕ) (day series list slots order ids : List ℕ) (count used 
               ∙ sym (insert-place r rs) in
               let next : afterPut stands r ≡ indexedList list newSlots newOrder (count + 1) =
               ap (λ (qs : List Record). lentList (overwrite (indexedNumbers list slots order count) 0 (numbersOfAll (insert r qs))) (count + 1))
-              (stands-records limit day series list slots order ids count used k at)
+              (stands-records sizes day series list slots order ids count used k at)
               ∙ ap (λ (ns : List ℕ). lentList ns (count + 1))
-              (written-over limit day series list slots order ids count used k at (insert r rs)
-              (omega (arith, insert-length r rs, records-length limit day series list slots order ids count used k at))
+              (written-over sizes day series list slots order ids count used k at (insert r rs)
+              (omega (arith, insert-length r rs, records-length sizes day series list slots order ids count used k at))
               ∙ ap (λ (qs : List Record). overwrite list 0 (numbersOfAll qs)) (sym records)) in
-              passes limit day series list slots order ids count used k at (put r) (afterPut stands r)
-              (put-passes (limitedTo limit) (lentPools day series) stands r (holds range) (holds chain) new-id (fails (tested ∙ free))
-              (lt→ltb count (limitOf (limitedTo limit) stands) below))
+              passes sizes day series list slots order ids count used k at (put r) (afterPut stands r)
+              (put-passes sizes (lentPools day series) stands r (holds range) (holds chain) new-id (fails (tested ∙ free))
+              (lt→ltb count (limitOf sizes stands) below))
               list newSlots newOrder newIds (count + 1) (used + 1) next
               (rw (added .slotsAre, added .orderIs, added .idsAre)
               (add-index slots order ids count used (k .index) (p .place) r there (omega arith) slot small new))

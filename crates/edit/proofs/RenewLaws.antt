@@ -7,7 +7,7 @@ use native.Mathlib.Omega.{arith}
 use lib.Dec.{T}
 use lib.ListN.{length, getD, take, replicate, length-map, getD-replicate, length-replicate, List·getD-map}
 use lib.Seq.{take-all}
-use Rattle.eit.specs.Sizes.{limitedTo}
+use Rattle.eit.specs.declared.Sizes.{Sizes}
 use Rattle.eit.specs.Pools.{Pools, lentPools}
 use Rattle.eit.specs.Among.{isAmong, allDiffer}
 use Rattle.eit.specs.Records.{lentList, recordSize, recordsOf, recordsIn, numbersOfAll}
@@ -34,13 +34,13 @@ ids-small pools rs valid id a =
     omega (arith, range-facts (getD rs (found .0) zeroRecord) (valid-at pools rs valid (found .0) zeroRecord within .0) .id)
 
 -- what an edit asks of an index
-pub kept-sound : (limit : ℕ) (day series list slots order ids : List ℕ) (count used : ℕ) → Index slots order ids count used
-    → count * recordSize ≤ length list → T (sound (limitedTo limit) (lentPools day series) (indexedList list slots order count))
+pub kept-sound : (sizes : Sizes) (day series list slots order ids : List ℕ) (count used : ℕ) → Index slots order ids count used
+    → count * recordSize ≤ length list → T (sound sizes (lentPools day series) (indexedList list slots order count))
     → Kept list slots order ids count used
-kept-sound limit day series list slots order ids count used x fits t =
+kept-sound sizes day series list slots order ids count used x fits t =
     let pools : Pools = lentPools day series in
     let facts : RecordFacts pools (recordsAt slots (take count order)) =
-    subst (RecordFacts pools) (index-records slots order ids count used x list) (sound-list (limitedTo limit) pools _ t .records) in
+    subst (RecordFacts pools) (index-records slots order ids count used x list) (sound-list sizes pools _ t .records) in
     record {
       index = x;
       fits = fits;
@@ -70,12 +70,12 @@ module _ (list : List ℕ) (count : ℕ) (few : count ≤ orderLimit) (differ : 
         differ = differ;
       }
 
-pub loadable-sound : (limit : ℕ) (day series list : List ℕ) (count : ℕ) → limit ≤ orderLimit
-    → T (sound (limitedTo limit) (lentPools day series) (lentList list count)) → Loadable list count
+pub loadable-sound : (sizes : Sizes) (day series list : List ℕ) (count : ℕ) → sizes .«event_limit» ≤ orderLimit
+    → T (sound sizes (lentPools day series) (lentList list count)) → Loadable list count
 unfolding recordsOf
-loadable-sound limit day series list count capacity t =
+loadable-sound sizes day series list count capacity t =
     let pools : Pools = lentPools day series in
-    let facts = sound-list (limitedTo limit) pools (lentList list count) t in
+    let facts = sound-list sizes pools (lentList list count) t in
     loadable list count (omega (arith, facts .few)) (facts .records .differ)
     (ids-small pools (recordsIn count list) (facts .records .valid))
 

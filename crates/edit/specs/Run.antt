@@ -3,7 +3,7 @@
 use Prim.Native.Nat.{ℕ}
 use mathlib.Core.List.{List, [], _∷_}
 use lib.ListN.{take}
-use Rattle.eit.specs.Sizes.{limitedTo}
+use Rattle.eit.specs.declared.Sizes.{Sizes}
 use Rattle.eit.specs.Pools.{lentPools}
 use Rattle.eit.specs.Records.{EventList}
 use Rattle.script.specs.Form.{Edit, Command, doEdit, undo}
@@ -17,10 +17,10 @@ editsOf (doEdit e) = e ∷ []
 editsOf (undo at) = []
 
 -- the list after one command
-abbrev pub runOne : ℕ → List ℕ → List ℕ → EventList → Command → Edited
-runOne limit day series list c = run (limitedTo limit) (lentPools day series) list (editsOf c)
+abbrev pub runOne : Sizes → List ℕ → List ℕ → EventList → Command → Edited
+runOne sizes day series list c = run sizes (lentPools day series) list (editsOf c)
 
 -- and after the live edits among k commands from the offset `at` on, with so many UNDOs pending behind these
-abbrev pub runPart : ℕ → List ℕ → List ℕ → EventList → ℕ → ℕ → ℕ → List ℕ → Edited
-runPart limit day series list undos k at script =
-    run (limitedTo limit) (lentPools day series) list (live undos (take k (commandsAt at script)))
+abbrev pub runPart : Sizes → List ℕ → List ℕ → EventList → ℕ → ℕ → ℕ → List ℕ → Edited
+runPart sizes day series list undos k at script =
+    run sizes (lentPools day series) list (live undos (take k (commandsAt at script)))

@@ -5,6 +5,7 @@ use codec::pools;
 use edit_answer::EditAnswer;
 use edit_scan::command::Command;
 use eit::Record;
+use eit::Sizes;
 use eit::Time;
 use list_records::records;
 use list_records::records::RECORD_SIZE;
@@ -42,15 +43,16 @@ fn put_indexed<'a>(
     used: usize,
     day: &'a [u8],
     series: &'a [u8],
-    event_limit: usize,
+    sizes: Sizes,
     at: usize,
     event: Record,
 ) -> Reached
     requires { ⌜
-        Kept (now list) (now slots) (now order) (now ids) count used × (used < slotLimit) × («event_limit» ≤ orderLimit) ⌝ }
+        Kept (now list) (now slots) (now order) (now ids) count used × (used < slotLimit)
+        × (sizes .«event_limit» ≤ orderLimit) ⌝ }
     ensures { λ r. ⌜
         Leaves
-        (runOne «event_limit» (now (day .entry)) (now (series .entry))
+        (runOne sizes (now (day .entry)) (now (series .entry))
         (indexedList (now (list .entry)) (now (slots .entry)) (now (order .entry)) count) (commandTold at (Command.Put event)))
         r (now (list .entry)) (now (slots .exit)) (now (order .exit)) (now (ids .exit)) ⌝ }
 {
@@ -83,7 +85,7 @@ fn put_indexed<'a>(
             used,
         };
     }
-    if event_limit <= count || list.len() / RECORD_SIZE <= count {
+    if sizes.event_limit <= count || list.len() / RECORD_SIZE <= count {
         return Reached {
             answer: EditAnswer::ListFull(at),
             count,
@@ -111,9 +113,9 @@ fn withdraw_indexed(
 ) -> Reached
     requires { ⌜ Kept (now list) (now slots) (now order) (now ids) count used ⌝ }
     ensures { λ r. ⌜
-        ((limit : ℕ) (day series : List ℕ) →
+        ((sizes : Sizes) (day series : List ℕ) →
         Leaves
-        (runOne limit day series (indexedList (now (list .entry)) (now (slots .entry)) (now (order .entry)) count)
+        (runOne sizes day series (indexedList (now (list .entry)) (now (slots .entry)) (now (order .entry)) count)
         (commandTold at (Command.Withdraw id)))
         r (now (list .exit)) (now (slots .entry)) (now (order .exit)) (now (ids .exit))) ⌝ }
 {
@@ -150,9 +152,9 @@ fn move_indexed(
 ) -> Reached
     requires { ⌜ Kept (now list) (now slots) (now order) (now ids) count used × (used < slotLimit) ⌝ }
     ensures { λ r. ⌜
-        ((limit : ℕ) (day series : List ℕ) →
+        ((sizes : Sizes) (day series : List ℕ) →
         Leaves
-        (runOne limit day series (indexedList (now (list .entry)) (now (slots .entry)) (now (order .entry)) count)
+        (runOne sizes day series (indexedList (now (list .entry)) (now (slots .entry)) (now (order .entry)) count)
         (commandTold at (Command.Move id start)))
         r (now (list .entry)) (now (slots .exit)) (now (order .exit)) (now (ids .exit))) ⌝ }
 {
@@ -202,15 +204,16 @@ fn carry_out_indexed<'a>(
     used: usize,
     day: &'a [u8],
     series: &'a [u8],
-    event_limit: usize,
+    sizes: Sizes,
     at: usize,
     command: Command,
 ) -> Reached
     requires { ⌜
-        Kept (now list) (now slots) (now order) (now ids) count used × (used < slotLimit) × («event_limit» ≤ orderLimit) ⌝ }
+        Kept (now list) (now slots) (now order) (now ids) count used × (used < slotLimit)
+        × (sizes .«event_limit» ≤ orderLimit) ⌝ }
     ensures { λ r. ⌜
         Leaves
-        (runOne «event_limit» (now (day .entry)) (now (series .entry))
+        (runOne sizes (now (day .entry)) (now (series .entry))
         (indexedList (now (list .entry)) (now (slots .entry)) (now (order .entry)) count) (commandTold at command))
         r (now (list .exit)) (now (slots .exit)) (now (order .exit)) (now (ids .exit)) ⌝ }
 {
@@ -224,7 +227,7 @@ fn carry_out_indexed<'a>(
             used,
             day,
             series,
-            event_limit,
+            sizes,
             at,
             event,
         ),
@@ -250,14 +253,14 @@ pub fn carry_out<'a>(
     used: usize,
     day: &'a [u8],
     series: &'a [u8],
-    event_limit: usize,
+    sizes: Sizes,
     at: usize,
     command: Command,
 ) -> Reached
-    requires { ⌜ Kept (now list) (now slots) (now order) (now ids) count used × («event_limit» ≤ orderLimit) ⌝ }
+    requires { ⌜ Kept (now list) (now slots) (now order) (now ids) count used × (sizes .«event_limit» ≤ orderLimit) ⌝ }
     ensures { λ r. ⌜
         Leaves
-        (runOne «event_limit» (now (day .entry)) (now (series .entry))
+        (runOne sizes (now (day .entry)) (now (series .entry))
         (indexedList (now (list .entry)) (now (slots .entry)) (now (order .entry)) count) (commandTold at command))
         r (now (list .exit)) (now (slots .exit)) (now (order .exit)) (now (ids .exit)) ⌝ }
 {
@@ -271,7 +274,7 @@ pub fn carry_out<'a>(
         free,
         day,
         series,
-        event_limit,
+        sizes,
         at,
         command,
     )

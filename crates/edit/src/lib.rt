@@ -3,10 +3,10 @@ use edit_answer::EditAnswer;
 use edit_answer::Edited;
 use edit_scan::scan;
 use edit_scan::scan::Form;
-use eit::sizes::EVENT_LIMIT;
+use eit::Sizes;
 ghost use mathlib.Core.Path.{_≡_};
 ghost use Prim.Native.Nat.{_≤_};
-ghost use Rattle.eit.specs.Sizes.{broadcast, limitedTo};
+ghost use Rattle.eit.specs.Sizes.{broadcast};
 ghost use Rattle.eit.specs.Pools.{lentPools};
 ghost use Rattle.eit.specs.Records.{lentList};
 ghost use Rattle.script.specs.Edit.{edit};
@@ -26,15 +26,15 @@ fn edit_within<'a>(
     day: &'a [u8],
     series: &'a [u8],
     script: &[u8],
-    event_limit: usize,
+    sizes: Sizes,
 ) -> Edited
-    requires { ⌜ «event_limit» ≤ orderLimit ⌝ }
+    requires { ⌜ sizes .«event_limit» ≤ orderLimit ⌝ }
     ensures { λ r. ⌜
-        edit (limitedTo «event_limit») (lentPools (now (day .entry)) (now (series .entry))) (lentList (now (list .entry)) count)
+        edit sizes (lentPools (now (day .entry)) (now (series .entry))) (lentList (now (list .entry)) count)
         (now (script .entry))
         ≡ told r (now (list .exit)) ⌝ }
 {
-    if !list_sound::is_sound(list, count, day, series, event_limit) {
+    if !list_sound::is_sound(list, count, day, series, sizes) {
         return Edited {
             answer: EditAnswer::Unsound,
             count,
@@ -45,7 +45,7 @@ fn edit_within<'a>(
             answer: EditAnswer::Broken(at),
             count,
         },
-        Form::Whole(k) => whole::edit_whole(list, count, day, series, script, event_limit, k),
+        Form::Whole(k) => whole::edit_whole(list, count, day, series, script, sizes, k),
     }
 }
 
@@ -61,5 +61,5 @@ pub fn edit<'a>(
         edit broadcast (lentPools (now (day .entry)) (now (series .entry))) (lentList (now (list .entry)) count) (now (script .entry))
         ≡ told r (now (list .exit)) ⌝ }
 {
-    edit_within(list, count, day, series, script, EVENT_LIMIT)
+    edit_within(list, count, day, series, script, Sizes::BROADCAST)
 }

@@ -8,13 +8,13 @@ use edit_answer::EditAnswer;
 use edit_answer::Edited;
 use edit_scan::command;
 use edit_scan::scan;
-use eit::sizes::EVENT_LIMIT;
+use eit::Sizes;
+use eit::limits::EVENT_LIMIT;
 use list_records::records::RECORD_SIZE;
 ghost use mathlib.Core.Path.{_≡_};
 ghost use Prim.Native.Nat.{ℕ, _*_, _≤_};
 ghost use lib.Dec.{T};
 ghost use lib.ListN.{length, take};
-ghost use Rattle.eit.specs.Sizes.{limitedTo};
 ghost use Rattle.eit.specs.Pools.{lentPools};
 ghost use Rattle.eit.specs.Records.{lentList, recordSize};
 ghost use Rattle.eit.specs.Sound.{sound};
@@ -67,19 +67,19 @@ fn run_indexed<'a>(
     count: usize,
     day: &'a [u8],
     series: &'a [u8],
-    event_limit: usize,
+    sizes: Sizes,
     script: &[u8],
     at: usize,
     k: usize,
     live_places: &[u64],
 ) -> Edited
     requires { ⌜
-        T (sound (limitedTo «event_limit») (lentPools (now day) (now series)) (indexedList (now list) (now slots) (now order) count))
-        × (k ≤ length (commandsAt at (now script))) × (k ≤ placeLimit) × («event_limit» ≤ orderLimit)
+        T (sound sizes (lentPools (now day) (now series)) (indexedList (now list) (now slots) (now order) count))
+        × (k ≤ length (commandsAt at (now script))) × (k ≤ placeLimit) × (sizes .«event_limit» ≤ orderLimit)
         × Index (now slots) (now order) (now ids) count count × (count * recordSize ≤ length (now list)) ⌝ }
     ensures { λ r. ⌜
         ((undos : ℕ) → LivePlaces (now («live_places» .entry)) undos (take k (commandsAt at (now (script .entry))))
-        → runPart «event_limit» (now (day .entry)) (now (series .entry))
+        → runPart sizes (now (day .entry)) (now (series .entry))
         (indexedList (now (list .entry)) (now (slots .entry)) (now (order .entry)) count) undos k at (now (script .entry))
         ≡ told r (indexedNumbers (now (list .exit)) (now (slots .exit)) (now (order .exit)) (r .count)))
         × (r .count * recordSize ≤ length (now (list .exit))) × (r .count ≤ length (now (order .exit))) ⌝ }
@@ -100,7 +100,7 @@ fn run_indexed<'a>(
                 used,
                 day,
                 series,
-                event_limit,
+                sizes,
                 i,
                 command,
             );
@@ -129,18 +129,18 @@ pub fn run_live<'a>(
     count: usize,
     day: &'a [u8],
     series: &'a [u8],
-    event_limit: usize,
+    sizes: Sizes,
     script: &[u8],
     at: usize,
     k: usize,
     live_places: &[u64],
 ) -> Edited
     requires { ⌜
-        T (sound (limitedTo «event_limit») (lentPools (now day) (now series)) (lentList (now list) count))
-        × (k ≤ length (commandsAt at (now script))) × (k ≤ placeLimit) × («event_limit» ≤ orderLimit) ⌝ }
+        T (sound sizes (lentPools (now day) (now series)) (lentList (now list) count))
+        × (k ≤ length (commandsAt at (now script))) × (k ≤ placeLimit) × (sizes .«event_limit» ≤ orderLimit) ⌝ }
     ensures { λ r. ⌜
         ((undos : ℕ) → LivePlaces (now («live_places» .entry)) undos (take k (commandsAt at (now (script .entry))))
-        → runPart «event_limit» (now (day .entry)) (now (series .entry)) (lentList (now (list .entry)) count) undos k at
+        → runPart sizes (now (day .entry)) (now (series .entry)) (lentList (now (list .entry)) count) undos k at
         (now (script .entry))
         ≡ told r (now (list .exit))) ⌝ }
 {
@@ -156,7 +156,7 @@ pub fn run_live<'a>(
         count,
         day,
         series,
-        event_limit,
+        sizes,
         script,
         at,
         k,
@@ -174,17 +174,18 @@ fn run_short<'a>(
     count: usize,
     day: &'a [u8],
     series: &'a [u8],
-    event_limit: usize,
+    sizes: Sizes,
     script: &[u8],
     at: usize,
     k: usize,
     undos: usize,
 ) -> Edited
     requires { ⌜
-        T (sound (limitedTo «event_limit») (lentPools (now day) (now series)) (lentList (now list) count))
-        × (k ≤ length (commandsAt at (now script))) × (k ≤ placeLimit) × (undos ≤ placeLimit) × («event_limit» ≤ orderLimit) ⌝ }
+        T (sound sizes (lentPools (now day) (now series)) (lentList (now list) count))
+        × (k ≤ length (commandsAt at (now script))) × (k ≤ placeLimit) × (undos ≤ placeLimit)
+        × (sizes .«event_limit» ≤ orderLimit) ⌝ }
     ensures { λ r. ⌜
-        runPart «event_limit» (now (day .entry)) (now (series .entry)) (lentList (now (list .entry)) count) undos k at
+        runPart sizes (now (day .entry)) (now (series .entry)) (lentList (now (list .entry)) count) undos k at
         (now (script .entry))
         ≡ told r (now (list .exit)) ⌝ }
 {
@@ -192,17 +193,7 @@ fn run_short<'a>(
     live::undos_in(script, at, k, &mut undo_places);
     let mut live_places = [0u64; PLACE_WORDS];
     live::live_in(&undo_places, k, undos, &mut live_places);
-    run_live(
-        list,
-        count,
-        day,
-        series,
-        event_limit,
-        script,
-        at,
-        k,
-        &live_places,
-    )
+    run_live(list, count, day, series, sizes, script, at, k, &live_places)
 }
 
 // The live edits among k commands from `at` on, with so many UNDOs pending behind them, on a list that is sound: those of the
@@ -212,17 +203,17 @@ pub fn run_part<'a>(
     count: usize,
     day: &'a [u8],
     series: &'a [u8],
-    event_limit: usize,
+    sizes: Sizes,
     script: &[u8],
     at: usize,
     k: usize,
     undos: usize,
 ) -> Edited
     requires { ⌜
-        T (sound (limitedTo «event_limit») (lentPools (now day) (now series)) (lentList (now list) count))
-        × (k ≤ length (commandsAt at (now script))) × («event_limit» ≤ orderLimit) ⌝ }
+        T (sound sizes (lentPools (now day) (now series)) (lentList (now list) count))
+        × (k ≤ length (commandsAt at (now script))) × (sizes .«event_limit» ≤ orderLimit) ⌝ }
     ensures { λ r. ⌜
-        runPart «event_limit» (now (day .entry)) (now (series .entry)) (lentList (now (list .entry)) count) undos k at
+        runPart sizes (now (day .entry)) (now (series .entry)) (lentList (now (list .entry)) count) undos k at
         (now (script .entry))
         ≡ told r (now (list .exit)) ⌝ }
 {
@@ -233,17 +224,17 @@ pub fn run_part<'a>(
         };
     }
     if k <= PLACES {
-        return run_short(list, count, day, series, event_limit, script, at, k, undos);
+        return run_short(list, count, day, series, sizes, script, at, k, undos);
     }
     let h = k / 2;
     let rest = k - h;
     let mid = scan::skip_commands(script, at, h);
     let before = pending_before(script, mid, rest, undos);
-    let r = run_part(list, count, day, series, event_limit, script, at, h, before);
+    let r = run_part(list, count, day, series, sizes, script, at, h, before);
     let said = r.answer;
     if edit_answer::number_of(said) != 0 {
         return r;
     }
     let n = r.count;
-    run_part(list, n, day, series, event_limit, script, mid, rest, undos)
+    run_part(list, n, day, series, sizes, script, mid, rest, undos)
 }

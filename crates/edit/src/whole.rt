@@ -8,10 +8,10 @@ use edit_answer::Edited;
 use edit_scan::scan;
 use edit_scan::scan::Form;
 use edit_scan::scan::Strikes;
+use eit::Sizes;
 ghost use mathlib.Core.Path.{_≡_};
 ghost use Prim.Native.Nat.{_≤_};
 ghost use lib.Dec.{T};
-ghost use Rattle.eit.specs.Sizes.{limitedTo};
 ghost use Rattle.eit.specs.Pools.{lentPools};
 ghost use Rattle.eit.specs.Records.{lentList};
 ghost use Rattle.eit.specs.Sound.{sound};
@@ -29,14 +29,14 @@ fn edit_long<'a>(
     day: &'a [u8],
     series: &'a [u8],
     script: &[u8],
-    event_limit: usize,
+    sizes: Sizes,
     k: usize,
 ) -> Edited
     requires { ⌜
-        T (sound (limitedTo «event_limit») (lentPools (now day) (now series)) (lentList (now list) count))
-        × (formTold (formOf (now script)) ≡ Form.Whole k) × («event_limit» ≤ orderLimit) ⌝ }
+        T (sound sizes (lentPools (now day) (now series)) (lentList (now list) count))
+        × (formTold (formOf (now script)) ≡ Form.Whole k) × (sizes .«event_limit» ≤ orderLimit) ⌝ }
     ensures { λ r. ⌜
-        edit (limitedTo «event_limit») (lentPools (now (day .entry)) (now (series .entry))) (lentList (now (list .entry)) count)
+        edit sizes (lentPools (now (day .entry)) (now (series .entry))) (lentList (now (list .entry)) count)
         (now (script .entry))
         ≡ told r (now (list .exit)) ⌝ }
 {
@@ -46,7 +46,7 @@ fn edit_long<'a>(
             count,
         };
     }
-    part::run_part(list, count, day, series, event_limit, script, 0, k, 0)
+    part::run_part(list, count, day, series, sizes, script, 0, k, 0)
 }
 
 // A script whose commands sets of places hold: what finds the live edits also finds whether an UNDO is left with nothing to strike, and
@@ -57,14 +57,14 @@ fn edit_short<'a>(
     day: &'a [u8],
     series: &'a [u8],
     script: &[u8],
-    event_limit: usize,
+    sizes: Sizes,
     k: usize,
 ) -> Edited
     requires { ⌜
-        T (sound (limitedTo «event_limit») (lentPools (now day) (now series)) (lentList (now list) count))
-        × (formTold (formOf (now script)) ≡ Form.Whole k) × («event_limit» ≤ orderLimit) × (k ≤ placeLimit) ⌝ }
+        T (sound sizes (lentPools (now day) (now series)) (lentList (now list) count))
+        × (formTold (formOf (now script)) ≡ Form.Whole k) × (sizes .«event_limit» ≤ orderLimit) × (k ≤ placeLimit) ⌝ }
     ensures { λ r. ⌜
-        edit (limitedTo «event_limit») (lentPools (now (day .entry)) (now (series .entry))) (lentList (now (list .entry)) count)
+        edit sizes (lentPools (now (day .entry)) (now (series .entry))) (lentList (now (list .entry)) count)
         (now (script .entry))
         ≡ told r (now (list .exit)) ⌝ }
 {
@@ -73,19 +73,9 @@ fn edit_short<'a>(
     let mut live_places = [0u64; PLACE_WORDS];
     let pending = live::live_in(&undo_places, k, 0, &mut live_places);
     if 0 < pending {
-        return edit_long(list, count, day, series, script, event_limit, k);
+        return edit_long(list, count, day, series, script, sizes, k);
     }
-    part::run_live(
-        list,
-        count,
-        day,
-        series,
-        event_limit,
-        script,
-        0,
-        k,
-        &live_places,
-    )
+    part::run_live(list, count, day, series, sizes, script, 0, k, &live_places)
 }
 
 // 4, then the unstruck edits of a script of k commands. Of none, no index is made.
@@ -95,14 +85,14 @@ pub fn edit_whole<'a>(
     day: &'a [u8],
     series: &'a [u8],
     script: &[u8],
-    event_limit: usize,
+    sizes: Sizes,
     k: usize,
 ) -> Edited
     requires { ⌜
-        T (sound (limitedTo «event_limit») (lentPools (now day) (now series)) (lentList (now list) count))
-        × (formTold (formOf (now script)) ≡ Form.Whole k) × («event_limit» ≤ orderLimit) ⌝ }
+        T (sound sizes (lentPools (now day) (now series)) (lentList (now list) count))
+        × (formTold (formOf (now script)) ≡ Form.Whole k) × (sizes .«event_limit» ≤ orderLimit) ⌝ }
     ensures { λ r. ⌜
-        edit (limitedTo «event_limit») (lentPools (now (day .entry)) (now (series .entry))) (lentList (now (list .entry)) count)
+        edit sizes (lentPools (now (day .entry)) (now (series .entry))) (lentList (now (list .entry)) count)
         (now (script .entry))
         ≡ told r (now (list .exit)) ⌝ }
 {
@@ -113,7 +103,7 @@ pub fn edit_whole<'a>(
         };
     }
     if k <= PLACES {
-        return edit_short(list, count, day, series, script, event_limit, k);
+        return edit_short(list, count, day, series, script, sizes, k);
     }
-    edit_long(list, count, day, series, script, event_limit, k)
+    edit_long(list, count, day, series, script, sizes, k)
 }

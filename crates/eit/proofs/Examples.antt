@@ -34,6 +34,5 @@ examples =
       numbers = (refl, refl);
       lent-pools = (refl, refl);
       lent-list = (refl, refl);
-      limited = (refl, refl);
       marks-bit = refl;
     }

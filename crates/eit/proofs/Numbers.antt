@@ -7,8 +7,8 @@ use Rattle.eit.specs.Records.{recordSize}
 
 -- section_length, the bytes after its field, is 15 to 4,093; events have 4,078 bytes in a section; the records of the largest list
 -- are 12,288 numbers
-pub broadcast-sizes : (sectionOverhead - 3 ≡ 15) × (broadcast .sectionLimit - 3 ≡ 4_093) × (room broadcast ≡ 4_078)
-    × (broadcast .eventLimit * recordSize ≡ 12_288)
+pub broadcast-sizes : (sectionOverhead - 3 ≡ 15) × (broadcast .«section_limit» - 3 ≡ 4_093) × (room broadcast ≡ 4_078)
+    × (broadcast .«event_limit» * recordSize ≡ 12_288)
 broadcast-sizes = (refl, refl, refl, refl)
 
 -- two bytes for the id; 512 segments of 10,800 seconds, which are 64 days, the last of them the largest MJD of two bytes;

@@ -8,7 +8,7 @@ use native.Mathlib.Omega.{arith}
 use mathlib.Core.List.{List, [], _∷_}
 use lib.Dec.{T, eqb}
 use lib.ListN.{length, getD, drop}
-use Rattle.eit.specs.Sizes.{Sizes}
+use Rattle.eit.specs.declared.Sizes.{Sizes}
 use Rattle.eit.specs.Limits.{marksMost}
 use Rattle.eit.specs.Pools.{Pools, odd, marksFreeCa, marksOffAir}
 use Rattle.eit.specs.Records.{EventList, recordsOf}

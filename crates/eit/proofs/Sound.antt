@@ -5,7 +5,7 @@ use native.Mathlib.Omega.{arith}
 use mathlib.Core.List.{List, [], _∷_, _++_}
 use lib.Dec.{T, leb→le, le→leb, ltb→lt}
 use lib.ListN.{length, getD, length-map}
-use Rattle.eit.specs.Sizes.{Sizes, sized, limitedTo}
+use Rattle.eit.specs.declared.Sizes.{Sizes}
 use Rattle.eit.specs.Limits.{idMost, startLimit, durationLeast, durationMost, marksMost}
 use Rattle.eit.specs.Chain.{isChain}
 use Rattle.eit.specs.Pools.{Pools, poolOf, choose}
@@ -55,7 +55,7 @@ sound-records pools rs t =
 
 -- what soundness asks of a list
 pub record ListFacts (sizes : Sizes) (pools : Pools) (list : EventList) : Type 0 where
-  pub few : list .count ≤ sizes .eventLimit
+  pub few : list .count ≤ sizes .«event_limit»
   pub held : list .count * recordSize ≤ length (list .buffer)
   pub records : RecordFacts pools (recordsOf list)
 
@@ -68,7 +68,7 @@ module _ (sizes : Sizes) (pools : Pools) (list : EventList) where
   unfolding sound
   sound-list t =
       record {
-        few = leb→le (list .count) (sizes .eventLimit) (search tests);
+        few = leb→le (list .count) (sizes .«event_limit») (search tests);
         held = leb→le (list .count * recordSize) (length (list .buffer)) (search tests);
         records = sound-records pools (recordsOf list) (search tests);
       }
@@ -113,9 +113,3 @@ events-length pools list = length-map (recordsOf list) (eventOf pools) ∙ count
 pub events-rise : (sizes : Sizes) (pools : Pools) (list : EventList) → T (sound sizes pools list) → T (rising (eventsOf pools list))
 unfolding eventsOf
 events-rise sizes pools list t = sound-list sizes pools list t .records .rises
-
--- a list does not see the section's size
-pub sound-limited : (bytes limit : ℕ) (pools : Pools) (list : EventList)
-    → sound (limitedTo limit) pools list ≡ sound (sized bytes limit) pools list
-unfolding sound
-sound-limited bytes limit pools list = refl

@@ -5,7 +5,7 @@ use mathlib.Core.Path.{_≡_}
 use mathlib.Core.Bool.{Bool, true, false}
 use mathlib.Core.List.{List, [], _∷_}
 use lib.ListN.{replicate}
-use Rattle.eit.specs.Sizes.{broadcast, limitedTo}
+use Rattle.eit.specs.Sizes.{broadcast}
 use Rattle.eit.specs.Records.{EventList, lentList, recordsOf}
 use Rattle.eit.specs.Pools.{Pools, lentPools, poolOf}
 use Rattle.eit.specs.Find.{indexOf, placeOf}
@@ -56,6 +56,5 @@ pub record Examples : Type 0 where
   -- what a call is lent: the day pool before the series pool, the buffer before the count
   pub lent-pools : (poolOf (lentPools (1 ∷ []) (2 ∷ [])) 0 ≡ 1 ∷ []) × (poolOf (lentPools (1 ∷ []) (2 ∷ [])) 2 ≡ 2 ∷ [])
   pub lent-list : (lentList (3 ∷ []) 1 .buffer ≡ 3 ∷ []) × (lentList (3 ∷ []) 1 .count ≡ 1)
-  pub limited : (limitedTo 2048 ≡ broadcast) × (limitedTo 5 .eventLimit ≡ 5)
   -- marks above 7, which only the chooser meets: the bit of value 2 decides
   pub marks-bit : poolOf pools 10 ≡ pools .series

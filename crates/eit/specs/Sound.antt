@@ -5,7 +5,7 @@ use mathlib.Core.Bool.{Bool, true, _&&_}
 use mathlib.Core.List.{List, [], _∷_, map}
 use lib.Dec.{leb, ltb}
 use lib.ListN.{length}
-use Rattle.eit.specs.Sizes.{Sizes}
+use Rattle.eit.specs.declared.Sizes.{Sizes}
 use Rattle.eit.specs.Limits.{idMost, startLimit, durationLeast, durationMost, marksMost}
 use Rattle.eit.specs.Among.{allDiffer}
 use Rattle.eit.specs.Chain.{isChain}
@@ -48,7 +48,7 @@ soundRecords pools rs = allValid pools rs && (rising (eventsIn pools rs) && allD
 unfoldable pub sound : Sizes → Pools → EventList → Bool
 unfolding soundRecords
 sound sizes pools list =
-    leb (list .count) (sizes .eventLimit)
+    leb (list .count) (sizes .«event_limit»)
     && (leb (list .count * recordSize) (length (list .buffer)) && soundRecords pools (recordsOf list))
 
 -- the events that a sound list stands for, in its order

@@ -1,5 +1,6 @@
-// The types that the calls share, the time type, and the sizes that several crates ask for. Everything else of this crate is
+// The types that the calls share, the time type, and the limits that several crates ask for. Everything else of this crate is
 // definitions (specs/) and laws (proofs/).
+use crate::limits::EVENT_LIMIT;
 ghost use mathlib.Core.Path.{_≡_};
 ghost use mathlib.Core.Bool.{_&&_};
 ghost use lib.Dec.{ltb, leb};
@@ -7,7 +8,7 @@ ghost use Rattle.eit.specs.Limits.{startLimit, durationLeast, durationMo
 ghost use Rattle.eit.specs.Time.{timeOf};
 ghost use Rattle.eit.specs.Identity.{noIdentity};
 
-pub mod sizes;
+pub mod limits;
 
 // 01's term: record. Six numbers of the lent list (01, "Event record and sound list").
 pub struct Record {
@@ -49,6 +50,21 @@ pub fn no_identity() -> Identity
         triplet,
         version: 0,
     }
+}
+
+// The two sizes that document 01 fixes for broadcast.
+pub struct Sizes {
+    // The most bytes of a whole section ("The file of sections").
+    pub section_limit: u16,
+    // The most events of a list or a file ("Event record and sound list", "The file of sections").
+    pub event_limit: usize,
+}
+
+impl Sizes {
+    pub const BROADCAST: Self = Sizes {
+        section_limit: 4_096,
+        event_limit: EVENT_LIMIT,
+    };
 }
 
 // A time of day or a duration, as its six BCD digits show it.

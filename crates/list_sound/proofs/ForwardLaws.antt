@@ -8,7 +8,7 @@ use mathlib.Core.List.{List, [], _∷_}
 use lib.Dec.{T, leb, eqb, leb→le, le→leb}
 use lib.ListN.{length}
 use borrow.Author.Tests.{le-leb, lt-leb}
-use Rattle.eit.specs.Sizes.{limitedTo}
+use Rattle.eit.specs.declared.Sizes.{Sizes}
 use Rattle.eit.specs.Pools.{Pools}
 use Rattle.eit.specs.Records.{lentList, recordSize, recordsIn, recordsOf}
 use Rattle.eit.specs.Among.{isAmong}
@@ -109,17 +109,20 @@ forward-sound pools rs =
 
 -- ---- a list
 
-module _ (limit : ℕ) (pools : Pools) (d : List ℕ) (count : ℕ) where
-  pub sound-many : limit < count → sound (limitedTo limit) pools (lentList d count) ≡ false
+module _ (sizes : Sizes) (pools : Pools) (d : List ℕ) (count : ℕ) where
+  pub sound-many : sizes .«event_limit» < count → sound sizes pools (lentList d count) ≡ false
   unfolding sound
-  sound-many h = rw (sound, lt-leb count limit h)
+  sound-many h = rw (sound, lt-leb count (sizes .«event_limit») h)
 
-  pub sound-short : length d / recordSize < count → sound (limitedTo limit) pools (lentList d count) ≡ false
+  pub sound-short : length d / recordSize < count → sound sizes pools (lentList d count) ≡ false
   unfolding sound
-  sound-short h = rw (sound, lt-leb (count * recordSize) (length d) (omega arith)) (and-false (leb count limit))
+  sound-short h =
+      rw (sound, lt-leb (count * recordSize) (length d) (omega arith))
+      (and-false (leb count (sizes .«event_limit»)))
 
-  pub sound-held : count ≤ limit → count ≤ length d / recordSize
-      → sound (limitedTo limit) pools (lentList d count) ≡ soundFrom pools [] 0 (recordsIn count d)
+  pub sound-held : count ≤ sizes .«event_limit» → count ≤ length d / recordSize
+      → sound sizes pools (lentList d count) ≡ soundFrom pools [] 0 (recordsIn count d)
   unfolding sound recordsOf
   sound-held few held =
-      rw (sound, le-leb count limit few, le-leb (count * recordSize) (length d) (omega arith)) (sym (forward-sound pools (recordsIn count d)))
+      rw (sound, le-leb count (sizes .«event_limit») few, le-leb (count * recordSize) (length d) (omega arith))
+      (sym (forward-sound pools (recordsIn count d)))

@@ -2,12 +2,12 @@
 use codec::pools;
 use codec::seen;
 use eit::Record;
+use eit::Sizes;
 use eit::Time;
-use eit::sizes::ID_WORDS;
+use eit::limits::ID_WORDS;
 use list_records::records;
 use list_records::records::RECORD_SIZE;
 ghost use mathlib.Core.Path.{_≡_};
-ghost use Rattle.eit.specs.Sizes.{limitedTo};
 ghost use Rattle.eit.specs.Pools.{lentPools};
 ghost use Rattle.eit.specs.Records.{lentList};
 ghost use Rattle.eit.specs.Sound.{inRange, sound};
@@ -33,13 +33,12 @@ pub fn is_sound<'a>(
     count: usize,
     day: &'a [u8],
     series: &'a [u8],
-    event_limit: usize,
+    sizes: Sizes,
 ) -> bool
     ensures { λ r. ⌜
-        r
-        ≡ sound (limitedTo «event_limit») (lentPools (now (day .entry)) (now (series .entry))) (lentList (now (list .entry)) count) ⌝ }
+        r ≡ sound sizes (lentPools (now (day .entry)) (now (series .entry))) (lentList (now (list .entry)) count) ⌝ }
 {
-    if event_limit < count || list.len() / RECORD_SIZE < count {
+    if sizes.event_limit < count || list.len() / RECORD_SIZE < count {
         return false;
     }
     let mut seen = [0u64; ID_WORDS];

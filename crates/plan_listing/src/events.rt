@@ -1,6 +1,6 @@
 // How many events a section has (01, "The file of sections"): its event loop, cut by the chain lengths.
 use codec::fields;
-use eit::sizes::EVENT_OVERHEAD;
+use eit::limits::EVENT_OVERHEAD;
 ghost use mathlib.Core.Path.{_≡_};
 ghost use lib.ListN.{length};
 ghost use Rattle.sections.specs.Decode.{statedEventSize, cutEvents};

@@ -5,7 +5,8 @@ use mathlib.Core.List.{List, [], _∷_, flatten}
 use Prim.Native.Nat.{ℕ, _^_, _<_}
 use native.Mathlib.Omega.{arith}
 use lib.ListN.{length}
-use Rattle.eit.specs.Sizes.{Sizes, broadcast}
+use Rattle.eit.specs.Sizes.{broadcast}
+use Rattle.eit.specs.declared.Sizes.{Sizes}
 use Rattle.eit.specs.Fields.{Bytes}
 use Rattle.eit.proofs.Fields.{bytes-parts}
 use Rattle.eit.proofs.Test.{and-left}

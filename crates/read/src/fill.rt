@@ -2,8 +2,8 @@
 use codec_section::event;
 use codec_section::event::EventRead;
 use eit::Record;
-use eit::sizes::EVENT_OVERHEAD;
-use eit::sizes::HEADER_SIZE;
+use eit::limits::EVENT_OVERHEAD;
+use eit::limits::HEADER_SIZE;
 use list_records::records;
 ghost use mathlib.Core.Path.{_≡_};
 ghost use mathlib.Core.List.{map};

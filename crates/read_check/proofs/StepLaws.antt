@@ -10,7 +10,7 @@ use native.Mathlib.Omega.{arith}
 use lib.Dec.{T, le→leb}
 use borrow.Author.Tests.{lt-leb}
 use lib.ListN.{length, length-map}
-use Rattle.eit.specs.Sizes.{Sizes, sized, sectionsUpTo}
+use Rattle.eit.specs.declared.Sizes.{Sizes}
 use Rattle.eit.specs.Fields.{Bytes}
 use Rattle.eit.specs.Events.{Event}
 use Rattle.eit.proofs.Test.{true-is, false-is, test-or}
@@ -69,26 +69,19 @@ module _ (before : Option Header) (bs : List ℕ) where
       (λ (f : T (not (isHeader before bs))). f)
       (test-or (isHeader before bs))
 
-module _ {offset : ℕ} {state : WalkState} {words : List ℕ} {p : Progress} (tracks : Tracks offset state words p) (size limit base : ℕ)
-    (bs : List ℕ) where
-  abbrev sizes : Sizes
-  sizes = sized size limit
-
+module _ {offset : ℕ} {state : WalkState} {words : List ℕ} {p : Progress} (tracks : Tracks offset state words p) (sizes : Sizes)
+    (base : ℕ) (bs : List ℕ) where
   -- the section's offset
   at-offset : {number : ℕ} → step sizes base p bs ≡ refused number (p .offset) → step sizes base p bs ≡ refused number offset
   at-offset {number} is = is ∙ ap (refused number) (tracks .offset-is)
 
-  same-frame : isFramed (sectionsUpTo size) bs ≡ isFramed sizes bs
-  unfolding isFramed
-  same-frame = refl
+  pub says-20 : {framed : Bool} → framed ≡ isFramed sizes bs → framed ≡ false → step sizes base p bs ≡ refused 20 offset
+  says-20 made is = at-offset (step-20 sizes base p bs (fails made is))
 
-  pub says-20 : {framed : Bool} → framed ≡ isFramed (sectionsUpTo size) bs → framed ≡ false → step sizes base p bs ≡ refused 20 offset
-  says-20 made is = at-offset (step-20 sizes base p bs (fails (made ∙ same-frame) is))
-
-  module _ (bytes : Bytes bs) {framed : Bool} (frame : framed ≡ isFramed (sectionsUpTo size) bs) (frame-holds : framed ≡ true)
+  module _ (bytes : Bytes bs) {framed : Bool} (frame : framed ≡ isFramed sizes bs) (frame-holds : framed ≡ true)
       {tables : List ℕ} (right : tables ≡ crcTables) where
     is-framed : T (isFramed sizes bs)
-    is-framed = holds (frame ∙ same-frame) frame-holds
+    is-framed = holds frame frame-holds
 
     same-crc : isClosedBy tables bs ≡ isClosed bs
     same-crc = ap (λ (t : List ℕ). isClosedBy t bs) right ∙ closed-by-tables bs bytes
@@ -154,21 +147,22 @@ module _ {offset : ℕ} {state : WalkState} {words : List ℕ} {p : Progress} (t
             events-count : length events ≡ length (cutEvents bs)
             events-count = length-map (cutEvents bs) (eventIn base)
 
-            above : limit < check .events + state .count → T (not (isWithinLimit sizes (p .seen) bs))
+            above : sizes .«event_limit» < check .events + state .count → T (not (isWithinLimit sizes (p .seen) bs))
             unfolding isWithinLimit
             above many =
-                let many′ : limit < length (p .seen) + length (cutEvents bs) = omega (arith, kept-events .0, tracks .count-is) in
-                rw (lt-leb (length (p .seen) + length (cutEvents bs)) limit many′) tt
+                let many′ : sizes .«event_limit» < length (p .seen) + length (cutEvents bs) =
+                omega (arith, kept-events .0, tracks .count-is) in
+                rw (lt-leb (length (p .seen) + length (cutEvents bs)) (sizes .«event_limit») many′) tt
 
-            within : check .events + state .count ≤ limit → T (isWithinLimit sizes (p .seen) bs)
+            within : check .events + state .count ≤ sizes .«event_limit» → T (isWithinLimit sizes (p .seen) bs)
             unfolding isWithinLimit
-            within few = le→leb _ limit (omega (arith, kept-events .0, tracks .count-is))
+            within few = le→leb _ (sizes .«event_limit») (omega (arith, kept-events .0, tracks .count-is))
 
-            pub says-26 : limit < check .events + state .count → step sizes base p bs ≡ refused 26 offset
+            pub says-26 : sizes .«event_limit» < check .events + state .count → step sizes base p bs ≡ refused 26 offset
             says-26 many =
                 at-offset (step-26 sizes base p bs is-framed is-closed (shown .0) is-placed is-loop (above many))
 
-            pub goes-on : check .events + state .count ≤ limit
+            pub goes-on : check .events + state .count ≤ sizes .«event_limit»
                 → Said (offset + length bs)
                 (Passed (record { before = Behind h; least = check .least; count = state .count + check .events })) words′
                 (step sizes base p bs)

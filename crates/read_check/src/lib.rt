@@ -1,21 +1,85 @@
 // Read without a record buffer (01, "Build, Read", "When a call says no"): check. It looks at every section once, and writes
 // nothing.
-use eit::sizes::EVENT_LIMIT;
+use crate::section::SectionVerdict;
+use crate::section::WalkState;
+use eit::Identity;
+use eit::Sizes;
+use eit::limits::BASE_DAY_MOST;
+use eit::limits::ID_WORDS;
 use read_answer::CheckedFile;
+use read_answer::ReadAnswer;
+use read_checks::header::Kept;
 ghost use mathlib.Core.Path.{_≡_};
+ghost use mathlib.Core.List.{List};
+ghost use Prim.Native.Nat.{ℕ};
 ghost use Rattle.eit.specs.Sizes.{broadcast};
-ghost use Rattle.sections.specs.Read.{checkFile};
+ghost use Rattle.sections.specs.Read.{atEnd, checkFile};
+ghost use Rattle.sections.specs.Walk.{Progress, passed};
 ghost use Rattle.read_answer.specs.Told.{told};
+ghost use Rattle.read_check.specs.Tracks.{Tracks};
 
 mod section;
-mod sizes;
 
-// Bytes of a section at most (01, "The file of sections").
-const SECTION_SIZE: usize = 4_096;
+// At the end of a file of `size` bytes: it ends after last_table_id, or early.
+fn at_end(state: WalkState, size: usize) -> CheckedFile
+    ensures { λ r. ⌜
+        ((p : Progress) (offset : ℕ) (words : List ℕ) → Tracks offset state words p → atEnd size (passed p) ≡ told r) ⌝ }
+{
+    let before = state.before;
+    let Kept::Header(last) = before else {
+        return read_answer::refused(ReadAnswer::EarlyEnd(size));
+    };
+    if last.section_number != last.last_section_number || last.table_id != last.last_table_id {
+        return read_answer::refused(ReadAnswer::EarlyEnd(size));
+    }
+    let triplet = last.triplet;
+    let identity = Identity {
+        triplet,
+        version: last.version,
+    };
+    CheckedFile {
+        answer: ReadAnswer::Done(state.count),
+        identity,
+    }
+}
+
+// Section after section, until one is refused or the file ends.
+fn check_within(file: &[u8], base_day: u32, sizes: Sizes) -> CheckedFile
+    ensures { λ r. ⌜ checkFile sizes «base_day» (now (file .entry)) ≡ told r ⌝ }
+{
+    if BASE_DAY_MOST < base_day {
+        return read_answer::refused(ReadAnswer::BaseDay);
+    }
+    let crc_tables = codec_crc::tables();
+    let mut seen = [0u64; ID_WORDS];
+    let mut state = WalkState {
+        before: Kept::Nothing,
+        least: 0,
+        count: 0,
+    };
+    let mut offset = 0;
+    while offset < file.len() {
+        let section = read_walk::read_section(file, offset);
+        match section::check_section(
+            section,
+            offset,
+            state,
+            base_day,
+            sizes,
+            &crc_tables,
+            &mut seen,
+        ) {
+            SectionVerdict::Refused(said) => return read_answer::refused(said),
+            SectionVerdict::Passed(next) => state = next,
+        }
+        offset = read_walk::next_offset(file, offset);
+    }
+    at_end(state, file.len())
+}
 
 // Answer, identity and number of events are those of the definition. It never says 27.
 pub fn check(file: &[u8], base_day: u32) -> CheckedFile
     ensures { λ r. ⌜ checkFile broadcast «base_day» (now (file .entry)) ≡ told r ⌝ }
 {
-    sizes::check_within(file, base_day, SECTION_SIZE, EVENT_LIMIT)
+    check_within(file, base_day, Sizes::BROADCAST)
 }

@@ -1,4 +1,5 @@
 // One section behind those before it: 20, 21, 22, 23, 24, 26 (01, "When a call says no").
+use eit::Sizes;
 use read_answer::ReadAnswer;
 use read_checks::frame;
 use read_checks::header;
@@ -7,7 +8,6 @@ use read_checks::place;
 ghost use mathlib.Core.Path.{_≡_};
 ghost use Prim.Native.Nat.{_+_};
 ghost use lib.ListN.{length};
-ghost use Rattle.eit.specs.Sizes.{sized};
 ghost use Rattle.codec_crc.specs.CrcTables.{crcTables};
 ghost use Rattle.sections.specs.Walk.{Progress, step};
 ghost use Rattle.read_check.specs.Tracks.{Tracks, Said};
@@ -31,8 +31,7 @@ pub fn check_section(
     offset: usize,
     state: WalkState,
     base_day: u32,
-    section_size: usize,
-    event_limit: usize,
+    sizes: Sizes,
     crc_tables: &[u32; 2048],
     seen: &mut [u64],
 ) -> SectionVerdict
@@ -40,9 +39,9 @@ pub fn check_section(
     ensures { λ r. ⌜
         ((p : Progress) → Tracks offset state (now (seen .entry)) p
         → Said (offset + length (now (section .entry))) r (now (seen .exit))
-        (step (sized «section_size» «event_limit») «base_day» p (now (section .entry)))) ⌝ }
+        (step sizes «base_day» p (now (section .entry)))) ⌝ }
 {
-    if !frame::is_framed(section, section_size) {
+    if !frame::is_framed(section, sizes) {
         return SectionVerdict::Refused(ReadAnswer::Frame(offset));
     }
     if !frame::is_closed(crc_tables, section) {
@@ -66,7 +65,7 @@ pub fn check_section(
         return SectionVerdict::Refused(ReadAnswer::EventLoop(offset));
     }
     let found = checked.events;
-    if event_limit < found || event_limit - found < state.count {
+    if sizes.event_limit < found || sizes.event_limit - found < state.count {
         return SectionVerdict::Refused(ReadAnswer::EventLimit(offset));
     }
     SectionVerdict::Passed(WalkState {

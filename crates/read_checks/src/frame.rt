@@ -1,9 +1,9 @@
 // A section's frame and its CRC_32 (01, "The file of sections").
 use codec::fields;
 use codec_crc::CRC_FIRST;
-use eit::sizes::SECTION_OVERHEAD;
+use eit::Sizes;
+use eit::limits::SECTION_OVERHEAD;
 ghost use mathlib.Core.Path.{_≡_};
-ghost use Rattle.eit.specs.Sizes.{sectionsUpTo};
 ghost use Rattle.sections.specs.JudgeHeader.{isTable, isFramed};
 ghost use Rattle.read_checks.specs.Closed.{isClosedBy};
 
@@ -20,14 +20,14 @@ pub fn is_table(table_id: u32) -> bool
 }
 
 // 20: the section is not cut, and its table_id and its length are in range.
-pub fn is_framed(section: &[u8], section_size: usize) -> bool
-    ensures { λ r. ⌜ r ≡ isFramed (sectionsUpTo «section_size») (now (section .entry)) ⌝ }
+pub fn is_framed(section: &[u8], sizes: Sizes) -> bool
+    ensures { λ r. ⌜ r ≡ isFramed sizes (now (section .entry)) ⌝ }
 {
     let size = section.len();
     if size != read_walk::stated_size(section) {
         return false;
     }
-    if size < SECTION_OVERHEAD || section_size < size {
+    if size < SECTION_OVERHEAD || (sizes.section_limit as usize) < size {
         return false;
     }
     is_table(fields::read_field(section, 0, 1))

@@ -2,8 +2,8 @@
 // offset"). Who walks keeps the file and an offset, reads the section there through `read_section`, and advances
 // through `next_offset` alone. A loop cannot hold the reader itself, so each of the two makes it anew.
 use codec::fields;
-use eit::sizes::CRC_SIZE;
-use eit::sizes::HEADER_SIZE;
+use eit::limits::CRC_SIZE;
+use eit::limits::HEADER_SIZE;
 ghost use mathlib.Core.Path.{_≡_};
 ghost use Rattle.sections.specs.Decode.{statedSectionSize, eventLoop};
 ghost use Rattle.read_walk.specs.SectionAt.{sectionAt, sectionEnd};

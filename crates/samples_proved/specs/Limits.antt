@@ -13,7 +13,7 @@ use Rattle.samples_proved.specs.SampleCalls.{buildOf, answer, planOf, cu
 
 pub record Limits : Type 0 where
   -- Read's record buffer in the demands
-  pub record-buffer : broadcast .eventLimit * recordSize ≡ 12_288
+  pub record-buffer : broadcast .«event_limit» * recordSize ≡ 12_288
   -- three sections in a segment, the first two full
   pub three-cuts : cuts (bare 0 679) ≡ (0x50, 0, 339) ∷ (0x50, 1, 339) ∷ (0x50, 2, 1) ∷ []
   -- an unpackable segment after one that is not

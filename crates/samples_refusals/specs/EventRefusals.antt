@@ -35,10 +35,11 @@ pub record EventRefusals : Type 0 where
       says (section 0x50 0 0 0 0x50 (event 1 0x00 0x00 ++ event 2 0x00 0x30 ++ event 1 0x01 0x00))
       ≡ refusedWith 24 0
   -- 26, behind 24 and before 25
-  pub limit-held : checkFile (record { sectionLimit = 4_096; eventLimit = 1 }) 49_273 (withEvent one hour bare) .number ≡ 0
-  pub above-limit-early : checkFile (record { sectionLimit = 4_096; eventLimit = 1 }) 49_273
+  pub limit-held :
+      checkFile (record { «section_limit» = 4_096; «event_limit» = 1 }) 49_273 (withEvent one hour bare) .number ≡ 0
+  pub above-limit-early : checkFile (record { «section_limit» = 4_096; «event_limit» = 1 }) 49_273
       (section 0x50 0 8 0 0x50 (event 1 0x00 0x00 ++ event 2 0x00 0x30)) ≡ refusedWith 26 0
-  pub above-limit-next : checkFile (record { sectionLimit = 4_096; eventLimit = 1 }) 49_273
+  pub above-limit-next : checkFile (record { «section_limit» = 4_096; «event_limit» = 1 }) 49_273
       (section 0x50 0 8 0 0x50 (event 1 0x00 0x00) ++ section 0x50 8 8 8 0x50 (event 2 0x03 0x00)) ≡ refusedWith 26 30
   -- 25, with the file's length, and 27 behind it
   pub empty-file : says [] ≡ refusedWith 25 0

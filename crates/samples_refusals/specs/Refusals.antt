@@ -19,8 +19,10 @@ pub record Refusals : Type 0 where
   pub too-short :
       says (withCrc (0x50 ∷ 0xF0 ∷ 0x0E ∷ 0x00 ∷ 0x01 ∷ 0xC1 ∷ 0x00 ∷ 0x00 ∷ 0x00 ∷ 0x02 ∷ 0x00 ∷ 0x03 ∷ 0x00 ∷ []))
       ≡ refusedWith 20 0
-  pub too-long : checkFile (record { sectionLimit = 29; eventLimit = 9 }) 49_273 (withEvent one hour bare) ≡ refusedWith 20 0
-  pub just-fits : checkFile (record { sectionLimit = 30; eventLimit = 9 }) 49_273 (withEvent one hour bare) .number ≡ 0
+  pub too-long :
+      checkFile (record { «section_limit» = 29; «event_limit» = 9 }) 49_273 (withEvent one hour bare) ≡ refusedWith 20 0
+  pub just-fits :
+      checkFile (record { «section_limit» = 30; «event_limit» = 9 }) 49_273 (withEvent one hour bare) .number ≡ 0
   -- 21, before 22
   pub crc :
       says (0x50 ∷ 0xF0 ∷ 0x0F ∷ 0x00 ∷ 0x01 ∷ 0xC0 ∷ 0x00 ∷ 0x00 ∷ 0x00 ∷ 0x02 ∷ 0x00 ∷ 0x03 ∷ 0x00 ∷ 0x50

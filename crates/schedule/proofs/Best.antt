@@ -10,7 +10,8 @@ use native.Mathlib.Omega.{arith}
 use lib.Dec.{T, T-not}
 use lib.ListN.{length, length-map}
 use lib.Seq.{take-nil}
-use Rattle.eit.specs.Sizes.{Sizes, sectionOverhead, room}
+use Rattle.eit.specs.Sizes.{sectionOverhead, room}
+use Rattle.eit.specs.declared.Sizes.{Sizes}
 use Rattle.eit.specs.Events.{Event}
 use Rattle.eit.specs.declared.Identity.{Identity}
 use Rattle.eit.proofs.Test.{test-or, le-or-lt}
@@ -116,7 +117,7 @@ module _ (sizes : Sizes) (es : List Event) (facts : SoundEvents sizes es)
         (test-or (isInside es index))
 
     -- its first k hold at most as many events
-    pub best-most : sectionOverhead ≤ sizes .sectionLimit → IdentityRules identity → ((i : ℕ) → T (not (isUnpackable sizes es i)))
+    pub best-most : sectionOverhead ≤ sizes .«section_limit» → IdentityRules identity → ((i : ℕ) → T (not (isUnpackable sizes es i)))
         → (k : ℕ) → k ≤ 8
         → length (sectionEvents (firstSections index k ss))
         ≤ length (sectionEvents (firstSections index k (sectionsOf sizes identity es)))

@@ -6,7 +6,8 @@ use mathlib.Core.List.{List, [], _∷_}
 use Prim.Native.Nat.{ℕ, _≤_}
 use native.Mathlib.Omega.{arith}
 use lib.Dec.{T}
-use Rattle.eit.specs.Sizes.{Sizes, sectionOverhead}
+use Rattle.eit.specs.Sizes.{sectionOverhead}
+use Rattle.eit.specs.declared.Sizes.{Sizes}
 use Rattle.eit.specs.Events.{Event}
 use Rattle.eit.specs.declared.Identity.{Identity}
 use Rattle.sections.specs.Section.{Section, sectionSize}
@@ -26,7 +27,7 @@ all-four : (sizes : Sizes) (identity : Identity) (lastTableId : ℕ) (ss : List 
     → Every (λ (s : Section). HeaderRules identity lastTableId (s .header)) ss
     → Every (λ (s : Section). Every (EventRules (s .header)) (s .events)) ss
     → Every (λ (s : Section). s .events ≡ [] → Alone (s .header)) ss
-    → Every (λ (s : Section). sectionSize s ≤ sizes .sectionLimit) ss
+    → Every (λ (s : Section). sectionSize s ≤ sizes .«section_limit») ss
     → Every (SectionRules sizes identity lastTableId) ss
 all-four sizes identity lastTableId [] headers events alone fit = tt
 all-four sizes identity lastTableId (s ∷ ss) headers events alone fit = (
@@ -34,7 +35,7 @@ all-four sizes identity lastTableId (s ∷ ss) headers events alone fit = (
   all-four sizes identity lastTableId ss (headers .1) (events .1) (alone .1) (fit .1),
 )
 
-pub built-rules : (sizes : Sizes) (identity : Identity) (es : List Event) → sectionOverhead ≤ sizes .sectionLimit
+pub built-rules : (sizes : Sizes) (identity : Identity) (es : List Event) → sectionOverhead ≤ sizes .«section_limit»
     → IdentityRules identity
     → SoundEvents sizes es
     → ((index : ℕ) → T (not (isUnpackable sizes es index)))

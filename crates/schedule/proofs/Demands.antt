@@ -8,7 +8,8 @@ use Prim.Native.Nat.{ℕ, _≤_, _<_}
 use native.Mathlib.Omega.{arith}
 use lib.Dec.{T, T-not}
 use lib.ListN.{length}
-use Rattle.eit.specs.Sizes.{Sizes, broadcast}
+use Rattle.eit.specs.Sizes.{broadcast}
+use Rattle.eit.specs.declared.Sizes.{Sizes}
 use Rattle.eit.specs.Limits.{baseMost}
 use Rattle.eit.specs.Fields.{Bytes}
 use Rattle.eit.specs.Pools.{Pools}
@@ -112,7 +113,7 @@ module _ (sizes : Sizes) (legal : LegalSizes sizes) where
         let ss : List Section = ownSections g in
         let count : length (recordsFrom 0 ss) ≡ g .list .count =
         records-count 0 ss ∙ ap length (own-events g fits) ∙ events-length (g .pools) (g .list) in
-        let few : g .list .count ≤ sizes .eventLimit = sound-list sizes (g .pools) (g .list) (g .isSound) .few in
+        let few : g .list .count ≤ sizes .«event_limit» = sound-list sizes (g .pools) (g .list) (g .isSound) .few in
         ap (λ (f : List ℕ). read sizes (g .base) f buffer .answer) file
         ∙ ap (λ (r : Reading). r .answer)
         (follows-read sizes (g .base) (legal .most) (g .legalBase) (g .identity) ss (own-rules legal g fits) buffer (omega arith))

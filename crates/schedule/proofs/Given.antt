@@ -8,7 +8,8 @@ use Prim.Native.Nat.{ℕ, _*_, _≤_, _<_}
 use native.Mathlib.Omega.{arith}
 use lib.Dec.{T}
 use lib.ListN.{length, replicate, length-replicate}
-use Rattle.eit.specs.Sizes.{Sizes, sectionOverhead}
+use Rattle.eit.specs.Sizes.{sectionOverhead}
+use Rattle.eit.specs.declared.Sizes.{Sizes}
 use Rattle.eit.specs.Fields.{Bytes}
 use Rattle.eit.specs.Records.{recordSize}
 use Rattle.eit.specs.Events.{Event}
@@ -103,8 +104,8 @@ module _ {sizes : Sizes} (g : Given sizes) where
 
 -- section sizes for which the demands hold: a section without events fits, and 12 bits of section_length reach
 pub record LegalSizes (sizes : Sizes) : Type 0 where
-  pub least : sectionOverhead ≤ sizes .sectionLimit
-  pub most : sizes .sectionLimit ≤ 4_096
+  pub least : sectionOverhead ≤ sizes .«section_limit»
+  pub most : sizes .«section_limit» ≤ 4_096
 
 module _ {sizes : Sizes} (legal : LegalSizes sizes) (g : Given sizes) where
   pub own-rules : Fits g → Rules sizes (g .identity) (ownSections g)
@@ -146,7 +147,7 @@ module _ {sizes : Sizes} (g : Given sizes) (file : List ℕ) (c : Carries g file
 
   pub rival-events : sectionEvents (cutSections (g .base) file) ≡ events g
   rival-events =
-      let (buffer, size) = some-buffer (sizes .eventLimit * recordSize) in
+      let (buffer, size) = some-buffer (sizes .«event_limit» * recordSize) in
       let reads : read sizes (g .base) file buffer .answer .number ≡ 0 = c .accepted buffer size in
       sym (accepted-events sizes (g .base) file buffer [] (c .bytes) reads)
       ∙ same-lists sizes (filePools file []) (g .pools) (listOf (read sizes (g .base) file buffer)) (g .list)

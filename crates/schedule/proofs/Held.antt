@@ -5,7 +5,7 @@ use mathlib.Core.Bool.{not}
 use mathlib.Core.List.{List, [], _∷_, _++_, flatten, append-assoc}
 use Prim.Native.Nat.{ℕ, suc, _-_, _*_}
 use lib.Dec.{T}
-use Rattle.eit.specs.Sizes.{Sizes}
+use Rattle.eit.specs.declared.Sizes.{Sizes}
 use Rattle.eit.specs.Events.{Event, rising}
 use Rattle.eit.specs.declared.Identity.{Identity}
 use Rattle.sections.specs.Segment.{firstSection}

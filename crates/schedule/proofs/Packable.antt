@@ -8,7 +8,8 @@ use mathlib.Core.Option.{none, some}
 use Prim.Native.Nat.{suc, _/_, ℕ, _≤_, _<_}
 use native.Mathlib.Omega.{arith}
 use lib.Dec.{T, T-not}
-use Rattle.eit.specs.Sizes.{Sizes, room}
+use Rattle.eit.specs.Sizes.{room}
+use Rattle.eit.specs.declared.Sizes.{Sizes}
 use Rattle.eit.specs.Events.{Event, rising}
 use Rattle.eit.proofs.Test.{le-or-lt}
 use Rattle.packing.specs.Greedy.{greedy, unpackable}

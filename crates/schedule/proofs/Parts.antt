@@ -8,7 +8,8 @@ use Prim.Native.Nat.{ℕ, suc, _+_, _≤_, _<_}
 use native.Mathlib.Omega.{arith}
 use lib.Dec.{T}
 use lib.ListN.{length}
-use Rattle.eit.specs.Sizes.{Sizes, sectionOverhead, room}
+use Rattle.eit.specs.Sizes.{sectionOverhead, room}
+use Rattle.eit.specs.declared.Sizes.{Sizes}
 use Rattle.eit.specs.Events.{Event}
 use Rattle.eit.specs.declared.Identity.{Identity}
 use Rattle.packing.specs.Greedy.{NoneEmpty, AllFit, sizeOf, greedy, unpackable}
@@ -134,13 +135,14 @@ module _ (sizes : Sizes) (identity : Identity) (es : List Event) (index : ℕ) w
       (rw (parts-events sizes es index fits) (segment-starts index es facts)))
       (omega arith) (omega (arith, parts-few sizes es index))
 
-  numbered-sizes : sectionOverhead ≤ sizes .sectionLimit → (S : ℕ) (ps : List (List Event)) → AllFit eventSize (room sizes) ps
-      → Every (λ (s : Section). sectionSize s ≤ sizes .sectionLimit) (numberedFrom sizes identity es index S ps)
+  numbered-sizes : sectionOverhead ≤ sizes .«section_limit» → (S : ℕ) (ps : List (List Event))
+      → AllFit eventSize (room sizes) ps
+      → Every (λ (s : Section). sectionSize s ≤ sizes .«section_limit») (numberedFrom sizes identity es index S ps)
   numbered-sizes roomy S [] fit = tt
   numbered-sizes roomy S (p ∷ ps) fit = (omega (arith, fit .0, sizes-same p), numbered-sizes roomy (suc S) ps (fit .1))
 
   -- and so do sizes
-  pub part-sizes : sectionOverhead ≤ sizes .sectionLimit
-      → Every (λ (s : Section). sectionSize s ≤ sizes .sectionLimit) (sectionsOfSegment sizes identity es index)
+  pub part-sizes : sectionOverhead ≤ sizes .«section_limit»
+      → Every (λ (s : Section). sectionSize s ≤ sizes .«section_limit») (sectionsOfSegment sizes identity es index)
   unfolding sectionsOfSegment packedSegment
   part-sizes roomy = numbered-sizes roomy (firstSection index) (packedSegment sizes es index) (packed-fits sizes (segmentEvents index es))

@@ -6,7 +6,8 @@ use mathlib.Core.List.{List, [], _∷_}
 use Prim.Native.Nat.{ℕ, zero, suc, _≤_}
 use native.Mathlib.Omega.{arith}
 use lib.ListN.{length, take, length-map}
-use Rattle.eit.specs.Sizes.{Sizes, room}
+use Rattle.eit.specs.Sizes.{room}
+use Rattle.eit.specs.declared.Sizes.{Sizes}
 use Rattle.eit.specs.Events.{Event}
 use Rattle.eit.specs.declared.Identity.{Identity}
 use Rattle.eit.proofs.Test.{test-or}
@@ -39,7 +40,7 @@ first-every P index k (s ∷ ss) all =
     ⊎-elim (λ inside. rw (first-more index k s ss inside) (all .0, rest)) (λ outside. rw (first-same index k s ss outside) rest)
     (test-or (isInFirst index k (s .header)))
 
-parts-fit : (sizes : Sizes) (ss : List Section) → Every (λ (s : Section). sectionSize s ≤ sizes .sectionLimit) ss
+parts-fit : (sizes : Sizes) (ss : List Section) → Every (λ (s : Section). sectionSize s ≤ sizes .«section_limit») ss
     → AllFit eventSize (room sizes) (eventsBySection ss)
 parts-fit sizes [] fit = tt
 parts-fit sizes (s ∷ ss) fit = (omega (arith, fit .0, sizes-same (s .events)), parts-fit sizes ss (fit .1))

@@ -6,7 +6,7 @@ use mathlib.Core.List.{List, [], _∷_}
 use Prim.Native.Nat.{ℕ, _≤_, _<_}
 use lib.Dec.{T}
 use lib.ListN.{length}
-use Rattle.eit.specs.Sizes.{Sizes}
+use Rattle.eit.specs.declared.Sizes.{Sizes}
 use Rattle.eit.specs.Limits.{idMost, startLimit, durationLeast, durationMost}
 use Rattle.eit.specs.Fields.{Bytes}
 use Rattle.eit.specs.Chain.{isChain}
@@ -36,7 +36,7 @@ pub record SoundEvents (sizes : Sizes) (es : List Event) : Type 0 where
   pub facts : Every EventFacts es
   pub rises : T (rising es)
   pub differ : T (allDiffer (eventIds es))
-  pub few : length es ≤ sizes .eventLimit
+  pub few : length es ≤ sizes .«event_limit»
 
 module _ (pools : Pools) (day : Bytes (pools .day)) (series : Bytes (pools .series)) where
   pool-bytes : (marks : ℕ) → Bytes (poolOf pools marks)

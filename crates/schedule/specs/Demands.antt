@@ -11,7 +11,8 @@ use Prim.Native.Nat.{ℕ, _*_, _≤_, _<_}
 use mathlib.Core.List.{List}
 use lib.Dec.{T}
 use lib.ListN.{length}
-use Rattle.eit.specs.Sizes.{Sizes, broadcast}
+use Rattle.eit.specs.Sizes.{broadcast}
+use Rattle.eit.specs.declared.Sizes.{Sizes}
 use Rattle.eit.specs.Limits.{baseMost}
 use Rattle.eit.specs.Fields.{Bytes}
 use Rattle.eit.specs.Pools.{Pools}

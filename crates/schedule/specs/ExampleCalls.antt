@@ -3,7 +3,7 @@
 use Prim.Native.Nat.{ℕ}
 use mathlib.Core.List.{List, _++_, map}
 use lib.ListN.{take, replicate}
-use Rattle.eit.specs.Sizes.{Sizes}
+use Rattle.eit.specs.declared.Sizes.{Sizes}
 use Rattle.eit.specs.Sound.{eventsOf}
 use Rattle.eit.specs.declared.Identity.{Identity}
 use Rattle.sections.specs.Section.{Section, eventIds}

@@ -5,14 +5,14 @@ use Prim.Native.Nat.{ℕ}
 use mathlib.Core.Path.{_≡_}
 use mathlib.Core.List.{List, [], _∷_, _++_}
 use lib.ListN.{replicate}
-use Rattle.eit.specs.Sizes.{Sizes}
+use Rattle.eit.specs.declared.Sizes.{Sizes}
 use Rattle.schedule.specs.Build.{Built}
 use Rattle.schedule.specs.ExampleLists.{Case, bare, gap, crowded, described, uneven}
 use Rattle.schedule.specs.ExampleCalls.{buildWith, planWith, sectionsWith, sectionRow, filled}
 
 -- sections of at most so many bytes
 abbrev pub sectionsOfAtMost : ℕ → Sizes
-sectionsOfAtMost bytes = record { sectionLimit = bytes; eventLimit = 18 }
+sectionsOfAtMost bytes = record { «section_limit» = bytes; «event_limit» = 18 }
 
 -- Build into an empty output: 11 if the list is packable
 abbrev pub answer : ℕ → Case → Built

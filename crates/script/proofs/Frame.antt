@@ -8,7 +8,7 @@ use native.Mathlib.Omega.{arith}
 use mathlib.Core.List.{List, [], _∷_, _++_}
 use lib.Dec.{T, ltb→lt}
 use lib.ListN.{length, take, drop, length-append}
-use Rattle.eit.specs.Sizes.{Sizes}
+use Rattle.eit.specs.declared.Sizes.{Sizes}
 use Rattle.eit.specs.Find.{indexOf, placeOf}
 use Rattle.eit.specs.Pools.{Pools}
 use Rattle.eit.specs.Records.{EventList, recordSize, recordsOf, numbersOfAll}

@@ -9,7 +9,7 @@ use mathlib.Core.List.{List, [], _∷_, _++_}
 use lib.Dec.{T, ltb, ltb→lt}
 use lib.ListN.{length, take, drop, length-append}
 use lib.Seq.{take-all, take-at}
-use Rattle.eit.specs.Sizes.{Sizes}
+use Rattle.eit.specs.declared.Sizes.{Sizes}
 use Rattle.eit.specs.Limits.{startLimit}
 use Rattle.eit.specs.Pools.{Pools}
 use Rattle.eit.specs.Records.{EventList, recordSize, recordsOf, numbersOfAll}
@@ -31,7 +31,7 @@ written-records list rs n h = records-front n rs (drop (0 + length (numbersOfAll
 
 -- the limit is the most records that the buffer holds, and no more than events may be
 pub limit-is : (sizes : Sizes) (list : EventList) (n : ℕ)
-    → (n ≤ limitOf sizes list) ↔ ((n * recordSize ≤ length (list .buffer)) × (n ≤ sizes .eventLimit))
+    → (n ≤ limitOf sizes list) ↔ ((n * recordSize ≤ length (list .buffer)) × (n ≤ sizes .«event_limit»))
 limit-is sizes list n = (λ h. omega arith, λ h. omega arith)
 
 -- the records after PUT, WITHDRAW and MOVE
@@ -71,7 +71,7 @@ module _ (list : EventList) where
 
 module _ (sizes : Sizes) (pools : Pools) (list : EventList) where
   -- if what is written fits, and the records that are then counted are sound
-  written-sound : (rs : List Record) (n : ℕ) → n ≤ length rs → n ≤ sizes .eventLimit
+  written-sound : (rs : List Record) (n : ℕ) → n ≤ length rs → n ≤ sizes .«event_limit»
       → length rs * recordSize ≤ length (list .buffer) → RecordFacts pools (recordsOf (written list rs n))
       → ListFacts sizes pools (written list rs n)
   written-sound rs n h few held f =

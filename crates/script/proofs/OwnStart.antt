@@ -9,7 +9,7 @@ use mathlib.Core.List.{List, [], _∷_}
 use lib.Dec.{T, eqb, ltb, lt→ltb}
 use lib.Arith.{le→nltb}
 use lib.ListN.{take}
-use Rattle.eit.specs.Sizes.{Sizes}
+use Rattle.eit.specs.declared.Sizes.{Sizes}
 use Rattle.eit.specs.Limits.{startLimit}
 use Rattle.eit.specs.Overwrite.{overwrite}
 use Rattle.eit.specs.Pools.{Pools}

@@ -92,8 +92,10 @@ pub record Examples : Type 0 where
   pub present : said (actBytes (put (plain 1 200))) ≡ (6, 0, 2)
   pub taken : said (actBytes (put (plain 3 300)) ++ actBytes (put (plain 4 200))) ≡ (7, 18, 3)
   pub full : said (actBytes (put (plain 3 300)) ++ actBytes (put (plain 4 400))) ≡ (8, 18, 3)
-  pub at-event-limit : edit (record { sectionLimit = 4096; eventLimit = 2 }) pools (list 2) (actBytes (put (plain 3 150))) .number ≡ 8
-  pub below-event-limit : edit (record { sectionLimit = 4096; eventLimit = 3 }) pools (list 2) (actBytes (put (plain 3 150))) .number ≡ 0
+  pub at-event-limit :
+      edit (record { «section_limit» = 4096; «event_limit» = 2 }) pools (list 2) (actBytes (put (plain 3 150))) .number ≡ 8
+  pub below-event-limit :
+      edit (record { «section_limit» = 4096; «event_limit» = 3 }) pools (list 2) (actBytes (put (plain 3 150))) .number ≡ 0
   -- WITHDRAW and MOVE
   pub absent : said (actBytes (withdraw 9)) ≡ (6, 0, 2)
   pub keeps-the-earlier : left (actBytes (withdraw 1) ++ actBytes (withdraw 1)) ≡ numbersOfAll (plain 2 200 ∷ []) ++ replicate 6 0 ++ replicate 8 7

@@ -5,7 +5,7 @@ use mathlib.Core.Bool.{Bool, true, false, not}
 use mathlib.Core.List.{List, [], _∷_, _++_}
 use lib.Dec.{ltb, eqb}
 use lib.ListN.{length}
-use Rattle.eit.specs.Sizes.{Sizes}
+use Rattle.eit.specs.declared.Sizes.{Sizes}
 use Rattle.eit.specs.Limits.{startLimit}
 use Rattle.eit.specs.Overwrite.{overwrite}
 use Rattle.eit.specs.Pools.{Pools}
@@ -17,7 +17,7 @@ use Rattle.script.specs.Form.{Act, put, withdraw, move}
 
 -- 01's term: limit. The list's limit is buffer length ÷ 6, rounded down, at most 2,048
 abbrev pub limitOf : Sizes → EventList → ℕ
-limitOf sizes list = min (length (list .buffer) / recordSize) (sizes .eventLimit)
+limitOf sizes list = min (length (list .buffer) / recordSize) (sizes .«event_limit»)
 
 -- inserted by start, later records moving up
 abbrev pub insert : Record → List Record → List Record

@@ -6,7 +6,7 @@ use Prim.Native.Nat.{ℕ, _*_, _≤_}
 use native.Mathlib.Omega.{arith}
 use mathlib.Core.List.{List}
 use lib.ListN.{length, replicate, length-replicate}
-use Rattle.eit.specs.Sizes.{Sizes}
+use Rattle.eit.specs.declared.Sizes.{Sizes}
 use Rattle.eit.specs.Limits.{baseMost}
 use Rattle.eit.specs.Fields.{Bytes}
 use Rattle.eit.specs.Records.{recordSize}
@@ -21,7 +21,7 @@ use Rattle.sections.proofs.Read.{read-agrees, read-says-27}
 use Rattle.sections.proofs.Exact.{accepted-answer, accepted-few, accepted-rules, follows-accepted, read-accepted}
 
 -- a record buffer that the largest list fits in is never short
-pub read-enough : (sizes : Sizes) (base : ℕ) (file buffer : List ℕ) → sizes .eventLimit * recordSize ≤ length buffer
+pub read-enough : (sizes : Sizes) (base : ℕ) (file buffer : List ℕ) → sizes .«event_limit» * recordSize ≤ length buffer
     → read sizes base file buffer .answer ≡ checkFile sizes base file
 read-enough sizes base file buffer enough =
     read-agrees sizes base file buffer
@@ -34,13 +34,13 @@ read-enough sizes base file buffer enough =
 pub accepted-check : (sizes : Sizes) (base : ℕ) (file : List ℕ) → Accepted sizes base file ↔ (checkFile sizes base file .number ≡ 0)
 accepted-check sizes base file = (
   λ accepted.
-      let buffer : List ℕ = replicate (sizes .eventLimit * recordSize) 0 in
-      read-accepted sizes base file buffer (accepted buffer (length-replicate {A = ℕ} (sizes .eventLimit * recordSize) 0)) .0,
+      let buffer : List ℕ = replicate (sizes .«event_limit» * recordSize) 0 in
+      read-accepted sizes base file buffer (accepted buffer (length-replicate {A = ℕ} (sizes .«event_limit» * recordSize) 0)) .0,
   λ zero buffer size. ap (λ (a : Answer). a .number) (read-enough sizes base file buffer (omega arith)) ∙ zero,
 )
 
 -- demand 2: Read accepts exactly the files that follow the rules
-pub accepted-exactly : (sizes : Sizes) (base : ℕ) (file : List ℕ) → sizes .sectionLimit ≤ 4_096 → base ≤ baseMost → Bytes file
+pub accepted-exactly : (sizes : Sizes) (base : ℕ) (file : List ℕ) → sizes .«section_limit» ≤ 4_096 → base ≤ baseMost → Bytes file
     → Accepted sizes base file ↔
     ((identity : Identity) × (ss : List Section) × Rules sizes identity ss × (fileBytes base ss ≡ file))
 accepted-exactly sizes base file lengthFits legal bytes = (

@@ -10,7 +10,7 @@ use mathlib.Core.List.{List, [], _∷_, _++_, flatten}
 use borrow.Author.Tests.{le-leb}
 use lib.Dec.{T}
 use lib.ListN.{length, length-append}
-use Rattle.eit.specs.Sizes.{Sizes}
+use Rattle.eit.specs.declared.Sizes.{Sizes}
 use Rattle.eit.specs.Limits.{baseMost}
 use Rattle.eit.proofs.Test.{true-is, false-is}
 use Rattle.sections.specs.Decode.{headerIn, cutFile}

@@ -7,7 +7,7 @@ use native.Mathlib.Omega.{arith}
 use mathlib.Core.List.{List, [], _∷_, _++_, map, reverse}
 use lib.Dec.{T}
 use lib.ListN.{length, length-append}
-use Rattle.eit.specs.Sizes.{Sizes}
+use Rattle.eit.specs.declared.Sizes.{Sizes}
 use Rattle.eit.specs.declared.Identity.{Identity}
 use Rattle.sections.specs.Every.{Every}
 use Rattle.sections.specs.Section.{Section, sectionSize, headersOf, sectionEvents}
@@ -42,7 +42,7 @@ module _ (sizes : Sizes) (base : ℕ) (identity : Identity) (lastTableId : ℕ) 
       → T (isSameFile (p .before) (s .header))
       → T (isNext (p .before) (s .header))
       → T (areNew (p .seen) (s .events))
-      → length (p .seen) + length (s .events) ≤ sizes .eventLimit
+      → length (p .seen) + length (s .events) ≤ sizes .«event_limit»
       → Accepts sizes base identity (knownBehind p s) xs
       → Accepts sizes base identity p (sectionBytes base s ∷ xs)
   accepts-one p s xs rules same next new few rest =
@@ -58,7 +58,7 @@ module _ (sizes : Sizes) (base : ℕ) (identity : Identity) (lastTableId : ℕ) 
       → T (isNext (p .before) (s .header))
       → Succeeding (s .header) (headersOf ss)
       → T (areNew (p .seen) (sectionEvents (s ∷ ss)))
-      → length (p .seen) + length (sectionEvents (s ∷ ss)) ≤ sizes .eventLimit
+      → length (p .seen) + length (sectionEvents (s ∷ ss)) ≤ sizes .«event_limit»
       → Accepts sizes base identity p (map (sectionBytes base) (s ∷ ss))
   unfolding sectionEvents
   accepts [] p s rules same next succeeding new few =
@@ -89,7 +89,7 @@ module _ (sizes : Sizes) (base : ℕ) (identity : Identity) (lastTableId : ℕ) 
       → Every (SectionRules sizes identity lastTableId) ss
       → Ordered (headersOf ss)
       → T (areNew [] (sectionEvents ss))
-      → length (sectionEvents ss) ≤ sizes .eventLimit
+      → length (sectionEvents ss) ≤ sizes .«event_limit»
       → Accepts sizes base identity atStart (map (sectionBytes base) ss)
   all-back [] rules ordered new few = absurd ordered
   all-back (s ∷ ss) rules ordered new few =

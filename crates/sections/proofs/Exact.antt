@@ -7,7 +7,7 @@ use native.Mathlib.Omega.{arith}
 use mathlib.Core.List.{List, [], _∷_, map, flatten}
 use lib.Dec.{T}
 use lib.ListN.{length}
-use Rattle.eit.specs.Sizes.{Sizes}
+use Rattle.eit.specs.declared.Sizes.{Sizes}
 use Rattle.eit.specs.Limits.{baseMost}
 use Rattle.eit.specs.Fields.{Bytes}
 use Rattle.eit.specs.Overwrite.{overwrite}
@@ -79,7 +79,7 @@ module _ (sizes : Sizes) (base : ℕ) (file : List ℕ) where
       is ∙ ap₂ success (sym (ap (λ (a : Answer). a .identity) is)) (seen-count base file)
 
   -- they are within the limit
-  pub accepted-few : checkFile sizes base file .number ≡ 0 → length (fileRecords base file) ≤ sizes .eventLimit
+  pub accepted-few : checkFile sizes base file .number ≡ 0 → length (fileRecords base file) ≤ sizes .«event_limit»
   accepted-few zero =
       let (legal, all, complete) = check-succeeded sizes base file zero in
       let count : length (fileRecords base file) ≡ length (sectionEvents (map (sectionIn base) (cutFile file))) =
@@ -131,7 +131,7 @@ module _ (sizes : Sizes) (base : ℕ) (identity : Identity) (lastTableId : ℕ) 
       ap₂ (λ (t : Section) (ts : List Section). t ∷ ts)
       (section-back sizes base identity lastTableId legal s (rules .0)) (sections-shown ss (rules .1))
 
-module _ (sizes : Sizes) (base : ℕ) (lengthFits : sizes .sectionLimit ≤ 4_096) (legal : base ≤ baseMost)
+module _ (sizes : Sizes) (base : ℕ) (lengthFits : sizes .«section_limit» ≤ 4_096) (legal : base ≤ baseMost)
     (identity : Identity) (ss : List Section) (rules : Rules sizes identity ss)
   where
     legal-file : Legal sizes base identity (rules .lastTableId)
@@ -228,7 +228,7 @@ module _ (sizes : Sizes) (base : ℕ) (file buffer : List ℕ) where
         subst (λ (qs : List Record). FollowsRules sizes base file identity qs × (length qs * recordSize ≤ length buffer)) records
         (follows, fits)
 
-    follows-reads : sizes .sectionLimit ≤ 4_096 → base ≤ baseMost → FollowsRules sizes base file identity rs
+    follows-reads : sizes .«section_limit» ≤ 4_096 → base ≤ baseMost → FollowsRules sizes base file identity rs
         → length rs * recordSize ≤ length buffer
         → read sizes base file buffer ≡ readingOf buffer identity rs
     follows-reads lengthFits legal f fits =
@@ -237,7 +237,7 @@ module _ (sizes : Sizes) (base : ℕ) (file buffer : List ℕ) where
 
     -- demand 2: for every legal base day, every file of bytes and every record buffer, Read succeeds with an identity and records
     -- exactly if the file follows the rules with these, and the records fit the buffer
-    pub read-exact : sizes .sectionLimit ≤ 4_096
+    pub read-exact : sizes .«section_limit» ≤ 4_096
         → base ≤ baseMost
         → Bytes file
         → (read sizes base file buffer ≡ readingOf buffer identity rs)

@@ -6,7 +6,7 @@ use Prim.Native.Nat.{ℕ, _+_, _*_, _≤_, _<_}
 use native.Mathlib.Omega.{arith}
 use mathlib.Core.List.{List, [], _∷_}
 use lib.ListN.{length}
-use Rattle.eit.specs.Sizes.{Sizes}
+use Rattle.eit.specs.declared.Sizes.{Sizes}
 use Rattle.eit.specs.Fields.{Bytes}
 use Rattle.eit.specs.declared.Identity.{Identity}
 use Rattle.eit.proofs.Test.{le-or-lt}
@@ -48,7 +48,7 @@ module _ (sizes : Sizes) (identity : Identity) (lastTableId : ℕ) (most : lastT
       next-later (s .header) (t .header) (h .numbered) (h .byte) (succeeding .0) in
       omega (arith, behind-few t ss (rules .1) (succeeding .1))
 
-  sizes-few : sizes .sectionLimit ≤ 4_096 → (ss : List Section) → Every (SectionRules sizes identity lastTableId) ss
+  sizes-few : sizes .«section_limit» ≤ 4_096 → (ss : List Section) → Every (SectionRules sizes identity lastTableId) ss
       → sectionSizes ss ≤ length ss * 4_096
   sizes-few lengthFits [] rules = omega arith
   sizes-few lengthFits (s ∷ ss) rules = omega (arith, rules .0 .size, sizes-few lengthFits ss (rules .1))
@@ -66,7 +66,7 @@ sections-few sizes identity (s ∷ ss) rules =
 
 -- an accepted file has at most 16 × 256 × 4,096 bytes
 pub accepted-size : (sizes : Sizes) (base : ℕ) (file : List ℕ)
-    → sizes .sectionLimit ≤ 4_096
+    → sizes .«section_limit» ≤ 4_096
     → Bytes file
     → checkFile sizes base file .number ≡ 0
     → length file ≤ 16 * 256 * 4_096

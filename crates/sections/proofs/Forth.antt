@@ -7,7 +7,7 @@ use native.Mathlib.Omega.{arith}
 use mathlib.Core.List.{List, [], _∷_, _++_, map, flatten, reverse, reverse-append, append-assoc}
 use lib.Dec.{T, leb→le}
 use lib.ListN.{length, length-append, length-map}
-use Rattle.eit.specs.Sizes.{Sizes}
+use Rattle.eit.specs.declared.Sizes.{Sizes}
 use Rattle.eit.specs.Fields.{Bytes}
 use Rattle.eit.specs.Events.{Event}
 use Rattle.eit.specs.declared.Identity.{Identity}
@@ -55,15 +55,16 @@ module _ (sizes : Sizes) (base : ℕ) where
       let loop = all .0 .loop in
       new-append (p .seen) es (sectionEvents (shown base rest)) (search tests) (shown-new (behind base p bs) rest (all .1))
 
-  pub shown-few : (p : Progress) (xs : List (List ℕ)) → length (p .seen) ≤ sizes .eventLimit → AllPass sizes base p xs
-      → length (p .seen) + length (sectionEvents (shown base xs)) ≤ sizes .eventLimit
+  pub shown-few : (p : Progress) (xs : List (List ℕ)) → length (p .seen) ≤ sizes .«event_limit»
+      → AllPass sizes base p xs
+      → length (p .seen) + length (sectionEvents (shown base xs)) ≤ sizes .«event_limit»
   unfolding sectionEvents sectionIn isWithinLimit
   shown-few p [] few all = omega arith
   shown-few p (bs ∷ rest) few all =
       let es : List Event = map (eventIn base) (cutEvents bs) in
       let fs : List Event = sectionEvents (shown base rest) in
       let count : length es ≡ length (cutEvents bs) = length-map (cutEvents bs) (eventIn base) in
-      let within : length (p .seen) + length (cutEvents bs) ≤ sizes .eventLimit = leb→le _ _ (all .0 .limit) in
+      let within : length (p .seen) + length (cutEvents bs) ≤ sizes .«event_limit» = leb→le _ _ (all .0 .limit) in
       let rest-few = shown-few (behind base p bs) rest (omega (arith, seen-length es (p .seen))) (all .1) in
       omega (arith, length-append es fs, seen-length es (p .seen))
 

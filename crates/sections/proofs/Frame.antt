@@ -7,7 +7,7 @@ use native.Mathlib.Omega.{arith}
 use mathlib.Core.List.{List}
 use lib.Dec.{T-not, eqb, eqb→eq}
 use lib.ListN.{length, drop}
-use Rattle.eit.specs.Sizes.{Sizes}
+use Rattle.eit.specs.declared.Sizes.{Sizes}
 use Rattle.eit.specs.Records.{recordSize, numbersOfAll}
 use Rattle.eit.specs.declared.Record.{Record}
 use Rattle.eit.proofs.Test.{test-or, eq-test}

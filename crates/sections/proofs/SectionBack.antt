@@ -9,7 +9,8 @@ use mathlib.Core.List.{List, [], _∷_, _++_, map, reverse, append-assoc, append
 use lib.Dec.{T, eqb, leb, le→leb}
 use lib.ListN.{length, take, drop, length-map}
 use lib.Seq.{take-at, drop-at}
-use Rattle.eit.specs.Sizes.{Sizes, sectionOverhead}
+use Rattle.eit.specs.Sizes.{sectionOverhead}
+use Rattle.eit.specs.declared.Sizes.{Sizes}
 use Rattle.eit.specs.Limits.{baseMost}
 use Rattle.eit.specs.Fields.{Bytes, bigEndian}
 use Rattle.eit.specs.Crc.{crc32}
@@ -79,7 +80,7 @@ alone-back base h (e ∷ es) alone = tt
 -- what holds of a file before its sections: 12 bits reach the section size, the base day is legal, and identity and last_table_id keep
 -- the rules
 pub record Legal (sizes : Sizes) (base : ℕ) (identity : Identity) (lastTableId : ℕ) : Type 0 where
-  pub lengthFits : sizes .sectionLimit ≤ 4_096
+  pub lengthFits : sizes .«section_limit» ≤ 4_096
   pub day : base ≤ baseMost
   pub identityRules : IdentityRules identity
   pub lastTable : lastTableId ≤ tableMost
@@ -145,8 +146,8 @@ module _ (sizes : Sizes) (base : ℕ) (identity : Identity) (lastTableId : ℕ) 
         let table : headerIn bs .tableId ≡ s .header .tableId = ap (λ (h : Header). h .tableId) section-header in
         let whole : T (eqb (length bs) (statedSectionSize bs)) = eq-test _ _ (sym stated) in
         let least : T (leb sectionOverhead (length bs)) = le→leb sectionOverhead (length bs) (omega arith) in
-        let most-bytes : T (leb (length bs) (sizes .sectionLimit)) =
-        le→leb (length bs) (sizes .sectionLimit) (omega (arith, legal .lengthFits, rules .size)) in
+        let most-bytes : T (leb (length bs) (sizes .«section_limit»)) =
+        le→leb (length bs) (sizes .«section_limit») (omega (arith, legal .lengthFits, rules .size)) in
         let low : T (leb tableLeast (headerIn bs .tableId)) =
         le→leb tableLeast (headerIn bs .tableId) (omega (arith, rules .headerRules .least)) in
         let high : T (leb (headerIn bs .tableId) tableMost) =
@@ -194,20 +195,20 @@ module _ (sizes : Sizes) (base : ℕ) (identity : Identity) (lastTableId : ℕ) 
         alone-back base (s .header) (s .events) (rules .alone) in
         rw (section-header, events-shown, cut-events) (search tests)
 
-    limit-passes : (seen : List Event) → length seen + length (s .events) ≤ sizes .eventLimit
+    limit-passes : (seen : List Event) → length seen + length (s .events) ≤ sizes .«event_limit»
         → T (isWithinLimit sizes seen (sectionBytes base s))
     unfolding isWithinLimit
     limit-passes seen few =
         let count : length (cutEvents (sectionBytes base s)) ≡ length (s .events) =
         ap length cut-events ∙ length-map (s .events) (eventBytes base) in
-        le→leb (length seen + length (cutEvents (sectionBytes base s))) (sizes .eventLimit) (omega arith)
+        le→leb (length seen + length (cutEvents (sectionBytes base s))) (sizes .«event_limit») (omega arith)
 
     -- it passes where it stands in its place in the file
     pub section-passes : (p : Progress)
         → T (isSameFile (p .before) (s .header))
         → T (isNext (p .before) (s .header))
         → T (areNew (p .seen) (s .events))
-        → length (p .seen) + length (s .events) ≤ sizes .eventLimit
+        → length (p .seen) + length (s .events) ≤ sizes .«event_limit»
         → Passes sizes base p (sectionBytes base s)
     section-passes p same next new few =
         record {

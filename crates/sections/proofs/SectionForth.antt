@@ -7,7 +7,8 @@ use mathlib.Core.List.{List, [], _∷_, _++_, map, flatten, append-assoc}
 use lib.Dec.{T, eqb→eq, leb→le}
 use lib.ListN.{length, take, drop, length-drop, take-append-drop}
 use lib.Seq.{length-take-le}
-use Rattle.eit.specs.Sizes.{Sizes, sectionOverhead}
+use Rattle.eit.specs.Sizes.{sectionOverhead}
+use Rattle.eit.specs.declared.Sizes.{Sizes}
 use Rattle.eit.specs.Fields.{Bytes, bigEndian}
 use Rattle.eit.specs.Crc.{crc32}
 use Rattle.eit.specs.Events.{Event}
@@ -58,7 +59,8 @@ section-joined bs =
 
 module _ (sizes : Sizes) (base : ℕ) (p : Progress) (bs : List ℕ) (bytes : Bytes bs) (passes : Passes sizes base p bs) where
   -- 20, part by part
-  framed-parts : (length bs ≡ statedSectionSize bs) × (sectionOverhead ≤ length bs) × (length bs ≤ sizes .sectionLimit)
+  framed-parts : (length bs ≡ statedSectionSize bs) × (sectionOverhead ≤ length bs)
+      × (length bs ≤ sizes .«section_limit»)
       × (tableLeast ≤ headerIn bs .tableId)
   unfolding isFramed
   framed-parts =

@@ -39,4 +39,5 @@ pub record Broken : Type 0 where
   -- an event that starts before the one before it; an id twice; one event too many
   pub earlier-start : Rules broadcast identity (twoEvents (1, 10) (2, 9)) → ⊥
   pub id-twice : Rules broadcast identity (twoEvents (1, 9) (1, 10)) → ⊥
-  pub one-too-many : Rules (record { sectionLimit = 4_096; eventLimit = 1 }) identity (twoEvents (1, 9) (2, 10)) → ⊥
+  pub one-too-many :
+      Rules (record { «section_limit» = 4_096; «event_limit» = 1 }) identity (twoEvents (1, 9) (2, 10)) → ⊥

@@ -5,7 +5,7 @@ use mathlib.Core.Path.{_≡_}
 use Prim.Native.Nat.{ℕ, _*_}
 use mathlib.Core.List.{List}
 use lib.ListN.{length}
-use Rattle.eit.specs.Sizes.{Sizes}
+use Rattle.eit.specs.declared.Sizes.{Sizes}
 use Rattle.eit.specs.Overwrite.{overwrite}
 use Rattle.eit.specs.Records.{recordSize, numbersOfAll}
 use Rattle.eit.specs.declared.Identity.{Identity}
@@ -18,7 +18,7 @@ use Rattle.sections.specs.Read.{Reading, success, read}
 
 -- 12,288 numbers for records, six for each event of the largest list, whatever they are
 abbrev pub RecordBuffer : Sizes → List ℕ → Type 0
-RecordBuffer sizes buffer = length buffer ≡ sizes .eventLimit * recordSize
+RecordBuffer sizes buffer = length buffer ≡ sizes .«event_limit» * recordSize
 
 -- 01's term: accepted. Read, with 12,288 numbers for records, succeeds on the file
 abbrev pub Accepted : Sizes → ℕ → List ℕ → Type 0

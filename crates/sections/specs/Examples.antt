@@ -97,7 +97,7 @@ pub record Examples : Type 0 where
   pub same-id-apart :
       says (section 0x50 0 8 0 0x50 (event 1 0x00 0x00) ++ section 0x50 8 8 8 0x50 (event 1 0x03 0x00)) ≡ refusedWith 24 30
   pub broken-behind-limit :
-      checkFile (record { sectionLimit = 4_096; eventLimit = 1 }) 49_273
+      checkFile (record { «section_limit» = 4_096; «event_limit» = 1 }) 49_273
       (section 0x50 0 8 0 0x50 (event 1 0x00 0x00 ++ event 2 0x00 0x30 ++ event 1 0x00 0x59))
       ≡ refusedWith 24 0
   -- a record buffer that is one number short stays

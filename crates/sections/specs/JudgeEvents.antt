@@ -5,7 +5,7 @@ use mathlib.Core.Bool.{Bool, true, not, _&&_, _||_}
 use mathlib.Core.List.{List, [], _∷_, map}
 use lib.Dec.{eqb, leb}
 use lib.ListN.{length, drop}
-use Rattle.eit.specs.Sizes.{Sizes}
+use Rattle.eit.specs.declared.Sizes.{Sizes}
 use Rattle.eit.specs.Fields.{bytesAt}
 use Rattle.eit.specs.Time.{isStartBytes, isDurationBytes, startOf}
 use Rattle.eit.specs.Chain.{isChain}
@@ -60,4 +60,4 @@ isEventLoop base seen bs =
 
 -- 26: event 2,049
 unfoldable pub isWithinLimit : Sizes → List Event → List ℕ → Bool
-isWithinLimit sizes seen bs = leb (length seen + length (cutEvents bs)) (sizes .eventLimit)
+isWithinLimit sizes seen bs = leb (length seen + length (cutEvents bs)) (sizes .«event_limit»)

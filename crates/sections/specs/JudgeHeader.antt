@@ -6,7 +6,8 @@ use mathlib.Core.List.{List}
 use mathlib.Core.Option.{Option, none, some}
 use lib.Dec.{eqb, leb, ltb}
 use lib.ListN.{length}
-use Rattle.eit.specs.Sizes.{Sizes, sectionOverhead}
+use Rattle.eit.specs.Sizes.{sectionOverhead}
+use Rattle.eit.specs.declared.Sizes.{Sizes}
 use Rattle.eit.specs.Fields.{field}
 use Rattle.eit.specs.Crc.{crc32}
 use Rattle.eit.specs.declared.Triplet.{Triplet}
@@ -22,7 +23,7 @@ isTable table = leb tableLeast table && leb table tableMost
 unfoldable pub isFramed : Sizes → List ℕ → Bool
 isFramed sizes bs =
     eqb (length bs) (statedSectionSize bs)
-    && (leb sectionOverhead (length bs) && (leb (length bs) (sizes .sectionLimit) && isTable (field 0 1 bs)))
+    && (leb sectionOverhead (length bs) && (leb (length bs) (sizes .«section_limit») && isTable (field 0 1 bs)))
 
 -- 21: over the whole section CRC_32 leaves 0
 unfoldable pub isClosed : List ℕ → Bool

@@ -7,7 +7,7 @@ use Prim.Native.Nat.{ℕ, _+_, _^_, _≤_, _<_}
 use mathlib.Core.List.{List, [], _∷_}
 use lib.Dec.{T}
 use lib.ListN.{length}
-use Rattle.eit.specs.Sizes.{Sizes}
+use Rattle.eit.specs.declared.Sizes.{Sizes}
 use Rattle.eit.specs.Limits.{idMost, startLimit, durationLeast, durationMost, versionMost}
 use Rattle.eit.specs.Fields.{Bytes}
 use Rattle.eit.specs.Among.{allDiffer}
@@ -108,7 +108,7 @@ pub record SectionRules (sizes : Sizes) (identity : Identity) (lastTableId : ℕ
   pub headerRules : HeaderRules identity lastTableId (s .header)
   pub eventRules : Every (EventRules (s .header)) (s .events)
   pub alone : s .events ≡ [] → Alone (s .header)
-  pub size : sectionSize s ≤ sizes .sectionLimit
+  pub size : sectionSize s ≤ sizes .«section_limit»
 
 -- ---- the file
 
@@ -122,4 +122,4 @@ pub record Rules (sizes : Sizes) (identity : Identity) (ss : List Section) : Typ
   -- over the file starts rise strictly, ids differ, and events are at most 2,048
   pub rises : T (rising (sectionEvents ss))
   pub differ : T (allDiffer (eventIds (sectionEvents ss)))
-  pub few : length (sectionEvents ss) ≤ sizes .eventLimit
+  pub few : length (sectionEvents ss) ≤ sizes .«event_limit»

@@ -5,7 +5,7 @@ use mathlib.Core.Bool.{Bool, true, false}
 use mathlib.Core.List.{List, [], _∷_, _++_, map, reverse}
 use mathlib.Core.Option.{Option, none, some}
 use lib.ListN.{length}
-use Rattle.eit.specs.Sizes.{Sizes}
+use Rattle.eit.specs.declared.Sizes.{Sizes}
 use Rattle.eit.specs.Events.{Event}
 use Rattle.sections.specs.Section.{Header}
 use Rattle.sections.specs.Decode.{eventIn, headerIn, cutEvents}

@@ -18,7 +18,7 @@ returns : tie.Need-returns
 returns c =
     let asks = c .before in
     let start = asks .before .before .before .before .before .before .args in
-    edit-12 (start .event-limit) (now (start .day)) (now (start .series)) (lentList (now (start .list)) (start .count)) (now (start .script))
+    edit-12 (start .sizes) (now (start .day)) (now (start .series)) (lentList (now (start .list)) (start .count)) (now (start .script))
     (asks .is-sound .result) (asks .is-sound .ensures) (not-true (asks .is-sound .result) (c .if1 .taken))
 
 form-of-requires : tie.Need-form-of-requires
@@ -37,7 +37,7 @@ edit-whole-requires c κs =
     let asks = sound .before in
     let entry = asks .before .before .before .before .before .before in
     let start = entry .args in (
-      is-sound (start .event-limit) (now (start .day)) (now (start .series)) (lentList (now (start .list)) (start .count)) (now (start .script))
+      is-sound (start .sizes) (now (start .day)) (now (start .series)) (lentList (now (start .list)) (start .count)) (now (start .script))
           (asks .is-sound .result) (asks .is-sound .ensures) (not-false (asks .is-sound .result) (sound .if1 .left)),
       sym (forms .form-of .ensures) ∙ c .before .before .k .given .1,
       entry .pre,
@@ -52,8 +52,8 @@ returns-2 c =
     let sound = forms .before in
     let asks = sound .before in
     let start = asks .before .before .before .before .before .before .args in
-    edit-3 (start .event-limit) (now (start .day)) (now (start .series)) (lentList (now (start .list)) (start .count)) (now (start .script))
-    (is-sound (start .event-limit) (now (start .day)) (now (start .series)) (lentList (now (start .list)) (start .count)) (now (start .script))
+    edit-3 (start .sizes) (now (start .day)) (now (start .series)) (lentList (now (start .list)) (start .count)) (now (start .script))
+    (is-sound (start .sizes) (now (start .day)) (now (start .series)) (lentList (now (start .list)) (start .count)) (now (start .script))
     (asks .is-sound .result) (asks .is-sound .ensures) (not-false (asks .is-sound .result) (sound .if1 .left)))
     _ (sym (forms .form-of .ensures) ∙ c .before .at .given .1)
 

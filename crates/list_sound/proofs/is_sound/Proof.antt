@@ -3,6 +3,7 @@
 use mathlib.Core.Path.{_≡_, sym, subst, _∙_}
 use mathlib.Core.Logic.{⊎-elim}
 use mathlib.Core.Bool.{true}
+use mathlib.Core.List.{[]}
 use Prim.Native.Nat.{_-_}
 use native.Mathlib.Omega.{arith}
 use lib.Dec.{T}
@@ -10,31 +11,41 @@ use denote.Ref.{now}
 use borrow.Author.Needs.{needs}
 use borrow.Author.Tests.{le-leb, lt-leb, ltb-true, ltb-false, not-true, not-false}
 use Rattle.eit.specs.Pools.{lentPools}
-use Rattle.eit.specs.Sound.{inRange}
+use Rattle.eit.specs.Records.{lentList, recordsIn}
+use Rattle.eit.specs.Sound.{inRange, sound}
 use Rattle.eit.proofs.Sound.{range-facts}
-use Rattle.list_sound.proofs.ForwardLaws.{sound-many, sound-short}
+use Rattle.list_sound.specs.Forward.{soundFrom}
+use Rattle.list_sound.proofs.ForwardLaws.{sound-many, sound-short, sound-held}
 use Rattle.list_sound.proofs.PassLaws.{Pass, pass-start, pass-end, pass-stop, pass-more}
 use Rattle.list_sound.proofs.is_sound.Statement.{statement}
 use Rattle.list_sound.proofs.is_sound.Tie as tie
 
 abbrev Inv-loop : tie.InvT-loop
-Inv-loop list count day series event-limit seen₀ least₀ i₀ seen least i = Pass event-limit (lentPools day series) list count seen least i
+Inv-loop list count day series seen₀ least₀ i₀ seen least i = Pass (lentPools day series) list count seen least i
 
 abbrev μ-loop : tie.MeasureT-loop
-μ-loop list count day series event-limit seen₀ least₀ i₀ seen least i = count - i
+μ-loop list count day series seen₀ least₀ i₀ seen least i = count - i
 
 returns : tie.Need-returns Inv-loop μ-loop
 returns c =
-    let args = c .before .before .before .before .args in
+    let args = c .before .before .before .before .before .args in
     let pools = lentPools (now (args .day)) (now (args .series)) in
     sym
     (⊎-elim
-    (λ w. sound-many (args .event-limit) pools (now (args .list)) (args .count) (w .taken))
-    (λ w. sound-short (args .event-limit) pools (now (args .list)) (args .count) (ltb-true _ _ (w .1 .taken)))
+    (λ w. sound-many (args .sizes) pools (now (args .list)) (args .count) (w .taken))
+    (λ w. sound-short (args .sizes) pools (now (args .list)) (args .count) (ltb-true _ _ (w .1 .taken)))
     (c .if1 .came))
 
 loop-holds : tie.Need-loop-holds Inv-loop μ-loop
-loop-holds c = pass-start _ _ _ _ (c .before .if1 .left) (ltb-false _ _ (c .if2 .left))
+loop-holds c = pass-start _ _ _
+
+-- with few events and room for them, the records decide
+records-decide : (c : tie.Else2 Inv-loop μ-loop)
+    → let args = c .before .before .before .before .before .before .args in
+    let pools = lentPools (now (args .day)) (now (args .series)) in
+    sound (args .sizes) pools (lentList (now (args .list)) (args .count))
+    ≡ soundFrom pools [] 0 (recordsIn (args .count) (now (args .list)))
+records-decide c = sound-held _ _ _ _ (c .before .if1 .left) (ltb-false _ _ (c .if2 .left))
 
 record-at-requires : tie.Need-record-at-requires Inv-loop μ-loop
 record-at-requires c κs = search needs
@@ -58,7 +69,8 @@ returns-2 c =
     let range = sym (c .before .is-in-range .ensures) in
     let stop = pass-stop pass (read .record-at .result) (read .before .loop-test .taken) (read .record-at .ensures) in
     sym
-    (⊎-elim
+    (records-decide (read .before .before .before)
+    ∙ ⊎-elim
     (λ w. stop (rw (range ∙ not-true _ (w .taken))))
     (⊎-elim
     (λ w. stop (rw (range ∙ not-false _ (w .0 .left), sym (w .1 .ensures) ∙ not-true _ (w .2 .taken))))
@@ -120,7 +132,7 @@ loop-again c =
     (added .add-seen .ensures)
 
 returns-3 : tie.Need-returns-3 Inv-loop μ-loop
-returns-3 c = sym (pass-end (c .before .loop .inv) (c .loop-test .left))
+returns-3 c = sym (records-decide (c .before .before) ∙ pass-end (c .before .loop .inv) (c .loop-test .left))
 
 pub is-sound-spec : {M : Type 1} → statement M
 is-sound-spec =

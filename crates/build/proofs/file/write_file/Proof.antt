@@ -7,7 +7,6 @@ use mathlib.Core.List.{List}
 use native.Mathlib.Omega.{arith}
 use denote.Ref.{now}
 use borrow.Author.Needs.{needs}
-use Rattle.eit.specs.Sizes.{sectionsUpTo}
 use Rattle.eit.specs.Pools.{Pools, lentPools}
 use Rattle.eit.specs.Events.{Event}
 use Rattle.sections.specs.Segment.{tableOf}
@@ -21,18 +20,18 @@ use Rattle.build.proofs.file.write_file.Statement.{statement}
 use Rattle.build.proofs.file.write_file.Tie as tie
 
 abbrev Inv-loop : tie.InvT-loop
-Inv-loop out₀ base-day identity list count day series section-size counts room crc-tables last-table-id last₀ at₀ from₀ index₀
+Inv-loop out₀ base-day identity list count day series sizes counts crc-tables last-table-id last₀ at₀ from₀ index₀
     out last at from index =
-    FileSoFar (lentPools day series) list count (sectionsUpTo section-size) identity base-day out₀ out last at from index
+    FileSoFar (lentPools day series) list count sizes identity base-day out₀ out last at from index
 
 abbrev μ-loop : tie.MeasureT-loop
-μ-loop out₀ base-day identity list count day series section-size counts room crc-tables last-table-id last₀ at₀ from₀ index₀
+μ-loop out₀ base-day identity list count day series sizes counts crc-tables last-table-id last₀ at₀ from₀ index₀
     out last at from index =
     512 - index
 
 -- back from the calls before the loop, and from a turn, to the call
 abbrev called : tie.After-last-index Inv-loop μ-loop → tie.Start Inv-loop μ-loop
-called c = c .before .before .before .before .before .before .before .before
+called c = c .before .before .before .before .before .before .before
 
 abbrev start : tie.At-loop Inv-loop μ-loop → tie.Start Inv-loop μ-loop
 start c = called (c .before)
@@ -43,9 +42,6 @@ pools c = lentPools (now (c .args .day)) (now (c .args .series))
 
 abbrev events : tie.Start Inv-loop μ-loop → List Event
 events c = heldEvents (pools c) (now (c .args .list)) (c .args .count)
-
-room-of-requires : tie.Need-room-of-requires Inv-loop μ-loop
-room-of-requires c κs = search needs
 
 tables-requires : tie.Need-tables-requires Inv-loop μ-loop
 tables-requires c κs = search needs
@@ -87,7 +83,7 @@ first-header-requires c κs =
 -- L of the segment's table: found at its first segment, kept for the others
 table-last : (c : tie.Joined2 Inv-loop μ-loop)
     → let turn = c .before .before .before .before in
-    c .if2 .last ≡ tableLast (sectionsUpTo (start turn .args .section-size)) (events (start turn)) (turn .loop .index / 32)
+    c .if2 .last ≡ tableLast (start turn .args .sizes) (events (start turn)) (turn .loop .index / 32)
 table-last c =
     let some = c .before .if1 .taken in
     let few = c .before .before .before .loop-test .taken in
@@ -96,17 +92,20 @@ table-last c =
     ⊎-elim (λ w. w .2 ∙ w .1 .ensures ∙ row-last ready (turn .loop .index) few (w .0 .taken) some)
     (λ w. w .1 ∙ last-later (pools (start turn)) _ _ ready (turn .loop .inv) few some (w .0 .left)) (c .if2 .came)
 
+room-of-requires : tie.Need-room-of-requires Inv-loop μ-loop
+room-of-requires c κs = search needs
+
 write-segment-requires : tie.Need-write-segment-requires Inv-loop μ-loop
 write-segment-requires c κs =
-    let made = c .before .before .first-header in
-    let ended = c .before .before .before in
+    let made = c .before .before .before .first-header in
+    let ended = c .before .before .before .before in
     let joined = ended .before in
     let some = joined .before .if1 .taken in
     let few = joined .before .before .before .loop-test .taken in
     let turn = joined .before .before .before .before in
     let ready = start turn .pre in
     let ps = pools (start turn) in (
-      part-fits ps _ _ ready (turn .loop .inv) few some (ended .end-of .ensures ps) (turn .before .before .before .room-of .ensures)
+      part-fits ps _ _ ready (turn .loop .inv) few some (ended .end-of .ensures ps) (c .before .room-of .ensures)
           (table-last joined) (ap tableOf (turn .before .last-index .ensures ps)) (made .ensures),
       omega (arith, count-few ready (turn .loop .index) few, ap (λ (h : SectionHeader). h .«section_number») (made .ensures)),
       turn .before .before .tables .ensures,
@@ -127,9 +126,9 @@ loop-again c =
     ⊎-elim
     (λ w.
     let joined : tie.Joined2 Inv-loop μ-loop = record { before = record { before = c .before; if1 = w .0 }; if2 = w .1 } in
-    file-same (w .9) (w .10) (w .11) (w .12)
-    (file-more ps _ _ ready (turn .loop .inv) few (w .0 .taken) (w .2 .ensures ps) (turn .before .before .before .room-of .ensures)
-    (table-last joined) (ap tableOf (turn .before .last-index .ensures ps)) (w .3 .ensures) (w .6 .ensures .0) (w .6 .ensures .1)))
+    file-same (w .10) (w .11) (w .12) (w .13)
+    (file-more ps _ _ ready (turn .loop .inv) few (w .0 .taken) (w .2 .ensures ps) (w .5 .ensures)
+    (table-last joined) (ap tableOf (turn .before .last-index .ensures ps)) (w .3 .ensures) (w .7 .ensures .0) (w .7 .ensures .1)))
     (λ w. file-same (w .1) (w .2) (w .3) (w .4) (file-skip ps _ _ ready (turn .loop .inv) few (w .0 .left)))
     (c .if1 .came)
 
@@ -145,7 +144,6 @@ write-file-spec =
     (tie.spec
     Inv-loop
     μ-loop
-    room-of-requires
     tables-requires
     last-index-requires
     add-last-table-id
@@ -155,6 +153,7 @@ write-file-spec =
     last-section-requires
     end-of-requires
     first-header-requires
+    room-of-requires
     write-segment-requires
     add-index
     loop-less

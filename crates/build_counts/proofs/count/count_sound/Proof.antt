@@ -1,13 +1,12 @@
 -- `count_sound` meets its contract: before each turn the segments before `index` are counted. Assumes nothing.
-use mathlib.Core.Path.{sym, _∙_}
+use mathlib.Core.Path.{_≡_, sym, _∙_}
 use mathlib.Core.Logic.{⊎-elim}
-use Prim.Native.Nat.{_-_, _<_}
+use Prim.Native.Nat.{ℕ, _-_, _<_}
 use native.Mathlib.Omega.{arith}
 use denote.Ref.{now}
 use borrow.Author.Needs.{needs}
 use borrow.Author.Tests.{eqb-true, eqb-false}
 use lib.Dec.{T}
-use Rattle.eit.specs.Sizes.{sized, room}
 use Rattle.eit.specs.Fields.{Bytes}
 use Rattle.eit.specs.Pools.{Pools, lentPools}
 use Rattle.eit.specs.Events.{rising}
@@ -20,11 +19,11 @@ use Rattle.build_counts.proofs.count.count_sound.Statement.{statement}
 use Rattle.build_counts.proofs.count.count_sound.Tie as tie
 
 abbrev Inv-loop : tie.InvT-loop
-Inv-loop list count day series section-size event-limit room counts₀ lowest₀ need₀ from₀ index₀ counts lowest need from index =
-    CountedSoFar (sized section-size event-limit) (lentPools day series) list count counts lowest need from index
+Inv-loop list count day series sizes counts₀ lowest₀ need₀ from₀ index₀ counts lowest need from index =
+    CountedSoFar sizes (lentPools day series) list count counts lowest need from index
 
 abbrev μ-loop : tie.MeasureT-loop
-μ-loop list count day series section-size event-limit room counts₀ lowest₀ need₀ from₀ index₀ counts lowest need from index =
+μ-loop list count day series sizes counts₀ lowest₀ need₀ from₀ index₀ counts lowest need from index =
     512 - index
 
 -- what the call is lent
@@ -42,13 +41,9 @@ rises : (c : tie.After-shared-slice-known3 Inv-loop μ-loop)
     T (rising (heldEvents (poolsOf c) (now (a .list)) (a .count)))
 rises c = sound-rises _ _ _ _ (dayBytes c) (seriesBytes c) (c .before .before .before .pre)
 
-narrow : (c : tie.After-shared-slice-known3 Inv-loop μ-loop)
-    → let a = c .before .before .before .args in
-    room (sized (a .section-size) (a .event-limit)) < 0x1_0000
-narrow c = omega (arith, c .before .before .before .fits .section-size)
-
-room-of-requires : tie.Need-room-of-requires Inv-loop μ-loop
-room-of-requires c κs = search needs
+-- a room that is found in two bytes is small
+narrow : {found asked : ℕ} → found ≡ asked → found < 0x1_0000 → asked < 0x1_0000
+narrow is fits = omega arith
 
 loop-holds : tie.Need-loop-holds Inv-loop μ-loop
 loop-holds c = count-start _ _ _ _
@@ -59,22 +54,28 @@ is-inside-requires c κs = search needs
 end-of-requires : tie.Need-end-of-requires Inv-loop μ-loop
 end-of-requires c κs = search needs
 
+room-of-requires : tie.Need-room-of-requires Inv-loop μ-loop
+room-of-requires c κs = search needs
+
 count-segment-requires : tie.Need-count-segment-requires Inv-loop μ-loop
 count-segment-requires c κs = search needs
 
 array-write-counts : tie.Need-array-write-counts Inv-loop μ-loop
-array-write-counts c = c .before .before .before .before .loop-test .taken
+array-write-counts c = c .before .before .before .before .before .loop-test .taken
 
 add-need : tie.Need-add-need Inv-loop μ-loop
 add-need c =
     let segment = c .before in
-    let head = segment .before .before .before .before .before in
-    let start = head .before .before in
+    let found = segment .before .room-of in
+    let ended = segment .before .before in
+    let head = ended .before .before .before .before in
+    let start = head .before in
     let bounded =
-    need-small _ _ _ _ (rises start) (head .loop .inv) (segment .before .before .before .before .loop-test .taken)
-    (sym (segment .before .before .before .is-inside .ensures (poolsOf start)) ∙ segment .before .before .if1 .taken)
-    (segment .before .end-of .result) (segment .before .end-of .ensures (poolsOf start)) (head .before .room-of .result)
-    (head .before .room-of .ensures) (narrow start) (segment .count-segment .result) (segment .count-segment .ensures) in
+    need-small _ _ _ _ (rises start) (head .loop .inv) (ended .before .before .before .loop-test .taken)
+    (sym (ended .before .before .is-inside .ensures (poolsOf start)) ∙ ended .before .if1 .taken)
+    (ended .end-of .result) (ended .end-of .ensures (poolsOf start)) (found .result)
+    (found .ensures) (narrow (found .ensures) (found .ok)) (segment .count-segment .result)
+    (segment .count-segment .ensures) in
     omega (arith, head .loop .inv .small, head .loop .inv .within, bounded)
 
 add-index : tie.Need-add-index Inv-loop μ-loop
@@ -87,33 +88,34 @@ loop-again : tie.Need-loop-again Inv-loop μ-loop
 loop-again c =
     let turn = c .before .before in
     let head = turn .before in
-    let start = head .before .before in
+    let start = head .before in
     let pools = poolsOf start in
     let tested = sym (c .before .is-inside .ensures pools) in
     let few = turn .loop-test .taken in
-    let room-is = head .before .room-of .ensures in
     ⊎-elim
     (λ w.
-    rw (w .7, w .8, w .9, w .10)
+    rw (w .8, w .9, w .10, w .11)
     (count-found _ _ _ _ (rises start) (head .loop .inv) few (tested ∙ w .0 .taken) (w .1 .result) (w .1 .ensures pools)
-    (head .before .room-of .result) room-is (narrow start) (w .2 .result) (w .2 .ensures) (w .5 .taken) (eqb-true _ _ (w .6 .taken))))
+    (w .2 .result) (w .2 .ensures) (narrow (w .2 .ensures) (w .2 .ok)) (w .3 .result) (w .3 .ensures) (w .6 .taken)
+    (eqb-true _ _ (w .7 .taken))))
     (⊎-elim
     (λ w.
-    rw (w .6, w .7, w .8, w .9)
+    rw (w .7, w .8, w .9, w .10)
     (⊎-elim
     (λ v.
     count-kept _ _ _ _ (rises start) (head .loop .inv) few (tested ∙ w .0 .taken) (w .1 .result) (w .1 .ensures pools)
-    (head .before .room-of .result) room-is (narrow start) (w .2 .result) (w .2 .ensures) (eqb-false _ _ (v .1 .left)))
+    (w .2 .result) (w .2 .ensures) (narrow (w .2 .ensures) (w .2 .ok)) (w .3 .result) (w .3 .ensures)
+    (eqb-false _ _ (v .1 .left)))
     (λ v.
     count-fits _ _ _ _ (rises start) (head .loop .inv) few (tested ∙ w .0 .taken) (w .1 .result) (w .1 .ensures pools)
-    (head .before .room-of .result) room-is (narrow start) (w .2 .result) (w .2 .ensures) (v .left))
-    (w .5 .came)))
+    (w .2 .result) (w .2 .ensures) (narrow (w .2 .ensures) (w .2 .ok)) (w .3 .result) (w .3 .ensures) (v .left))
+    (w .6 .came)))
     (λ w. rw (w .1, w .2, w .3, w .4) (count-past _ _ _ _ (rises start) (head .loop .inv) few (tested ∙ w .0 .left))))
     (c .if1 .came)
 
 returns : tie.Need-returns Inv-loop μ-loop
 returns c =
-    let start = c .before .before .before in
+    let start = c .before .before in
     count-end _ _ _ _ (dayBytes start) (seriesBytes start) (start .before .before .before .pre) (c .before .loop .inv) (c .loop-test .left)
 
 pub count-sound-spec : {M : Type 1} → statement M
@@ -122,10 +124,10 @@ count-sound-spec =
     (tie.spec
     Inv-loop
     μ-loop
-    room-of-requires
     loop-holds
     is-inside-requires
     end-of-requires
+    room-of-requires
     count-segment-requires
     array-write-counts
     add-need

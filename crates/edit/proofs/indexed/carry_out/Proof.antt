@@ -39,7 +39,7 @@ returns c =
     leaves-same
     (ap
     (λ (list : EventList).
-    runOne (start .event-limit) (now (start .day)) (now (start .series)) list (commandTold (start .at) (start .command)))
+    runOne (start .sizes) (now (start .day)) (now (start .series)) list (commandTold (start .at) (start .command)))
     (anew .renew .ensures .same))
     (done .carry-out-indexed .ensures)
 

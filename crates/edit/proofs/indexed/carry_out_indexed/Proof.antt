@@ -2,7 +2,6 @@
 use denote.Ref.{now}
 use borrow.Author.Needs.{needs}
 use Rattle.eit.specs.Pools.{lentPools}
-use Rattle.eit.specs.Sizes.{limitedTo}
 use Rattle.edit.proofs.RunLaws.{none-done}
 use Rattle.edit.proofs.indexed.carry_out_indexed.Statement.{statement}
 use Rattle.edit.proofs.indexed.carry_out_indexed.Tie as tie
@@ -62,7 +61,7 @@ returns-2 c =
     let done = c .before .before .before .before .before .before in
     let case = done .before .before .before .before .before .before in
     let start = case .before .before .before .before .before .before .before .before .args in
-    rw (case .command2 .given .1) (done .withdraw-indexed .ensures (start .event-limit) (now (start .day)) (now (start .series)))
+    rw (case .command2 .given .1) (done .withdraw-indexed .ensures (start .sizes) (now (start .day)) (now (start .series)))
 
 same-length-9 : tie.Need-same-length-9
 same-length-9 c = search needs
@@ -81,14 +80,14 @@ returns-3 c =
     let done = c .before .before .before .before .before .before in
     let case = done .before .before .before .before .before .before in
     let start = case .before .before .before .before .before .before .before .before .args in
-    rw (case .command3 .given .1) (done .move-indexed .ensures (start .event-limit) (now (start .day)) (now (start .series)))
+    rw (case .command3 .given .1) (done .move-indexed .ensures (start .sizes) (now (start .day)) (now (start .series)))
 
 returns-4 : tie.Need-returns-4
 returns-4 c =
     let start = c .before .before .before .before .before .before .before .before in
     rw (c .enum-told .given .1)
     record {
-      says = none-done (limitedTo (start .args .event-limit)) (lentPools (now (start .args .day)) (now (start .args .series))) _;
+      says = none-done (start .args .sizes) (lentPools (now (start .args .day)) (now (start .args .series))) _;
       index = start .pre .0 .index;
       fits = start .pre .0 .fits;
     }

@@ -8,6 +8,7 @@ use native.Mathlib.Omega.{arith}
 use lib.Dec.{ltb}
 use borrow.Author.Needs.{needs}
 use borrow.Author.Tests.{not-true, not-false}
+use Rattle.eit.specs.Sizes.{broadcast}
 use Rattle.eit.specs.Limits.{startLimit}
 use Rattle.edit.proofs.IndexedLaws.{kept-ordered, id-small, its-place, some-records}
 use Rattle.edit.proofs.MoveLaws.{move-outside, move-absent, move-taken, free-other, free-own, id-within, move-goes}
@@ -39,14 +40,14 @@ module _ (c : tie.After-place-of) where
   place-some =
       omega (
         arith,
-        its-place 0 [] [] _ _ _ _ _ _ (began read .pre .0) 0 _ _
+        its-place broadcast [] [] _ _ _ _ _ _ (began read .pre .0) 0 _ _
             (read .before .before .before .slot-of .ensures) (read .before .before .if2 .left) _ (read .record-at .ensures) _
             (c .place-of .ensures),
       )
 
   place-within : c .place-of .result ≤ began (c .before .before .before .before .before .before .before .before) .args .count
   place-within =
-      some-records 0 [] [] _ _ _ _ _ _ (began read .pre .0) 0 _ _
+      some-records broadcast [] [] _ _ _ _ _ _ (began read .pre .0) 0 _ _
       (read .before .before .before .slot-of .ensures) (read .before .before .if2 .left) _ (read .record-at .ensures) _
       (c .place-of .ensures)
 
@@ -54,9 +55,9 @@ is-start-requires : tie.Need-is-start-requires
 is-start-requires c κs = search needs
 
 returns : tie.Need-returns
-returns c = λ limit day series.
+returns c = λ sizes day series.
     let start = c .before .before .before .before .before .before in
-    move-outside limit day series _ _ _ _ _ _ (start .pre .0) (start .args .at) _ _
+    move-outside sizes day series _ _ _ _ _ _ (start .pre .0) (start .args .at) _ _
     (sym (c .before .is-start .ensures) ∙ not-true (c .before .is-start .result) (c .if1 .taken))
 
 slot-of-requires : tie.Need-slot-of-requires
@@ -66,10 +67,10 @@ same-length : tie.Need-same-length
 same-length c = search needs
 
 returns-2 : tie.Need-returns-2
-returns-2 c = λ limit day series.
+returns-2 c = λ sizes day series.
     let within = c .before .before .before in
     let start = entry within in
-    move-absent limit day series _ _ _ _ _ _ (start .pre .0) (start .args .at) _ _ (in-range within) _ (c .before .slot-of .ensures)
+    move-absent sizes day series _ _ _ _ _ _ (start .pre .0) (start .args .at) _ _ (in-range within) _ (c .before .slot-of .ensures)
     (c .if2 .taken)
 
 sub-record-at : tie.Need-sub-record-at
@@ -91,11 +92,11 @@ same-length-4 : tie.Need-same-length-4
 same-length-4 c = search needs
 
 returns-3 : tie.Need-returns-3
-returns-3 c = λ limit day series.
+returns-3 c = λ sizes day series.
     let found = c .before .before .before in
     let read = found .before .before .before in
     let start = began read in
-    move-taken limit day series _ _ _ _ _ _ (start .pre .0) (start .args .at) _ _ (in-range (passed read)) _ (read .before .before .before .slot-of .ensures)
+    move-taken sizes day series _ _ _ _ _ _ (start .pre .0) (start .args .at) _ _ (in-range (passed read)) _ (read .before .before .before .slot-of .ensures)
     (read .before .before .if2 .left) _ (read .record-at .ensures) _ (found .place-in .ensures) (c .before .if3 .taken) (c .if4 .taken)
 
 place-of-requires : tie.Need-place-of-requires
@@ -110,7 +111,7 @@ take-out-record-requires c κs =
     let start = began read in
     omega (
       arith,
-      id-small 0 [] [] _ _ _ _ _ _ (start .pre .0) 0 _ _ (read .before .before .before .slot-of .ensures) (read .before .before .if2 .left),
+      id-small broadcast [] [] _ _ _ _ _ _ (start .pre .0) 0 _ _ (read .before .before .before .slot-of .ensures) (read .before .before .if2 .left),
       start .pre .0 .index .idsSize,
     )
 
@@ -132,7 +133,7 @@ add-record-requires c κs =
     let size = start .pre .0 .index .slotsSize in (
       omega arith,
       omega arith,
-      id-within 0 [] [] _ _ _ _ _ _ (start .pre .0) 0 _ (start .args .start) (in-range (passed read))
+      id-within broadcast [] [] _ _ _ _ _ _ (start .pre .0) 0 _ (start .args .start) (in-range (passed read))
           _ (read .before .before .before .slot-of .ensures) (read .before .before .if2 .left)
           _ (read .record-at .ensures) _ (found .place-of .ensures) _ _ (out .take-out-record .ensures),
     )
@@ -152,7 +153,7 @@ same-length-7 : tie.Need-same-length-7
 same-length-7 c = search needs
 
 returns-4 : tie.Need-returns-4
-returns-4 c = λ limit day series.
+returns-4 c = λ sizes day series.
     let added = c .before .before .before .before .before .before in
     let next = added .before .before .before .before in
     let out = next .before .before .before .before .before in
@@ -161,14 +162,14 @@ returns-4 c = λ limit day series.
     let tried = joined .before .before in
     let read = tried .before .before .before in
     let start = began read in
-    move-goes limit day series _ _ _ _ _ _ (start .pre .0) (start .args .at) _ _ (in-range (passed read)) _ (read .before .before .before .slot-of .ensures)
+    move-goes sizes day series _ _ _ _ _ _ (start .pre .0) (start .args .at) _ _ (in-range (passed read)) _ (read .before .before .before .slot-of .ensures)
     (read .before .before .if2 .left) _ (read .record-at .ensures) _ (found .place-of .ensures) _ _ (out .take-out-record .ensures)
     (elim (joined .if3 .came) [
       | inl w ↦
-          free-other limit day series _ _ _ _ _ _ (start .pre .0) (start .args .at) _ _ (in-range (passed read)) _ (read .before .before .before .slot-of .ensures)
+          free-other sizes day series _ _ _ _ _ _ (start .pre .0) (start .args .at) _ _ (in-range (passed read)) _ (read .before .before .before .slot-of .ensures)
           (read .before .before .if2 .left) _ (read .record-at .ensures) _ (tried .place-in .ensures) (w .0 .taken) (w .1 .left)
       | inr w ↦
-          free-own limit day series _ _ _ _ _ _ (start .pre .0) (start .args .at) _ _ (in-range (passed read)) _ (read .before .before .before .slot-of .ensures)
+          free-own sizes day series _ _ _ _ _ _ (start .pre .0) (start .args .at) _ _ (in-range (passed read)) _ (read .before .before .before .slot-of .ensures)
           (read .before .before .if2 .left) _ (read .record-at .ensures) (w .left)
     ])
     (start .pre .1)

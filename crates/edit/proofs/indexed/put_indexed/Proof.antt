@@ -32,7 +32,7 @@ is-in-range-requires c κs = search needs
 returns : tie.Need-returns
 returns c =
     let start = c .before .before .before .before .before .before .before .before in
-    put-outside (start .args .event-limit) _ _ _ _ _ _ _ _ (start .pre .0) (start .args .at) (start .args .event)
+    put-outside (start .args .sizes) _ _ _ _ _ _ _ _ (start .pre .0) (start .args .at) (start .args .event)
     (sym (c .before .is-in-range .ensures) ∙ not-true (c .before .is-in-range .result) (c .if1 .taken))
 
 has-chain-requires : tie.Need-has-chain-requires
@@ -42,7 +42,7 @@ returns-2 : tie.Need-returns-2
 returns-2 c =
     let within = c .before .before in
     let start = entry within in
-    put-unchained (start .args .event-limit) _ _ _ _ _ _ _ _ (start .pre .0) (start .args .at) _ (in-range within)
+    put-unchained (start .args .sizes) _ _ _ _ _ _ _ _ (start .pre .0) (start .args .at) _ (in-range within)
     (sym (c .before .has-chain .ensures) ∙ not-true (c .before .has-chain .result) (c .if2 .taken))
 
 slot-of-requires : tie.Need-slot-of-requires
@@ -56,7 +56,7 @@ returns-3 c =
     let chained = c .before .before .before in
     let within = chained .before .before in
     let start = entry within in
-    put-present (start .args .event-limit) _ _ _ _ _ _ _ _ (start .pre .0) (start .args .at) _ (in-range within) (has-part chained)
+    put-present (start .args .sizes) _ _ _ _ _ _ _ _ (start .pre .0) (start .args .at) _ (in-range within) (has-part chained)
     _ (c .before .slot-of .ensures) (c .if3 .taken)
 
 place-in-requires : tie.Need-place-in-requires
@@ -78,7 +78,7 @@ returns-4 c =
     let chained = new .before .before .before in
     let within = chained .before .before in
     let start = entry within in
-    put-taken (start .args .event-limit) _ _ _ _ _ _ _ _ (start .pre .0) (start .args .at) _ (in-range within) (has-part chained)
+    put-taken (start .args .sizes) _ _ _ _ _ _ _ _ (start .pre .0) (start .args .at) _ (in-range within) (has-part chained)
     _ (new .before .slot-of .ensures) (new .if3 .left) _ (found .place-in .ensures) (c .if4 .taken)
 
 same-length-5 : tie.Need-same-length-5
@@ -92,18 +92,18 @@ same-length-7 c = search needs
 
 returns-5 : tie.Need-returns-5
 returns-5 c =
-    let found = c .before .before in
+    let found = c .before .before .before in
     let new = found .before .before .before in
     let chained = new .before .before .before in
     let within = chained .before .before in
     let start = entry within in
-    put-full (start .args .event-limit) _ _ _ _ _ _ _ _ (start .pre .0) (start .args .at) _ (in-range within) (has-part chained)
-    _ (new .before .slot-of .ensures) (new .if3 .left) _ (found .place-in .ensures) (c .before .if4 .left)
+    put-full (start .args .sizes) _ _ _ _ _ _ _ _ (start .pre .0) (start .args .at) _ (in-range within) (has-part chained)
+    _ (new .before .slot-of .ensures) (new .if3 .left) _ (found .place-in .ensures) (c .before .before .if4 .left)
     (elim (c .if5 .came) [ inl w ↦ omega arith | inr w ↦ omega (arith, leb-true) ])
 
 add-record-requires : tie.Need-add-record-requires
 add-record-requires c κs =
-    let found = c .before .before .before .before .before .before in
+    let found = c .before .before .before .before .before .before .before in
     let within = found .before .before .before .before .before .before .before .before in
     let start = entry within in
     let x = start .pre .0 .index in
@@ -130,13 +130,13 @@ returns-6 : tie.Need-returns-6
 returns-6 c =
     let added = c .before .before .before .before .before .before in
     let room = added .before .before .before .before in
-    let found = room .before .before .before in
+    let found = room .before .before .before .before in
     let new = found .before .before .before in
     let chained = new .before .before .before in
     let within = chained .before .before in
     let start = entry within in
-    put-goes-in (start .args .event-limit) _ _ _ _ _ _ _ _ (start .pre .0) (start .args .at) _ (in-range within) (has-part chained)
-    _ (new .before .slot-of .ensures) (new .if3 .left) _ (found .place-in .ensures) (room .before .before .if4 .left)
+    put-goes-in (start .args .sizes) _ _ _ _ _ _ _ _ (start .pre .0) (start .args .at) _ (in-range within) (has-part chained)
+    _ (new .before .slot-of .ensures) (new .if3 .left) _ (found .place-in .ensures) (room .before .before .before .if4 .left)
     (omega arith) (omega (arith, leb-false)) (start .pre .2) (start .pre .1) _ _ _ (added .add-record .ensures)
 
 pub put-indexed-spec : {M : Type 1} → statement M

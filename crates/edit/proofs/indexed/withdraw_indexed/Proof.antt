@@ -3,6 +3,7 @@ use mathlib.Core.List.{[]}
 use Prim.Native.Nat.{_≤_, _<_}
 use native.Mathlib.Omega.{arith}
 use borrow.Author.Needs.{needs}
+use Rattle.eit.specs.Sizes.{broadcast}
 use Rattle.edit.proofs.IndexedLaws.{kept-ordered, id-small, its-place, some-records, withdraw-absent, withdraw-present}
 use Rattle.edit.proofs.indexed.withdraw_indexed.Statement.{statement}
 use Rattle.edit.proofs.indexed.withdraw_indexed.Tie as tie
@@ -16,14 +17,14 @@ module _ (c : tie.After-place-of) where
   place-some =
       omega (
         arith,
-        its-place 0 [] [] _ _ _ _ _ _ (entry .pre) 0 _ _
+        its-place broadcast [] [] _ _ _ _ _ _ (entry .pre) 0 _ _
             (c .before .before .before .before .slot-of .ensures) (c .before .before .before .if1 .left) _ (c .before .before .record-at .ensures) _
             (c .place-of .ensures),
       )
 
   place-within : c .place-of .result ≤ entry .args .count
   place-within =
-      some-records 0 [] [] _ _ _ _ _ _ (entry .pre) 0 _ _
+      some-records broadcast [] [] _ _ _ _ _ _ (entry .pre) 0 _ _
       (c .before .before .before .before .slot-of .ensures) (c .before .before .before .if1 .left) _ (c .before .before .record-at .ensures) _
       (c .place-of .ensures)
 
@@ -34,9 +35,9 @@ same-length : tie.Need-same-length
 same-length c = search needs
 
 returns : tie.Need-returns
-returns c = λ limit day series.
+returns c = λ sizes day series.
     let start = c .before .before .before .before .before .before .before in
-    withdraw-absent limit day series _ _ _ _ _ _ (start .pre) (start .args .at) _ _ (c .before .slot-of .ensures) (c .if1 .taken)
+    withdraw-absent sizes day series _ _ _ _ _ _ (start .pre) (start .args .at) _ _ (c .before .slot-of .ensures) (c .if1 .taken)
 
 sub-record-at : tie.Need-sub-record-at
 sub-record-at c = search needs
@@ -56,7 +57,7 @@ take-out-record-requires c κs =
     let start = entry found in
     omega (
       arith,
-      id-small 0 [] [] _ _ _ _ _ _ (start .pre) 0 _ _ (found .before .before .before .before .slot-of .ensures)
+      id-small broadcast [] [] _ _ _ _ _ _ (start .pre) 0 _ _ (found .before .before .before .before .slot-of .ensures)
           (found .before .before .before .if1 .left),
       start .pre .index .idsSize,
     )
@@ -84,11 +85,11 @@ same-length-4 : tie.Need-same-length-4
 same-length-4 c = search needs
 
 returns-2 : tie.Need-returns-2
-returns-2 c = λ limit day series.
+returns-2 c = λ sizes day series.
     let out = c .before .before .before .before .before .before .before .before in
     let found = out .before .before .before in
     let start = entry found in
-    withdraw-present limit day series _ _ _ _ _ _ (start .pre) (start .args .at) _ _ (found .before .before .before .before .slot-of .ensures)
+    withdraw-present sizes day series _ _ _ _ _ _ (start .pre) (start .args .at) _ _ (found .before .before .before .before .slot-of .ensures)
     (found .before .before .before .if1 .left) _ (found .before .before .record-at .ensures) _ (found .place-of .ensures) _ _ _
     (c .before .before .write-record .ensures)
     (out .take-out-record .ensures)

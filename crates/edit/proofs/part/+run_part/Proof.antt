@@ -49,7 +49,7 @@ claims t = (
 run-part-returns : (t : ℕ) → run-part-lts.Need-returns (claims t) (run-part-at t) run-part.Post
 run-part-returns t c =
     let start = c .before .before .before .before .before .args in
-    part-struck (start .event-limit) (now (start .day)) (now (start .series)) (lentList (now (start .list)) (start .count)) (now (start .script))
+    part-struck (start .sizes) (now (start .day)) (now (start .series)) (lentList (now (start .list)) (start .count)) (now (start .script))
     (start .undos) (start .k) (start .at) (c .if1 .taken)
 
 run-part-run-short-requires : (t : ℕ) → run-part-lts.Need-run-short-requires (claims t) (run-part-at t) run-part.Post
@@ -107,7 +107,7 @@ run-part-returns-3 t c =
     let skips = before .before in
     let entry = skips .before .before .before .before .before .before .before in
     let start = entry .args in
-    half-ends (start .event-limit) (now (start .day)) (now (start .series)) (lentList (now (start .list)) (start .count)) (now (start .script))
+    half-ends (start .sizes) (now (start .day)) (now (start .series)) (lentList (now (start .list)) (start .count)) (now (start .script))
     (start .undos) (start .k) (start .at) (start .k / 2) (skips .skip-commands .result) (omega arith) (skips .skip-commands .ensures)
     (before .pending-before .result) (before .pending-before .ensures) _ (half .run-part .ensures)
     (λ z. c .if3 .taken (c .before .number-of .ensures ∙ z))
@@ -123,7 +123,7 @@ run-part-run-part-requires-2 t c κs =
     let start = entry .args in (
       omega (arith, entry .pre .0, few .if1 .left, many .if2 .left),
       (
-        part-sound (start .event-limit) (now (start .day)) (now (start .series)) (lentList (now (start .list)) (start .count)) (now (start .script))
+        part-sound (start .sizes) (now (start .day)) (now (start .series)) (lentList (now (start .list)) (start .count)) (now (start .script))
             (before .pending-before .result) (start .k / 2) (start .at) _ (half .run-part .ensures) (entry .pre .1 .0),
         behind t skips,
         entry .pre .1 .2,
@@ -142,7 +142,7 @@ run-part-returns-4 t c =
     let skips = before .before in
     let entry = skips .before .before .before .before .before .before .before in
     let start = entry .args in
-    half-goes-on (start .event-limit) (now (start .day)) (now (start .series)) (lentList (now (start .list)) (start .count)) (now (start .script))
+    half-goes-on (start .sizes) (now (start .day)) (now (start .series)) (lentList (now (start .list)) (start .count)) (now (start .script))
     (start .undos) (start .k) (start .at) (start .k / 2) (skips .skip-commands .result) (omega arith) (skips .skip-commands .ensures)
     (before .pending-before .result) (before .pending-before .ensures) _ (half .run-part .ensures)
     (sym (done .before .number-of .ensures) ∙ done .if3 .left)

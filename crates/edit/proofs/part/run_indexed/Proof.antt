@@ -19,20 +19,20 @@ use Rattle.edit.proofs.part.run_indexed.Statement.{statement}
 use Rattle.edit.proofs.part.run_indexed.Tie as tie
 
 abbrev Inv-loop : tie.InvT-loop
-Inv-loop list₀ slots₀ order₀ ids₀ count day series event-limit script at k live-places held₀ used₀ i₀ place₀ list slots order ids held used i place =
+Inv-loop list₀ slots₀ order₀ ids₀ count day series sizes script at k live-places held₀ used₀ i₀ place₀ list slots order ids held used i place =
     Stands script at k place i
-    × Running event-limit day series (indexedList list₀ slots₀ order₀ count) live-places (take k (commandsAt at script)) (length list₀)
+    × Running sizes day series (indexedList list₀ slots₀ order₀ count) live-places (take k (commandsAt at script)) (length list₀)
     list slots order ids held used place
 
 abbrev μ-loop : tie.MeasureT-loop
-μ-loop list₀ slots₀ order₀ ids₀ count day series event-limit script at k live-places held₀ used₀ i₀ place₀ list slots order ids held used i place = k - place
+μ-loop list₀ slots₀ order₀ ids₀ count day series sizes script at k live-places held₀ used₀ i₀ place₀ list slots order ids held used i place = k - place
 
 loop-holds : tie.Need-loop-holds Inv-loop μ-loop
 loop-holds c =
     let entry = c .before .before .before .before .before .before .before .before in
     let start = entry .args in (
       stands-first (now (start .script)) (start .at) (start .k) (entry .pre .1),
-      running-first (start .event-limit) (now (start .day)) (now (start .series)) (now (start .live-places)) _ _ _ _ _ _ _ (entry .pre .4)
+      running-first (start .sizes) (now (start .day)) (now (start .series)) (now (start .live-places)) _ _ _ _ _ _ _ (entry .pre .4)
           (entry .pre .5) (entry .pre .0),
     )
 
@@ -50,7 +50,7 @@ carry-out-requires c κs =
     let head = c .before .before .before .before .before .before .before .before in
     let entry = head .before .before .before .before .before .before .before .before .before in
     let start = entry .args in (
-      running-kept (start .event-limit) (now (start .day)) (now (start .series)) _ (now (start .live-places)) _ (head .loop .inv .1),
+      running-kept (start .sizes) (now (start .day)) (now (start .series)) _ (now (start .live-places)) _ (head .loop .inv .1),
       entry .pre .3,
     )
 
@@ -99,7 +99,7 @@ returns c =
     let head = turn .before in
     let start = head .before .before .before .before .before .before .before .before .before .args in
     let leaves = carries .carry-out .ensures in (
-      carried-ends (start .event-limit) (now (start .day)) (now (start .series)) _
+      carried-ends (start .sizes) (now (start .day)) (now (start .series)) _
           (now (start .live-places)) (take (start .k) (commandsAt (start .at) (now (start .script)))) (head .loop .inv .1 .carried) (among turn)
           (commandTold (head .loop .i) (reads .command-at .result))
           (stands-split (head .loop .inv .0) (turn .loop-test .taken) _ (reads .command-at .ensures))
@@ -157,13 +157,13 @@ loop-again c =
       stands-next stands some (next c) (there c),
       ⊎-elim
           (λ w.
-          running-same (start .event-limit) (now (start .day)) (now (start .series)) first places cs (w .17) (w .18) (w .19) (w .20) (w .21) (w .22)
-          (running-on (start .event-limit) (now (start .day)) (now (start .series)) first places cs (head .loop .inv .1) (among (turn c))
+          running-same (start .sizes) (now (start .day)) (now (start .series)) first places cs (w .17) (w .18) (w .19) (w .20) (w .21) (w .22)
+          (running-on (start .sizes) (now (start .day)) (now (start .series)) first places cs (head .loop .inv .1) (among (turn c))
           (commandTold (head .loop .i) (w .1 .result)) (stands-split stands some _ (w .1 .ensures)) (sym (asked .is-seen .ensures) ∙ w .0 .taken)
           _ _ _ _ _ (w .6 .ensures) (w .7 .given) (sym (w .15 .ensures) ∙ w .16 .left)))
           (λ w.
-          running-same (start .event-limit) (now (start .day)) (now (start .series)) first places cs (w .1) (w .2) (w .3) (w .4) (w .5) (w .6)
-          (running-past (start .event-limit) (now (start .day)) (now (start .series)) first places cs (head .loop .inv .1) (among (turn c)) _
+          running-same (start .sizes) (now (start .day)) (now (start .series)) first places cs (w .1) (w .2) (w .3) (w .4) (w .5) (w .6)
+          (running-past (start .sizes) (now (start .day)) (now (start .series)) first places cs (head .loop .inv .1) (among (turn c)) _
           (stands-split stands some _ refl) (sym (asked .is-seen .ensures) ∙ w .0 .left)))
           (c .before .before .if1 .came),
     )
@@ -190,11 +190,11 @@ returns-2 : tie.Need-returns-2 Inv-loop μ-loop
 returns-2 c =
     let loop = c .before .loop in
     let start = c .before .before .before .before .before .before .before .before .before .before .args in (
-      carried-all (start .event-limit) (now (start .day)) (now (start .series)) _
+      carried-all (start .sizes) (now (start .day)) (now (start .series)) _
           (now (start .live-places)) (take (start .k) (commandsAt (start .at) (now (start .script)))) (loop .inv .1 .carried)
           (omega (arith, c .loop-test .left, length-take (start .k) (commandsAt (start .at) (now (start .script))))),
       loop .inv .1 .fits,
-      running-few (start .event-limit) (now (start .day)) (now (start .series)) _ (now (start .live-places)) _ (loop .inv .1),
+      running-few (start .sizes) (now (start .day)) (now (start .series)) _ (now (start .live-places)) _ (loop .inv .1),
     )
 
 pub run-indexed-spec : {M : Type 1} → statement M

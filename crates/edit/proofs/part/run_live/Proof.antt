@@ -6,7 +6,6 @@ use lib.Dec.{T}
 use lib.ListN.{length, length-replicate}
 use denote.Ref.{now}
 use borrow.Author.Needs.{needs}
-use Rattle.eit.specs.Sizes.{limitedTo}
 use Rattle.eit.specs.Pools.{lentPools}
 use Rattle.eit.specs.Records.{EventList, lentList, recordSize}
 use Rattle.eit.specs.Sound.{sound}
@@ -31,7 +30,7 @@ load-requires : tie.Need-load-requires
 load-requires c κs =
     let entry = c .before .before .before .before .before .before .before .before .before in
     let start = entry .args in (
-      loadable-sound (start .event-limit) (now (start .day)) (now (start .series)) (now (start .list)) (start .count) (entry .pre .3) (entry .pre .0),
+      loadable-sound (start .sizes) (now (start .day)) (now (start .series)) (now (start .list)) (start .count) (entry .pre .3) (entry .pre .0),
       index-zeros _ _ 65_536 (length-replicate {A = ℕ} 24_576 0) (length-replicate {A = ℕ} 2_048 0) refl,
     )
 
@@ -51,7 +50,7 @@ module _ (c : tie.After-load) where
 
   held : entry .args .count * recordSize ≤ length (now (entry .args .list))
   held =
-      sound-held (entry .args .event-limit) (now (entry .args .day)) (now (entry .args .series)) (now (entry .args .list)) (entry .args .count)
+      sound-held (entry .args .sizes) (now (entry .args .day)) (now (entry .args .series)) (now (entry .args .list)) (entry .args .count)
       (entry .pre .0)
 
   stands : indexedList (now (entry .args .list)) (c .load .last .1 .1 .0) (c .load .last .1 .1 .1 .0) (entry .args .count)
@@ -63,7 +62,7 @@ run-indexed-requires c κs =
     let made = c .before .before .before .before .before .before .before in
     let begin = entry made in
     let start = begin .args in (
-      subst (λ (list : EventList). T (sound (limitedTo (start .event-limit)) (lentPools (now (start .day)) (now (start .series))) list))
+      subst (λ (list : EventList). T (sound (start .sizes) (lentPools (now (start .day)) (now (start .series))) list))
           (sym (stands made)) (begin .pre .0),
       begin .pre .1,
       begin .pre .2,
@@ -91,7 +90,7 @@ returns c = λ undos are.
     let start = entry made .args in
     ap
     (λ (list : EventList).
-    runPart (start .event-limit) (now (start .day)) (now (start .series)) list undos (start .k) (start .at) (now (start .script)))
+    runPart (start .sizes) (now (start .day)) (now (start .series)) list undos (start .k) (start .at) (now (start .script)))
     (sym (stands made))
     ∙ runs .run-indexed .ensures .0 undos are
     ∙ ap (told (runs .run-indexed .result)) (sym (c .before .before .store .ensures))

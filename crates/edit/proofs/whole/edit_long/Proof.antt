@@ -20,7 +20,7 @@ returns c =
     let strikes = c .before .before .before in
     let entry = strikes .before .before .before .before .before in
     let start = entry .args in
-    edit-4 (start .event-limit) (now (start .day)) (now (start .series)) (lentList (now (start .list)) (start .count)) (now (start .script))
+    edit-4 (start .sizes) (now (start .day)) (now (start .series)) (lentList (now (start .list)) (start .count)) (now (start .script))
     (entry .pre .0) (start .k) (entry .pre .1) _ (sym (strikes .strikes-in .ensures) ∙ c .before .at .given .1)
 
 enum-told : tie.Need-enum-told
@@ -41,7 +41,7 @@ returns-2 c =
     let strikes = enough .before .before in
     let entry = strikes .before .before .before .before .before in
     let start = entry .args in
-    edit-goes-on (start .event-limit) (now (start .day)) (now (start .series)) (lentList (now (start .list)) (start .count)) (now (start .script))
+    edit-goes-on (start .sizes) (now (start .day)) (now (start .series)) (lentList (now (start .list)) (start .count)) (now (start .script))
     (entry .pre .0) (start .k) (entry .pre .1) (sym (strikes .strikes-in .ensures) ∙ enough .enum-told .given .1)
     ∙ runs .run-part .ensures
 

@@ -67,7 +67,7 @@ returns-2 c =
     let size : length commands ≡ start .k =
     simp length-take (omega (arith, form-count-is (now (start .script)) (start .k) (entry .pre .1))) in
     let found = strikes .live-in .ensures commands size (notes .undos-in .ensures) in
-    edit-unpending (start .event-limit) (now (start .day)) (now (start .series)) (lentList (now (start .list)) (start .count))
+    edit-unpending (start .sizes) (now (start .day)) (now (start .series)) (lentList (now (start .list)) (start .count))
     (now (start .script)) (entry .pre .0) (start .k) (entry .pre .1) (omega (arith, found .1, unpending .if1 .left))
     ∙ runs .run-live .ensures 0 (found .0)
 

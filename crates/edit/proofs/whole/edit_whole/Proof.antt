@@ -11,7 +11,7 @@ returns : tie.Need-returns
 returns c =
     let entry = c .before .before .before .before .before in
     let start = entry .args in
-    edit-none (start .event-limit) (now (start .day)) (now (start .series)) (lentList (now (start .list)) (start .count)) (now (start .script))
+    edit-none (start .sizes) (now (start .day)) (now (start .series)) (lentList (now (start .list)) (start .count)) (now (start .script))
     (entry .pre .0) (start .k) (entry .pre .1) (c .if1 .taken)
 
 edit-short-requires : tie.Need-edit-short-requires

@@ -62,7 +62,7 @@ events-checked c =
 
 returns : tie.Need-returns
 returns c p tracks =
-    (says-20 tracks _ _ _ _ (c .before .is-framed .ensures) (not-true _ (c .if1 .taken)), refl)
+    (says-20 tracks _ _ _ (c .before .is-framed .ensures) (not-true _ (c .if1 .taken)), refl)
 
 is-closed-requires : tie.Need-is-closed-requires
 is-closed-requires c κs = search needs
@@ -70,7 +70,7 @@ is-closed-requires c κs = search needs
 returns-2 : tie.Need-returns-2
 returns-2 c p tracks =
     let framed = c .before .before .before in (
-      says-21 tracks _ _ _ _ (section-bytes framed) (framed .is-framed .ensures) (not-false _ (c .before .before .if1 .left))
+      says-21 tracks _ _ _ (section-bytes framed) (framed .is-framed .ensures) (not-false _ (c .before .before .if1 .left))
           (lent-tables framed) (c .before .is-closed .ensures) (not-true _ (c .if2 .taken)),
       refl,
     )
@@ -89,7 +89,7 @@ returns-3 c p tracks =
     let kept = c .before .before in
     let closed = kept .before .before in
     let framed = closed .before .before in (
-      says-22 tracks _ _ _ _ (section-bytes framed) (framed .is-framed .ensures) (not-false _ (closed .before .if1 .left)) (lent-tables framed)
+      says-22 tracks _ _ _ (section-bytes framed) (framed .is-framed .ensures) (not-false _ (closed .before .if1 .left)) (lent-tables framed)
           (closed .is-closed .ensures) (not-false _ (kept .before .if2 .left))
           (sym (ap keptHeader (c .enum-told .given .1)) ∙ kept .check-header .ensures),
       refl,
@@ -104,7 +104,7 @@ returns-4 c p tracks =
     let kept = placed .before .before .before .before in
     let closed = kept .before .before in
     let framed = closed .before .before in (
-      says-23 tracks _ _ _ _ (section-bytes framed) (framed .is-framed .ensures) (not-false _ (closed .before .if1 .left)) (lent-tables framed)
+      says-23 tracks _ _ _ (section-bytes framed) (framed .is-framed .ensures) (not-false _ (closed .before .if1 .left)) (lent-tables framed)
           (closed .is-closed .ensures) (not-false _ (kept .before .if2 .left)) (header-kept placed)
           (placed .is-in-place .ensures) (not-true _ (c .if3 .taken)),
       refl,
@@ -127,7 +127,7 @@ returns-5 c p tracks =
     let kept = placed .before .before .before .before in
     let closed = kept .before .before in
     let framed = closed .before .before in (
-      says-24 tracks _ _ _ _ (section-bytes framed) (framed .is-framed .ensures) (not-false _ (closed .before .if1 .left)) (lent-tables framed)
+      says-24 tracks _ _ _ (section-bytes framed) (framed .is-framed .ensures) (not-false _ (closed .before .if1 .left)) (lent-tables framed)
           (closed .is-closed .ensures) (not-false _ (kept .before .if2 .left)) (header-kept placed)
           (placed .is-in-place .ensures) (not-false _ (looped .before .if3 .left)) (events-checked checked)
           (not-true _ (c .if4 .taken)),
@@ -139,7 +139,7 @@ same-length-2 c = search needs
 
 returns-6 : tie.Need-returns-6
 returns-6 c p tracks =
-    let whole = c .before in
+    let whole = c .before .before in
     let checked = whole .before .before .before .before in
     let looped = checked .before .before in
     let placed = looped .before .before in
@@ -147,30 +147,30 @@ returns-6 c p tracks =
     let closed = kept .before .before in
     let framed = closed .before .before in
     let a = entry placed .args in
-    let many : a .event-limit < checked .check-events .result .events + a .state .count =
+    let many : a .sizes .«event_limit» < checked .check-events .result .events + a .state .count =
     ⊎-elim (λ w. omega (arith, w .taken))
-    (λ w. omega (arith, w .0 .left, ltb-true (a .event-limit - checked .check-events .result .events) (a .state .count) (w .2 .taken)))
+    (λ w. omega (arith, w .0 .left, ltb-true (a .sizes .«event_limit» - checked .check-events .result .events) (a .state .count) (w .3 .taken)))
     (c .if5 .came) in (
-      says-26 tracks _ _ _ _ (section-bytes framed) (framed .is-framed .ensures) (not-false _ (closed .before .if1 .left)) (lent-tables framed)
+      says-26 tracks _ _ _ (section-bytes framed) (framed .is-framed .ensures) (not-false _ (closed .before .if1 .left)) (lent-tables framed)
           (closed .is-closed .ensures) (not-false _ (kept .before .if2 .left)) (header-kept placed)
           (placed .is-in-place .ensures) (not-false _ (looped .before .if3 .left)) (events-checked checked)
           (not-false _ (whole .if4 .left)) many,
       refl,
     )
 
-add-t29 : tie.Need-add-t29
-add-t29 c =
+add-t28 : tie.Need-add-t28
+add-t28 c =
     let room = c .before in
-    let checked = room .before .before .before .before .before .before .before in
+    let checked = room .before .before .before .before .before .before .before .before .before in
     let start = entry (checked .before .before .before .before) in
     let a = start .args in
-    let few : a .state .count + checked .check-events .result .events ≤ a .event-limit =
+    let few : a .state .count + checked .check-events .result .events ≤ a .sizes .«event_limit» =
     omega (
       arith,
-      room .before .before .if5 .left,
-      ltb-false (a .event-limit - checked .check-events .result .events) (a .state .count) (room .if6 .left),
+      room .before .before .before .if5 .left,
+      ltb-false (a .sizes .«event_limit» - checked .check-events .result .events) (a .state .count) (room .if6 .left),
     ) in
-    record { fits = at-most few (start .fits .event-limit .fits) }
+    record { fits = at-most few (room .before .before .before .before .struct-known2 .given .1 .0 .fits) }
 
 same-length-3 : tie.Need-same-length-3
 same-length-3 c = search needs
@@ -178,7 +178,7 @@ same-length-3 c = search needs
 returns-7 : tie.Need-returns-7
 returns-7 c p tracks =
     let room = c .before in
-    let whole = room .before .before .before in
+    let whole = room .before .before .before .before .before in
     let checked = whole .before .before .before .before in
     let looped = checked .before .before in
     let placed = looped .before .before in
@@ -186,14 +186,14 @@ returns-7 c p tracks =
     let closed = kept .before .before in
     let framed = closed .before .before in
     let a = entry placed .args in
-    goes-on tracks _ _ _ _ (section-bytes framed) (framed .is-framed .ensures) (not-false _ (closed .before .if1 .left)) (lent-tables framed)
+    goes-on tracks _ _ _ (section-bytes framed) (framed .is-framed .ensures) (not-false _ (closed .before .if1 .left)) (lent-tables framed)
     (closed .is-closed .ensures) (not-false _ (kept .before .if2 .left)) (header-kept placed)
     (placed .is-in-place .ensures) (not-false _ (looped .before .if3 .left)) (events-checked checked)
     (not-false _ (whole .if4 .left))
     (omega (
       arith,
-      room .before .before .if5 .left,
-      ltb-false (a .event-limit - checked .check-events .result .events) (a .state .count) (room .if6 .left),
+      room .before .before .before .if5 .left,
+      ltb-false (a .sizes .«event_limit» - checked .check-events .result .events) (a .state .count) (room .if6 .left),
     ))
 
 pub check-section-spec : {M : Type 1} → statement M
@@ -216,6 +216,6 @@ check-section-spec =
     returns-5
     same-length-2
     returns-6
-    add-t29
+    add-t28
     same-length-3
     returns-7)

@@ -18,7 +18,10 @@ stated-size-requires c κs = search needs
 returns : tie.Need-returns
 returns c =
     let a = c .before .before .before .args in
-    sym (framed-cut (a .section-size) (now (a .section)) (c .before .stated-size .ensures) (c .if1 .taken))
+    sym (framed-cut (a .sizes) (now (a .section)) (c .before .stated-size .ensures) (c .if1 .taken))
+
+cast-if3 : tie.Need-cast-if3
+cast-if3 c = search needs
 
 returns-2 : tie.Need-returns-2
 returns-2 c =
@@ -29,8 +32,8 @@ returns-2 c =
     let whole = c .before .if1 .left in
     sym
     (⊎-elim
-    (λ w. framed-short (a .section-size) bs states whole (w .taken))
-    (λ w. framed-long (a .section-size) bs states whole (w .0 .left) (ltb-true _ _ (w .1 .taken)))
+    (λ w. framed-short (a .sizes) bs states whole (w .taken))
+    (λ w. framed-long (a .sizes) bs states whole (w .0 .left) (ltb-true _ _ (w .2 .taken)))
     (c .if2 .came))
 
 read-field-requires : tie.Need-read-field-requires
@@ -41,17 +44,18 @@ is-table-requires c κs = search needs
 
 returns-3 : tie.Need-returns-3
 returns-3 c =
-    let stated = c .before .before .before .before .before in
+    let stated = c .before .before .before .before .before .before in
     let a = stated .before .before .args in
     let bs = now (a .section) in
     let bytes = bytes-all bs (λ k. stated .before .shared-slice-known .given k .fits) in
     let table = c .before .read-field .ensures ∙ field-exact bs 0 1 bytes (omega arith) in
-    let whole = c .before .before .before .before .if1 .left in
-    let enough = c .before .before .before .if2 .left in
+    let whole = c .before .before .before .before .before .if1 .left in
+    let enough = c .before .before .before .before .if2 .left in
     let fits = ltb-false _ _ (c .before .before .if3 .left) in
     c .is-table .ensures
     ∙ ap isTable table
-    ∙ sym (framed-table (a .section-size) bs (stated .stated-size .ensures) whole enough fits)
+    ∙ sym (framed-table (a .sizes) bs (stated .stated-size .ensures) whole enough fits)
 
 pub is-framed-spec : {M : Type 1} → statement M
-is-framed-spec = tie.close (tie.spec stated-size-requires returns returns-2 read-field-requires is-table-requires returns-3)
+is-framed-spec =
+    tie.close (tie.spec stated-size-requires returns cast-if3 returns-2 read-field-requires is-table-requires returns-3)

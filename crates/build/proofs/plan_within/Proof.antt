@@ -2,14 +2,14 @@
 use mathlib.Core.Path.{ap, _∙_}
 use borrow.Author.Needs.{needs}
 use denote.Ref.{now}
-use Rattle.eit.specs.Sizes.{Sizes, sized}
+use Rattle.eit.specs.declared.Sizes.{Sizes}
 use Rattle.eit.specs.Pools.{Pools, lentPools}
 use Rattle.eit.specs.Records.{EventList, lentList}
 use Rattle.build_counts.specs.declared.count.Counted.{Counted}
 use Rattle.build_counts.proofs.CountEnd.{counted-counts}
 use Rattle.build.proofs.PlanLaws.{plan-of-counts}
-use Rattle.build.proofs.sizes.plan_within.Statement.{statement}
-use Rattle.build.proofs.sizes.plan_within.Tie as tie
+use Rattle.build.proofs.plan_within.Statement.{statement}
+use Rattle.build.proofs.plan_within.Tie as tie
 
 count-sections-requires : tie.Need-count-sections-requires
 count-sections-requires c κs = search needs
@@ -21,7 +21,7 @@ returns : tie.Need-returns
 returns c =
     let counted = c .before .before .before .count-sections in
     let a = c .before .before .before .before .before .before .before .args in
-    let sizes : Sizes = sized (a .section-size) (a .event-limit) in
+    let sizes : Sizes = a .sizes in
     let pools : Pools = lentPools (now (a .day)) (now (a .series)) in
     let list : EventList = lentList (now (a .list)) (a .count) in
     c .tables-of .ensures

@@ -1,12 +1,12 @@
--- `sizes::at_end` meets its contract: the last header decides, if there is one. Assumes nothing.
+-- `at_end` meets its contract: the last header decides, if there is one. Assumes nothing.
 use mathlib.Core.Path.{sym, ap, _∙_}
 use mathlib.Core.Logic.{⊎-elim}
 use borrow.Author.Tests.{eq-eqb, ne-eqb, not-true, not-false}
 use Rattle.read_answer.specs.Told.{told}
 use Rattle.read_check.proofs.EndLaws.{ends-empty, ends-early, ends-whole}
 use borrow.Author.Needs.{needs}
-use Rattle.read_check.proofs.sizes.at_end.Statement.{statement}
-use Rattle.read_check.proofs.sizes.at_end.Tie as tie
+use Rattle.read_check.proofs.at_end.Statement.{statement}
+use Rattle.read_check.proofs.at_end.Tie as tie
 
 enum-known-before : tie.Need-enum-known-before
 enum-known-before c = search needs

@@ -7,8 +7,8 @@ use Rattle.eit.specs.Pools.{Pools, lentPools}
 use Rattle.eit.proofs.Fields.{bytes-all}
 use Rattle.schedule.proofs.Build.{build-base, build-version}
 use Rattle.build.proofs.AnswerLaws.{answer-unsound, answer-unpackable, answer-short, answer-writable, answer-done}
-use Rattle.build.proofs.sizes.build_within.Statement.{statement}
-use Rattle.build.proofs.sizes.build_within.Tie as tie
+use Rattle.build.proofs.build_within.Statement.{statement}
+use Rattle.build.proofs.build_within.Tie as tie
 
 -- what the call is lent, where the list is counted
 abbrev poolsOf : tie.After-count-sections → Pools
@@ -33,19 +33,19 @@ count-sections-requires c κs = search needs
 returns-3 : tie.Need-returns-3
 returns-3 c =
     let found = c .before .before in
-    answer-unsound _ _ _ _ _ (found .count-sections .result) (found .count-sections .ensures) _ _ _ (found .before .before .before .if1 .left)
+    answer-unsound _ _ _ _ (found .count-sections .result) (found .count-sections .ensures) _ _ _ (found .before .before .before .if1 .left)
     (found .before .if2 .left) (not-true _ (c .if3 .taken))
 
 returns-4 : tie.Need-returns-4
 returns-4 c =
     let found = c .before .before .before .before in
-    answer-unpackable _ _ _ _ _ (found .count-sections .result) (found .count-sections .ensures) _ _ _ (found .before .before .before .if1 .left)
+    answer-unpackable _ _ _ _ (found .count-sections .result) (found .count-sections .ensures) _ _ _ (found .before .before .before .if1 .left)
     (found .before .if2 .left) (not-false _ (c .before .before .if3 .left)) (c .if4 .taken)
 
 returns-5 : tie.Need-returns-5
 returns-5 c =
     let found = c .before .before .before .before .before in
-    answer-short _ _ _ _ _ (found .count-sections .result) (found .count-sections .ensures) _ _ _ (found .before .before .before .if1 .left)
+    answer-short _ _ _ _ (found .count-sections .result) (found .count-sections .ensures) _ _ _ (found .before .before .before .if1 .left)
     (found .before .if2 .left) (not-false _ (c .before .before .before .if3 .left)) (dayBytes found) (seriesBytes found) (c .before .if4 .left)
     (c .if5 .taken)
 
@@ -56,7 +56,7 @@ write-file-requires : tie.Need-write-file-requires
 write-file-requires c κs =
     let passed = c .before .before .before in
     let found = passed .before .before .before .before .before in
-    answer-writable _ _ _ _ _ (found .count-sections .result) (found .count-sections .ensures) _ _ _ (found .before .before .before .if1 .left)
+    answer-writable _ _ _ _ (found .count-sections .result) (found .count-sections .ensures) _ _ _ (found .before .before .before .if1 .left)
     (found .before .if2 .left) (not-false _ (passed .before .before .before .if3 .left)) (dayBytes found) (seriesBytes found)
     (passed .before .if4 .left) (passed .if5 .left)
 
@@ -68,7 +68,7 @@ returns-6 c =
     let written = c .before .before in
     let passed = written .before .before .before .before in
     let found = passed .before .before .before .before .before in
-    answer-done _ _ _ _ _ (found .count-sections .result) (found .count-sections .ensures) _ _ _ (found .before .before .before .if1 .left)
+    answer-done _ _ _ _ (found .count-sections .result) (found .count-sections .ensures) _ _ _ (found .before .before .before .if1 .left)
     (found .before .if2 .left) (not-false _ (passed .before .before .before .if3 .left)) (dayBytes found) (seriesBytes found)
     (passed .before .if4 .left) (passed .if5 .left) (written .write-file .ensures)
 

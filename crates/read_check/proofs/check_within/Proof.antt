@@ -1,24 +1,23 @@
--- `sizes::check_within` meets its contract: before each turn the walk stands as `WalkSoFar` says. The measure is what is left of
+-- `check_within` meets its contract: before each turn the walk stands as `WalkSoFar` says. The measure is what is left of
 -- the file. Assumes nothing.
 use mathlib.Core.Path.{sym, ap, _∙_}
 use Prim.Native.Nat.{_-_}
 use lib.ListN.{length}
-use Rattle.eit.specs.Sizes.{sized}
 use Rattle.sections.proofs.Read.{check-base}
 use Rattle.read_answer.specs.Told.{told}
 use Rattle.read_walk.proofs.SectionAtLaws.{end-past}
 use Rattle.read_check.proofs.WalkLaws.{WalkSoFar, walk-start, walk-stops, walk-more, walk-done}
 use native.Mathlib.Omega.{arith}
 use borrow.Author.Needs.{needs}
-use Rattle.read_check.proofs.sizes.check_within.Statement.{statement}
-use Rattle.read_check.proofs.sizes.check_within.Tie as tie
+use Rattle.read_check.proofs.check_within.Statement.{statement}
+use Rattle.read_check.proofs.check_within.Tie as tie
 
 abbrev Inv-loop : tie.InvT-loop
-Inv-loop file base-day section-size event-limit crc-tables seen₀ state₀ offset₀ seen state offset =
-    WalkSoFar (sized section-size event-limit) base-day file seen state offset
+Inv-loop file base-day sizes crc-tables seen₀ state₀ offset₀ seen state offset =
+    WalkSoFar sizes base-day file seen state offset
 
 abbrev μ-loop : tie.MeasureT-loop
-μ-loop file base-day section-size event-limit crc-tables seen₀ state₀ offset₀ seen state offset = length file - offset
+μ-loop file base-day sizes crc-tables seen₀ state₀ offset₀ seen state offset = length file - offset
 
 refused-requires : tie.Need-refused-requires Inv-loop μ-loop
 refused-requires c κs = search needs

@@ -1,4 +1,4 @@
-// Sizes and limits of document 01 that several crates ask for.
+// Limits of document 01 that several crates ask for.
 
 // Events in a list or a file at most ("Event record and sound list", "The file of sections").
 pub const EVENT_LIMIT: usize = 2_048;
