@@ -1,5 +1,5 @@
--- Read's test that a section has the triplet, version and last_table_id of the one before it says just that: field by field.
--- Assumes nothing.
+-- Read's test that a section has the triplet, version and last_table_id of the one before it says just that: field by
+-- field. Assumes nothing.
 use mathlib.Core.Path.{_≡_, ap}
 use mathlib.Core.Option.{some}
 use lib.Dec.{T, eqb, eqb→eq}

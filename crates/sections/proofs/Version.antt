@@ -1,5 +1,5 @@
--- The version that an identity has for a table, and the identity that a header shows: laws of `versionOf`, by its one version for all
--- tables. Assumes nothing.
+-- The version that an identity has for a table, and the identity that a header shows: laws of `versionOf`, by its one
+-- version for all tables. Assumes nothing.
 use mathlib.Core.Path.{_≡_, refl, _∙_}
 use Prim.Native.Nat.{ℕ, _≤_}
 use Rattle.eit.specs.Limits.{versionMost}

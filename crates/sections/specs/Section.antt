@@ -1,5 +1,5 @@
--- A section as data, and how many bytes it has (01, "The file of sections"). Laws: proofs/Version.antt, proofs/Lengths.antt.
--- Assumes nothing.
+-- A section as data, and how many bytes it has (01, "The file of sections"). Laws: proofs/Version.antt,
+-- proofs/Lengths.antt. Assumes nothing.
 use Prim.Native.Nat.{ℕ, _+_}
 use mathlib.Core.List.{List, [], _∷_, map, flatten}
 use lib.ListN.{length}
@@ -18,7 +18,8 @@ pub record Header : Type 0 where
   pub triplet : Triplet
   pub version : ℕ
 
--- the version that sections of a table have in a file with this identity: the same in every section, so the table does not matter
+-- the version that sections of a table have in a file with this identity: the same in every section, so the table does
+-- not matter
 unfoldable pub versionOf : Identity → ℕ → ℕ
 versionOf identity table = identity .version
 

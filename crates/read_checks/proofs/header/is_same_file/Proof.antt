@@ -1,5 +1,5 @@
--- `is_same_file` meets its contract: with no section before it holds, else the triplet decides or leaves it to the version, and
--- these to last_table_id. Assumes nothing.
+-- `is_same_file` meets its contract: with no section before it holds, else the triplet decides or leaves it to the
+-- version, and these to last_table_id. Assumes nothing.
 use mathlib.Core.Bool.{Bool, _&&_, and-assoc}
 use mathlib.Core.Logic.{⊎-elim}
 use mathlib.Core.Option.{some}
