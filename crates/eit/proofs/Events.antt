@@ -1,13 +1,14 @@
 -- `follows` means a later start; in a list that rises every event starts after all before it; and what one event more at the end
 -- asks: by induction. Assumes nothing.
+use mathlib.Core.Path.{_≡_}
 use mathlib.Core.Logic.{_↔_}
-use Prim.Native.Nat.{ℕ, zero, suc, _<_}
+use Prim.Native.Nat.{ℕ, zero, suc, _+_, _<_}
 use native.Mathlib.Omega.{arith}
 use mathlib.Core.List.{List, [], _∷_, _++_}
-use lib.Dec.{T, ltb→lt, lt→ltb}
+use lib.Dec.{T, leb, leb→le, le→leb, ltb→lt, lt→ltb}
 use lib.ListN.{length, getD}
-use Rattle.eit.specs.Events.{Event, follows, rising}
-use Rattle.eit.proofs.Test.{tests, and-left, and-right, and-both}
+use Rattle.eit.specs.Events.{Event, follows, leastBehind, rising}
+use Rattle.eit.proofs.Test.{tests, and-left, and-right, and-both, both-ways}
 
 pub follows-later : (e f : Event) → T (follows e f) → e .start < f .start
 unfolding follows
@@ -16,6 +17,19 @@ follows-later e f t = ltb→lt (e .start) (f .start) t
 pub later-follows : (e f : Event) → e .start < f .start → T (follows e f)
 unfolding follows
 later-follows e f h = lt→ltb (e .start) (f .start) h
+
+-- one start decides: an event may follow exactly if it starts there or later
+pub follows-least : (e f : Event) → follows e f ≡ leb (leastBehind e) (f .start)
+unfolding leastBehind
+follows-least e f =
+    both-ways (follows e f) (leb (e .start + 1) (f .start))
+    (λ t. le→leb (e .start + 1) (f .start) (omega (arith, follows-later e f t)))
+    (λ t. later-follows e f (omega (arith, leb→le (e .start + 1) (f .start) t)))
+
+-- it is the same behind events that start together and are as long
+pub least-same : (e f : Event) → e .start ≡ f .start → e .duration ≡ f .duration → leastBehind e ≡ leastBehind f
+unfolding leastBehind
+least-same e f starts durations = rw starts
 
 -- every event of a list starts after s
 abbrev pub AllAfter : ℕ → List Event → Type 0

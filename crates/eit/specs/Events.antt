@@ -60,6 +60,10 @@ eventsIn pools rs = map (eventOf pools) rs
 unfoldable pub follows : Event → Event → Bool
 follows first second = ltb (first .start) (second .start)
 
+-- the least start that may follow an event: `follows-least`
+unfoldable pub leastBehind : Event → ℕ
+leastBehind e = e .start + 1
+
 -- each event but the first follows the one before it
 abbrev pub rising : List Event → Bool
 rising [] = true

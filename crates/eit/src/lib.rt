@@ -1,11 +1,13 @@
-// The types that the calls share, the time type, and the limits that several crates ask for. Everything else of this crate is
-// definitions (specs/) and laws (proofs/).
+// The types that the calls share, the least start behind an event, the time type, and the limits that several crates
+// ask for. Everything else of this crate is definitions (specs/) and laws (proofs/).
 use crate::limits::EVENT_LIMIT;
 ghost use mathlib.Core.Path.{_≡_};
 ghost use mathlib.Core.Bool.{_&&_};
+ghost use mathlib.Core.List.{[]};
 ghost use lib.Dec.{ltb, leb};
 ghost use Rattle.eit.specs.Limits.{startLimit, durationLeast, durationMost};
 ghost use Rattle.eit.specs.Time.{timeOf};
+ghost use Rattle.eit.specs.Events.{eventWith, leastBehind};
 ghost use Rattle.eit.specs.Identity.{noIdentity};
 
 pub mod limits;
@@ -22,6 +24,13 @@ pub struct Record {
     // The part of its pool that holds the descriptors.
     pub offset: u32,
     pub chain_length: u32,
+}
+
+// The least start of an event that may stand behind this one.
+pub fn least_behind(event: Record) -> u64
+    ensures { λ r. ⌜ r ≡ leastBehind (eventWith event []) ⌝ }
+{
+    event.start as u64 + 1
 }
 
 // A DVB triplet: the ids of a service.

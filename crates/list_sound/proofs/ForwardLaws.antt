@@ -1,8 +1,8 @@
 -- One pass over the records, with the ids seen and the least start, asks what soundness asks of them: by induction over the records,
 -- with the facts of the records that are left. Assumes nothing.
-use mathlib.Core.Path.{_≡_, sym}
+use mathlib.Core.Path.{_≡_, sym, subst}
 use mathlib.Core.Bool.{false, not, and-false}
-use Prim.Native.Nat.{ℕ, suc, _*_, _/_, _≤_, _<_}
+use Prim.Native.Nat.{ℕ, _*_, _/_, _≤_, _<_}
 use native.Mathlib.Omega.{arith}
 use mathlib.Core.List.{List, [], _∷_}
 use lib.Dec.{T, leb, eqb, leb→le, le→leb}
@@ -12,11 +12,11 @@ use Rattle.eit.specs.declared.Sizes.{Sizes}
 use Rattle.eit.specs.Pools.{Pools}
 use Rattle.eit.specs.Records.{lentList, recordSize, recordsIn, recordsOf}
 use Rattle.eit.specs.Among.{isAmong}
-use Rattle.eit.specs.Events.{eventOf, eventsIn, rising}
+use Rattle.eit.specs.Events.{eventOf, eventsIn, follows, leastBehind, rising}
 use Rattle.eit.specs.Sound.{idsOf, soundRecords, sound}
 use Rattle.eit.specs.declared.Record.{Record}
 use Rattle.eit.proofs.Test.{tests, ne-sym, nor-left, nor-right, nor-both, both-ways}
-use Rattle.eit.proofs.Events.{follows-later, later-follows}
+use Rattle.eit.proofs.Events.{follows-least}
 use Rattle.eit.proofs.Sound.{RecordFacts, records-sound, sound-records}
 use Rattle.list_sound.specs.Forward.{soundFrom}
 
@@ -32,13 +32,18 @@ AllApart seen (n ∷ ns) = T (not (isAmong n seen)) × AllApart seen ns
 
 -- starts that rise, record by record
 module _ (pools : Pools) (r : Record) where
-  rising-more : (rs : List Record) → FrontFrom (suc (r .start)) rs → T (rising (eventsIn pools rs)) → T (rising (eventsIn pools (r ∷ rs)))
+  rising-more : (rs : List Record) → FrontFrom (leastBehind (eventOf pools r)) rs → T (rising (eventsIn pools rs)) → T (rising (eventsIn pools (r ∷ rs)))
   rising-more [] later t = tt
-  rising-more (s ∷ rs) later t = search (tests, later-follows)
+  rising-more (s ∷ rs) later t =
+      let first : T (follows (eventOf pools r) (eventOf pools s)) =
+      rw (follows-least (eventOf pools r) (eventOf pools s)) (le→leb _ (s .start) later) in
+      search tests
 
-  rising-less : (rs : List Record) → T (rising (eventsIn pools (r ∷ rs))) → FrontFrom (suc (r .start)) rs × T (rising (eventsIn pools rs))
+  rising-less : (rs : List Record) → T (rising (eventsIn pools (r ∷ rs))) → FrontFrom (leastBehind (eventOf pools r)) rs × T (rising (eventsIn pools rs))
   rising-less [] t = (tt, tt)
-  rising-less (s ∷ rs) t = (follows-later (eventOf pools r) (eventOf pools s) (search tests), search tests)
+  rising-less (s ∷ rs) t =
+      let first : T (follows (eventOf pools r) (eventOf pools s)) = search tests in
+      (leb→le _ (s .start) (subst T (follows-least (eventOf pools r) (eventOf pools s)) first), search tests)
 
 -- numbers apart from those seen and one more: none of them is that one
 apart-less : (m : ℕ) (seen ns : List ℕ) → AllApart (m ∷ seen) ns → T (not (isAmong m ns)) × AllApart seen ns
@@ -67,7 +72,7 @@ record ForwardFacts (pools : Pools) (seen : List ℕ) (least : ℕ) (rs : List R
 forward-facts : (pools : Pools) (seen : List ℕ) (least : ℕ) (rs : List Record) → T (soundFrom pools seen least rs) → ForwardFacts pools seen least rs
 forward-facts pools seen least [] t = record { records = record { valid = tt; rises = tt; differ = tt }; from = tt; apart = tt }
 forward-facts pools seen least (r ∷ rs) t =
-    let rest = forward-facts pools (r .id ∷ seen) (suc (r .start)) rs (search tests) in
+    let rest = forward-facts pools (r .id ∷ seen) (leastBehind (eventOf pools r)) rs (search tests) in
     let ids = apart-less (r .id) seen (idsOf rs) (rest .apart) in
     record {
       records = record {
@@ -87,8 +92,8 @@ facts-forward pools seen least (r ∷ rs) f =
     let differ = f .records .differ in
     let front : T (leb least (r .start)) = le→leb least (r .start) (f .from) in
     let new : T (not (isAmong (r .id) seen)) = f .apart .0 in
-    let rest : T (soundFrom pools (r .id ∷ seen) (suc (r .start)) rs) =
-    facts-forward pools (r .id ∷ seen) (suc (r .start)) rs
+    let rest : T (soundFrom pools (r .id ∷ seen) (leastBehind (eventOf pools r)) rs) =
+    facts-forward pools (r .id ∷ seen) (leastBehind (eventOf pools r)) rs
     (record {
       records = record { valid = search tests; rises = starts .1; differ = search tests };
       from = starts .0;

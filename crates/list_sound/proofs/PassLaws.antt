@@ -11,9 +11,11 @@ use lib.Dec.{T, leb}
 use lib.ListN.{length, drop, replicate, length-replicate}
 use Rattle.eit.specs.Pools.{Pools}
 use Rattle.eit.specs.Records.{recordSize, frontRecord, recordsIn}
+use Rattle.eit.specs.Events.{eventWith, eventOf, leastBehind}
 use Rattle.eit.specs.Sound.{inRange, hasChain}
 use Rattle.eit.specs.declared.Record.{Record}
 use Rattle.eit.proofs.Test.{and-left, test-or, false-is}
+use Rattle.eit.proofs.Events.{least-same}
 use Rattle.eit.proofs.Sound.{range-facts}
 use Rattle.codec.specs.Seen.{isSeen, withSeen, SeenAre}
 use Rattle.codec.proofs.SeenLaws.{seen-length, seen-empty, seen-more}
@@ -58,7 +60,8 @@ module _ {pools : Pools} {d : List ℕ} {count : ℕ} {words : List ℕ} {least 
         (test-or (inRange r))
 
     next-decides : soundFrom pools [] 0 (recordsIn count d)
-        ≡ (mayFollowBy pools words least r && soundFrom pools (r .id ∷ p .ids) (suc (r .start)) (drop (suc i) (recordsIn count d)))
+        ≡ (mayFollowBy pools words least r
+        && soundFrom pools (r .id ∷ p .ids) (leastBehind (eventOf pools r)) (drop (suc i) (recordsIn count d)))
     next-decides =
         let split : drop i (recordsIn count d) ≡ r ∷ drop (suc i) (recordsIn count d) = rw e (records-from count d i h) in
         rw same-test (p .decided ∙ ap (soundFrom pools (p .ids) least) split)
@@ -67,13 +70,13 @@ module _ {pools : Pools} {d : List ℕ} {count : ℕ} {words : List ℕ} {least 
     pass-stop f = rw f at next-decides
 
     pub pass-more : mayFollowBy pools words least r ≡ true → {more : List ℕ} → more ≡ withSeen words (r .id)
-        → Pass pools d count more (r .start + 1) (i + 1)
-    pass-more t m =
+        → {next : ℕ} → next ≡ leastBehind (eventWith r []) → Pass pools d count more next (i + 1)
+    pass-more t m n =
         let range : T (inRange r) = and-left (inRange r) _ (subst T (sym t) tt) in
         record {
           within = omega arith;
           size = ap length m ∙ seen-length words (r .id) ∙ p .size;
           ids = r .id ∷ p .ids;
           held = rw m (seen-more words (p .ids) (r .id) (p .held) (omega (arith, range-facts r range .id, p .size)));
-          decided = rw (add-one (r .start), add-one i) (rw t at next-decides);
+          decided = rw (n ∙ least-same (eventWith r []) (eventOf pools r) refl refl, add-one i) (rw t at next-decides);
         }

@@ -48,13 +48,13 @@ pub fn is_sound<'a>(
         let r = records::record_at(list, i);
         if !is_in_range(r)
             || !pools::has_chain(r, day, series)
-            || r.start < least
+            || (r.start as u64) < least
             || seen::is_seen(&seen, r.id)
         {
             return false;
         }
         seen::add_seen(&mut seen, r.id);
-        least = r.start + 1;
+        least = eit::least_behind(r);
         i += 1;
     }
     true

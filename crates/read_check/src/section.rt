@@ -15,7 +15,7 @@ ghost use Rattle.read_check.specs.Tracks.{Tracks, Said};
 // What is known before a section: the header before it, the least start of the next event, and the events so far.
 pub struct WalkState {
     pub before: Kept,
-    pub least: u32,
+    pub least: u64,
     pub count: usize,
 }
 

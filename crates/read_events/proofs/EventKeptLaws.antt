@@ -7,14 +7,14 @@ use mathlib.Core.List.{List, [], _∷_, _++_, map, flatten, reverse, reverse-con
 use Prim.Native.Nat.{ℕ, _+_, _-_, _<_}
 use native.Mathlib.Omega.{arith}
 use borrow.Author.Tests.{le-leb}
-use lib.Dec.{T, leb, le→leb, leb→le}
+use lib.Dec.{T, leb}
 use lib.ListN.{length, drop, replicate, length-replicate}
 use Rattle.eit.specs.Sizes.{sectionOverhead}
 use Rattle.eit.specs.Fields.{Bytes}
-use Rattle.eit.specs.Events.{Event, follows}
+use Rattle.eit.specs.Events.{Event, leastBehind}
 use Rattle.eit.proofs.Fields.{bytes-parts, bytes-take, bytes-drop}
 use Rattle.eit.proofs.Test.{and-left, and-right, and-both, true-is, false-is, test-or, both-ways}
-use Rattle.eit.proofs.Events.{follows-later, later-follows}
+use Rattle.eit.proofs.Events.{follows-least}
 use Rattle.sections.specs.Section.{Header, headerSize, eventIds}
 use Rattle.sections.specs.Decode.{statedEventSize, eventIn, headerIn, eventLoop, cutEvents}
 use Rattle.sections.specs.Cut.{cut}
@@ -31,18 +31,12 @@ pub kept-start : KeptOf 0 (replicate 1024 0) []
 kept-start = record { least-is = refl; ids = seen-empty 1024; room = length-replicate {A = ℕ} 1024 0 }
 
 -- one event
-later : (d e : Event) → leb (d .start + 1) (e .start) ≡ follows d e
-later d e =
-    both-ways (leb (d .start + 1) (e .start)) (follows d e)
-    (λ t. later-follows d e (omega (arith, leb→le (d .start + 1) (e .start) t)))
-    (λ t. le→leb (d .start + 1) (e .start) (omega (arith, follows-later d e t)))
-
 module _ {least : ℕ} {words : List ℕ} (e : Event) (id : e .id < 65_536) where
   kept-new : (seen : List Event) → KeptOf least words seen → (leb least (e .start) && not (isSeen words (e .id))) ≡ isNew seen e
   kept-new [] kept = rw (kept .least-is, le-leb 0 (e .start) (omega arith), kept .ids (e .id) (omega (arith, kept .room)))
-  kept-new (d ∷ seen) kept = rw (kept .least-is, later d e, kept .ids (e .id) (omega (arith, kept .room)))
+  kept-new (d ∷ seen) kept = rw (kept .least-is, follows-least d e, kept .ids (e .id) (omega (arith, kept .room)))
 
-  kept-more : {seen : List Event} → KeptOf least words seen → KeptOf (e .start + 1) (withSeen words (e .id)) (e ∷ seen)
+  kept-more : {seen : List Event} → KeptOf least words seen → KeptOf (leastBehind e) (withSeen words (e .id)) (e ∷ seen)
   kept-more {seen} kept = record {
     least-is = refl;
     ids = seen-more words (eventIds seen) (e .id) (kept .ids) (omega (arith, kept .room));

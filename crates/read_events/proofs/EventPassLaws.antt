@@ -9,6 +9,8 @@ use lib.Dec.{leb}
 use lib.ListN.{length, drop, length-drop, drop-of-length-le}
 use lib.Seq.{drop-drop}
 use Rattle.eit.specs.declared.Record.{Record}
+use Rattle.eit.specs.Events.{eventWith, leastBehind}
+use Rattle.eit.proofs.Events.{least-same}
 use Rattle.sections.specs.Section.{Header, eventOverhead}
 use Rattle.sections.specs.Decode.{statedEventSize, eventIn}
 use Rattle.sections.specs.Cut.{cut}
@@ -32,7 +34,7 @@ module _ (base : ℕ) (h : Header) (n least : ℕ) (words : List ℕ) where
   module _ (bs : List ℕ) (rest : List (List ℕ)) where
     pub take-more : isTaken base h least words bs ≡ true
         → takeEvents base h n least words (bs ∷ rest)
-        ≡ takeEvents base h (n + 1) (eventIn base bs .start + 1) (withSeen words (eventIn base bs .id)) rest
+        ≡ takeEvents base h (n + 1) (leastBehind (eventIn base bs)) (withSeen words (eventIn base bs .id)) rest
     unfolding takeEvents
     take-more taken = rw (takeEvents, taken)
 
@@ -105,10 +107,14 @@ module _ {base : ℕ} {h : Header} {events : List ℕ} {least : ℕ} {words₀ w
           ∙ take-stops base h n next words (frontEvent rest) _ (event-is fails))
 
       pub pass-more : (isInSegment h (r .start) && (leb next (r .start) && not (isSeen words (r .id)))) ≡ true
-          → {words′ : List ℕ} → words′ ≡ withSeen words (r .id)
-          → PassSoFar base h events least words₀ words′ (n + 1) (r .start + 1) (at + (eventOverhead + r .«chain_length»))
-      pass-more holds {words′} added =
+          → {words′ : List ℕ} → words′ ≡ withSeen words (r .id) → {next′ : ℕ} → next′ ≡ leastBehind (eventWith r [])
+          → PassSoFar base h events least words₀ words′ (n + 1) next′ (at + (eventOverhead + r .«chain_length»))
+      pass-more holds {words′} added {next′} behind =
           let start : eventIn base (frontEvent rest) .start ≡ r .start = sym (ap (λ (r : Record). r .start) (whole-record base rest read)) in
+          let duration : eventIn base (frontEvent rest) .duration ≡ r .duration =
+          sym (ap (λ (r : Record). r .duration) (whole-record base rest read)) in
+          let later : leastBehind (eventIn base (frontEvent rest)) ≡ next′ =
+          least-same (eventIn base (frontEvent rest)) (eventWith r []) start duration ∙ sym behind in
           let id : eventIn base (frontEvent rest) .id ≡ r .id = sym (ap (λ (r : Record). r .id) (whole-record base rest read)) in
           let size : ℕ = eventOverhead + r .«chain_length» in
           let held : withSeen words (eventIn base (frontEvent rest) .id) ≡ words′ = ap (withSeen words) id ∙ sym added in
@@ -118,7 +124,7 @@ module _ {base : ℕ} {h : Header} {events : List ℕ} {least : ℕ} {words₀ w
                 so-far .pass
                 ∙ ap (takeEvents base h n next words) (whole-next base rest read)
                 ∙ take-more base h n next words (frontEvent rest) _ (event-is holds)
-                ∙ (λ i. takeEvents base h (n + 1) (start i + 1) (held i) (cut statedEventSize (drop-drop size at events i)));
+                ∙ (λ i. takeEvents base h (n + 1) (later i) (held i) (cut statedEventSize (drop-drop size at events i)));
             few = omega (arith, so-far .few);
             none = λ never. omega arith;
             inside = omega (arith, room, length-drop at events);

@@ -6,15 +6,14 @@ use mathlib.Core.Bool.{Bool, _&&_, _||_}
 use mathlib.Core.List.{List, _∷_}
 use Prim.Native.Nat.{ℕ, _+_, _/_, _≤_, _<_}
 use native.Mathlib.Omega.{arith}
-use lib.Dec.{T, eqb, leb, eqb→eq, ltb→lt}
-use lib.ListN.{length, take, drop, length-take, length-drop}
+use lib.Dec.{T, eqb, eqb→eq}
+use lib.ListN.{length, drop, length-take, length-drop}
 use lib.Seq.{take-all, length-take-le}
-use Rattle.eit.specs.Limits.{startLimit, startHoursMost}
-use Rattle.eit.specs.Fields.{bytesAt, valueOf}
-use Rattle.eit.specs.Time.{isTime, isStartBytes, isDurationBytes, startOf}
+use Rattle.eit.specs.Fields.{bytesAt}
+use Rattle.eit.specs.Time.{isStartBytes, isDurationBytes}
 use Rattle.eit.specs.Chain.{isChain}
 use Rattle.eit.specs.declared.Record.{Record}
-use Rattle.eit.proofs.Test.{and-left, and-right, le-or-lt}
+use Rattle.eit.proofs.Test.{and-left, le-or-lt}
 use Rattle.sections.specs.Section.{eventOverhead}
 use Rattle.sections.specs.Decode.{statusField, statedEventSize, eventIn}
 use Rattle.sections.specs.Cut.{cut}
@@ -24,7 +23,7 @@ use Rattle.codec_section.specs.EventRead.{isWholeEvent, frontEvent, eventRead}
 use Rattle.codec_section.specs.declared.event.EventRead.the-variants.{Whole}
 use Rattle.codec_section.proofs.EventReadLaws.{whole-only}
 
--- the first two tests of a whole event
+-- the first test of a whole event
 module _ (base : ℕ) (bs : List ℕ) (whole : T (isWholeEvent base bs)) where
   -- what is tested behind the length
   abbrev rest-tests : Bool
@@ -36,14 +35,6 @@ module _ (base : ℕ) (bs : List ℕ) (whole : T (isWholeEvent base bs)) where
   whole-stated : length bs ≡ statedEventSize bs
   unfolding isWholeEvent
   whole-stated = eqb→eq (length bs) (statedEventSize bs) (and-left (eqb (length bs) (statedEventSize bs)) rest-tests whole)
-
-  whole-soon : startOf base (bytesAt 2 5 bs) < startLimit
-  unfolding isWholeEvent
-  whole-soon =
-      let starts : T (isStartBytes base (bytesAt 2 5 bs)) =
-      and-left (isStartBytes base (bytesAt 2 5 bs)) _ (and-right (eqb (length bs) (statedEventSize bs)) _ whole) in
-      ltb→lt _ startLimit
-      (and-right (leb base (valueOf (take 2 (bytesAt 2 5 bs)))) _ (and-right (isTime startHoursMost (drop 2 (bytesAt 2 5 bs))) _ starts))
 
 module _ (base : ℕ) (bs : List ℕ) {r : Record} (read : eventRead base bs ≡ Whole r) where
   holds : T (isWholeEvent base (frontEvent bs))
@@ -71,10 +62,6 @@ module _ (base : ℕ) (bs : List ℕ) {r : Record} (read : eventRead base bs ≡
 
   pub whole-inside : eventOverhead + r .«chain_length» ≤ length bs
   whole-inside = omega (arith, chain-size, front-size, length-take (statedEventSize bs) bs)
-
-  pub whole-start : r .start < startLimit
-  whole-start = let is : r .start ≡ startOf base (bytesAt 2 5 (frontEvent bs)) = ap (λ (r : Record). r .start) whole-record in
-      rw is (whole-soon base (frontEvent bs) holds)
 
   pub whole-next : cut statedEventSize bs ≡ frontEvent bs ∷ cut statedEventSize (drop (eventOverhead + r .«chain_length») bs)
   whole-next =

@@ -5,6 +5,7 @@ use Prim.Native.Nat.{ℕ, _+_}
 use mathlib.Core.Bool.{Bool, true, false, not, _&&_}
 use mathlib.Core.List.{List, [], _∷_}
 use lib.Dec.{leb}
+use Rattle.eit.specs.Events.{leastBehind}
 use Rattle.sections.specs.Section.{Header}
 use Rattle.sections.specs.Decode.{eventIn}
 use Rattle.sections.specs.JudgeEvents.{isEvent, isFilledOrAlone}
@@ -28,7 +29,7 @@ unfoldable pub takeEvents : ℕ → Header → ℕ → ℕ → List ℕ → List
 takeEvents base h n least words [] = record { isWhole = true; events = n; least = least; words = words }
 takeEvents base h n least words (bs ∷ rest) =
     elim (isTaken base h least words bs) [
-      | true ↦ takeEvents base h (n + 1) (eventIn base bs .start + 1) (withSeen words (eventIn base bs .id)) rest
+      | true ↦ takeEvents base h (n + 1) (leastBehind (eventIn base bs)) (withSeen words (eventIn base bs .id)) rest
       | false ↦ record { isWhole = false; events = n; least = least; words = words }
     ]
 

@@ -2,16 +2,16 @@
 -- strictly, ids differ). Laws: proofs/EventKeptLaws.antt. Assumes nothing.
 use mathlib.Core.Path.{_≡_}
 use mathlib.Core.List.{List, [], _∷_}
-use Prim.Native.Nat.{ℕ, _+_}
+use Prim.Native.Nat.{ℕ}
 use lib.ListN.{length}
-use Rattle.eit.specs.Events.{Event}
+use Rattle.eit.specs.Events.{Event, leastBehind}
 use Rattle.sections.specs.Section.{eventIds}
 use Rattle.codec.specs.Seen.{SeenAre}
 
 -- the least start behind some events, of which the latest comes first
 abbrev pub leastAfter : List Event → ℕ
 leastAfter [] = 0
-leastAfter (d ∷ seen) = d .start + 1
+leastAfter (d ∷ seen) = leastBehind d
 
 -- a least start and a set are those of the events so far; the set has a bit for each id
 pub record KeptOf (least : ℕ) (words : List ℕ) (seen : List Event) : Type 0 where

@@ -25,7 +25,7 @@ pub struct EventCheck {
     // Events that passed.
     pub events: usize,
     // The least start that the next event may have.
-    pub least: u32,
+    pub least: u64,
 }
 
 // An event starts in its section's segment.
@@ -46,10 +46,10 @@ fn is_alone(header: SectionHeader) -> bool
 }
 
 // An event that does not start before `least`, and whose id is not in the set.
-fn is_new(event: Record, least: u32, seen: &[u64]) -> bool
+fn is_new(event: Record, least: u64, seen: &[u64]) -> bool
     ensures { λ r. ⌜ r ≡ (leb least (event .start) && not (isSeen (now (seen .entry)) (event .id))) ⌝ }
 {
-    least <= event.start && !seen::is_seen(seen, event.id)
+    least <= event.start as u64 && !seen::is_seen(seen, event.id)
 }
 
 // 24: every event of the loop passes, and follows those before, whose ids are in the set and which start before `least`. The ids
@@ -58,7 +58,7 @@ pub fn check_events(
     events: &[u8],
     header: SectionHeader,
     base_day: u32,
-    least: u32,
+    least: u64,
     seen: &mut [u64],
 ) -> EventCheck
     ensures { λ r. ⌜
@@ -84,7 +84,7 @@ pub fn check_events(
             };
         }
         seen::add_seen(seen, event.id);
-        next = event.start + 1;
+        next = eit::least_behind(event);
         n += 1;
         at += EVENT_OVERHEAD + event.chain_length as usize;
     }

@@ -1,19 +1,17 @@
 -- `is_sound` meets its contract: before each turn the pass stands as `Pass` says, and each way on or out is decided by the tests of the
 -- record there. Assumes nothing.
-use mathlib.Core.Path.{_≡_, sym, subst, _∙_}
+use mathlib.Core.Path.{_≡_, sym, _∙_}
 use mathlib.Core.Logic.{⊎-elim}
 use mathlib.Core.Bool.{true}
 use mathlib.Core.List.{[]}
 use Prim.Native.Nat.{_-_}
 use native.Mathlib.Omega.{arith}
-use lib.Dec.{T}
 use denote.Ref.{now}
 use borrow.Author.Needs.{needs}
 use borrow.Author.Tests.{le-leb, lt-leb, ltb-true, ltb-false, not-true, not-false}
 use Rattle.eit.specs.Pools.{lentPools}
 use Rattle.eit.specs.Records.{lentList, recordsIn}
 use Rattle.eit.specs.Sound.{inRange, sound}
-use Rattle.eit.proofs.Sound.{range-facts}
 use Rattle.list_sound.specs.Forward.{soundFrom}
 use Rattle.list_sound.proofs.ForwardLaws.{sound-many, sound-short, sound-held}
 use Rattle.list_sound.proofs.PassLaws.{Pass, pass-start, pass-end, pass-stop, pass-more}
@@ -55,6 +53,9 @@ is-in-range-requires c κs = search needs
 
 has-chain-requires : tie.Need-has-chain-requires Inv-loop μ-loop
 has-chain-requires c κs = search needs
+
+cast-if5 : tie.Need-cast-if5 Inv-loop μ-loop
+cast-if5 c = search needs
 
 slice-aggregate-is-seen : tie.Need-slice-aggregate-is-seen Inv-loop μ-loop
 slice-aggregate-is-seen c = sym (c .before .before .before .before .before .before .before .before .before .loop .inv .size)
@@ -103,10 +104,8 @@ add-seen-requires c κs = search needs
 in-range : (c : tie.Else3 Inv-loop μ-loop) → inRange (c .before .before .record-at .result) ≡ true
 in-range c = sym (c .before .is-in-range .ensures) ∙ not-false _ (c .if3 .left)
 
-add-least : tie.Need-add-least Inv-loop μ-loop
-add-least c =
-    let passed = c .before .before .before .before .before .before .before .before .before .before .before in
-    omega (arith, range-facts (passed .before .before .record-at .result) (subst T (sym (in-range passed)) tt) .start)
+least-behind-requires : tie.Need-least-behind-requires Inv-loop μ-loop
+least-behind-requires c κs = search needs
 
 add-i : tie.Need-add-i Inv-loop μ-loop
 add-i c = omega arith
@@ -130,6 +129,7 @@ loop-again c =
       sym (seen .is-seen .ensures) ∙ added .before .before .if6 .left,
     ))
     (added .add-seen .ensures)
+    (c .least-behind .ensures)
 
 returns-3 : tie.Need-returns-3 Inv-loop μ-loop
 returns-3 c = sym (records-decide (c .before .before) ∙ pass-end (c .before .loop .inv) (c .loop-test .left))
@@ -145,12 +145,13 @@ is-sound-spec =
     record-at-requires
     is-in-range-requires
     has-chain-requires
+    cast-if5
     slice-aggregate-is-seen
     is-seen-requires
     returns-2
     slice-aggregate-add-seen
     add-seen-requires
-    add-least
+    least-behind-requires
     add-i
     loop-less
     loop-again

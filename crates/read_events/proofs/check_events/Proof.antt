@@ -12,7 +12,7 @@ use Rattle.sections.specs.Section.{eventOverhead}
 use Rattle.codec.proofs.FieldLaws.{rest-whole}
 use Rattle.codec_section.specs.EventRead.{eventRead}
 use Rattle.codec_section.specs.declared.event.EventRead.the-variants.{Whole}
-use Rattle.read_events.proofs.EventWalkLaws.{whole-start, whole-inside}
+use Rattle.read_events.proofs.EventWalkLaws.{whole-inside}
 use Rattle.codec_section.specs.HeaderRead.{heldHeader}
 use Rattle.read_events.proofs.EventPassLaws.{PassSoFar, pass-start, pass-broken, pass-stop, pass-more, pass-end, filled-some, filled-none}
 use native.Mathlib.Omega.{arith}
@@ -103,14 +103,12 @@ returns-2 c =
 add-seen-requires : tie.Need-add-seen-requires Inv-loop μ-loop
 add-seen-requires c κs = search needs
 
-add-next : tie.Need-add-next Inv-loop μ-loop
-add-next c =
-    let whole = c .before .before .before .before .before .before .before .before .before .before in
-    omega (arith, whole-start _ _ (event-read (whole .before .before) (whole .event .given .1)))
+least-behind-requires : tie.Need-least-behind-requires Inv-loop μ-loop
+least-behind-requires c κs = search needs
 
 add-n : tie.Need-add-n Inv-loop μ-loop
 add-n c =
-    let read = c .before .before .before .before .before .before .before .before .before .before .before .before in
+    let read = c .before .before .before .before .before .before .before .before .before .before .before .before .before in
     omega (arith, turn read .loop .inv .few, read .before .before .loop-test .taken)
 
 cast-at : tie.Need-cast-at Inv-loop μ-loop
@@ -121,7 +119,7 @@ add-at c = search needs
 
 add-at-2 : tie.Need-add-at-2 Inv-loop μ-loop
 add-at-2 c =
-    let whole = c .before .before .before .before .before .before .before .before .before .before in
+    let whole = c .before .before .before .before .before .before .before .before .before .before .before in
     omega (arith, event-inside (whole .before .before) (whole .event .given .1))
 
 loop-less : tie.Need-loop-less Inv-loop μ-loop
@@ -129,7 +127,7 @@ loop-less c = search needs
 
 loop-again : tie.Need-loop-again Inv-loop μ-loop
 loop-again c =
-    let added = c .before .before in
+    let added = c .before .before .before in
     let new = added .before .before .before in
     let placed = new .before .before .before in
     let read = placed .before .before .before .before in
@@ -137,6 +135,7 @@ loop-again c =
     (rw (sym (placed .is-in-segment .ensures) ∙ not-false _ (new .before .before .if1 .left))
     (sym (new .is-new .ensures) ∙ not-false _ (added .before .before .if2 .left)))
     (added .add-seen .ensures)
+    (c .least-behind .ensures)
 
 is-alone-requires : tie.Need-is-alone-requires Inv-loop μ-loop
 is-alone-requires c κs = search needs
@@ -177,7 +176,7 @@ check-events-spec =
     same-length-2
     returns-2
     add-seen-requires
-    add-next
+    least-behind-requires
     add-n
     cast-at
     add-at

@@ -6,6 +6,9 @@ use borrow.Author.Tests.{le-leb, lt-leb}
 use Rattle.read_events.proofs.is_new.Statement.{statement}
 use Rattle.read_events.proofs.is_new.Tie as tie
 
+cast-if1 : tie.Need-cast-if1
+cast-if1 c = search needs
+
 is-seen-requires : tie.Need-is-seen-requires
 is-seen-requires c κs = search needs
 
@@ -16,4 +19,4 @@ returns-2 : tie.Need-returns-2
 returns-2 c = rw (lt-leb _ _ (c .if1 .left))
 
 pub is-new-spec : {M : Type 1} → statement M
-is-new-spec = tie.close (tie.spec is-seen-requires returns returns-2)
+is-new-spec = tie.close (tie.spec cast-if1 is-seen-requires returns returns-2)
