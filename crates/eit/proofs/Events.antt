@@ -1,5 +1,5 @@
--- `follows` means a later start; in a list that rises every event starts after all before it; and what one event more at the end
--- asks: by induction. Assumes nothing.
+-- `follows` means a later start, and one start decides it; in a list that rises every event may follow all before it; and what one
+-- event more at the end asks: by induction, and by transitivity of `follows`. Assumes nothing.
 use mathlib.Core.Path.{_≡_}
 use mathlib.Core.Logic.{_↔_}
 use Prim.Native.Nat.{ℕ, zero, suc, _+_, _<_}
@@ -31,28 +31,43 @@ pub least-same : (e f : Event) → e .start ≡ f .start → e .duration ≡ f .
 unfolding leastBehind
 least-same e f starts durations = rw starts
 
--- every event of a list starts after s
-abbrev pub AllAfter : ℕ → List Event → Type 0
-AllAfter s [] = Unit {0}
-AllAfter s (e ∷ es) = (s < e .start) × AllAfter s es
+pub follows-trans : (e f g : Event) → T (follows e f) → T (follows f g) → T (follows e g)
+follows-trans e f g t u = later-follows e g (omega (arith, follows-later e f t, follows-later f g u))
 
-all-later : (s r : ℕ) (es : List Event) → s < r → AllAfter r es → AllAfter s es
-all-later s r [] h a = tt
-all-later s r (e ∷ es) h a = (omega arith, all-later s r es h (a .1))
+-- every event of a list may follow e
+abbrev pub AllFollow : Event → List Event → Type 0
+AllFollow e [] = Unit {0}
+AllFollow e (f ∷ es) = T (follows e f) × AllFollow e es
+
+all-follow : (e f : Event) (es : List Event) → T (follows e f) → AllFollow f es → AllFollow e es
+all-follow e f [] t all = tt
+all-follow e f (g ∷ es) t all = (follows-trans e f g t (all .0), all-follow e f es t (all .1))
 
 pub rising-rest : (e : Event) (es : List Event) → T (rising (e ∷ es)) → T (rising es)
 rising-rest e [] t = tt
 rising-rest e (f ∷ es) t = and-right (follows e f) (rising (f ∷ es)) t
 
-pub rising-after : (e : Event) (es : List Event) → T (rising (e ∷ es)) → AllAfter (e .start) es
-rising-after e [] t = tt
-rising-after e (f ∷ es) t =
-    let later : e .start < f .start = follows-later e f (and-left (follows e f) (rising (f ∷ es)) t) in
-    (later, all-later (e .start) (f .start) es later (rising-after f es (and-right (follows e f) (rising (f ∷ es)) t)))
+pub rising-follow : (e : Event) (es : List Event) → T (rising (e ∷ es)) → AllFollow e es
+rising-follow e [] t = tt
+rising-follow e (f ∷ es) t =
+    let next : T (follows e f) = and-left (follows e f) (rising (f ∷ es)) t in
+    (next, all-follow e f es next (rising-follow f es (and-right (follows e f) (rising (f ∷ es)) t)))
 
-pub after-rising : (e : Event) (es : List Event) → AllAfter (e .start) es → T (rising es) → T (rising (e ∷ es))
-after-rising e [] a t = tt
-after-rising e (f ∷ es) a t = and-both (follows e f) (rising (f ∷ es)) (later-follows e f (a .0)) t
+pub follow-rising : (e : Event) (es : List Event) → AllFollow e es → T (rising es) → T (rising (e ∷ es))
+follow-rising e [] all t = tt
+follow-rising e (f ∷ es) all t = and-both (follows e f) (rising (f ∷ es)) (all .0) t
+
+-- every event of a list starts after s
+abbrev pub AllAfter : ℕ → List Event → Type 0
+AllAfter s [] = Unit {0}
+AllAfter s (e ∷ es) = (s < e .start) × AllAfter s es
+
+follow-after : (e : Event) (es : List Event) → AllFollow e es → AllAfter (e .start) es
+follow-after e [] all = tt
+follow-after e (f ∷ es) all = (follows-later e f (all .0), follow-after e es (all .1))
+
+pub rising-after : (e : Event) (es : List Event) → T (rising (e ∷ es)) → AllAfter (e .start) es
+rising-after e es t = follow-after e es (rising-follow e es t)
 
 -- `rising` means that of any two events the later one in the list starts later
 after-at : (s : ℕ) (es : List Event) → AllAfter s es → (j : ℕ) (d : Event) → j < length es → s < getD es j d .start

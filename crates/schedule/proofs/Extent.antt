@@ -11,7 +11,7 @@ use lib.ListN.{length}
 use Rattle.eit.specs.Limits.{startLimit}
 use Rattle.eit.specs.Events.{Event, rising}
 use Rattle.eit.proofs.Test.{and-both, and-parts, eq-or-not}
-use Rattle.eit.proofs.Events.{AllAfter, rising-rest, rising-after, after-rising}
+use Rattle.eit.proofs.Events.{AllFollow, rising-rest, rising-after, rising-follow, follow-rising}
 use Rattle.sections.specs.Segment.{segmentIndex}
 use Rattle.sections.specs.Every.{Every}
 use Rattle.sections.specs.Count.{segmentEvents}
@@ -67,18 +67,18 @@ pub last-most : (index : ℕ) (es : List Event) → T (rising es) → Every (λ 
 last-most index [] rises = tt
 last-most index (e ∷ es) rises = (last-after e es rises, last-most (startIndex e) es (rising-rest e es rises))
 
-table-after : (table s : ℕ) (es : List Event) → AllAfter s es → AllAfter s (tableEvents table es)
-table-after table s [] after = tt
-table-after table s (e ∷ es) after =
-    let rest : AllAfter s (tableEvents table es) = table-after table s es (after .1) in
-    table-cases table e es (AllAfter s) (λ here. (after .0, rest)) (λ elsewhere. rest)
+table-follow : (table : ℕ) (d : Event) (es : List Event) → AllFollow d es → AllFollow d (tableEvents table es)
+table-follow table d [] all = tt
+table-follow table d (e ∷ es) all =
+    let rest : AllFollow d (tableEvents table es) = table-follow table d es (all .1) in
+    table-cases table e es (AllFollow d) (λ here. (all .0, rest)) (λ elsewhere. rest)
 
 table-rises : (table : ℕ) (es : List Event) → T (rising es) → T (rising (tableEvents table es))
 table-rises table [] rises = tt
 table-rises table (e ∷ es) rises =
     let rest : T (rising (tableEvents table es)) = table-rises table es (rising-rest e es rises) in
-    let after : AllAfter (e .start) (tableEvents table es) = table-after table (e .start) es (rising-after e es rises) in
-    table-cases table e es (λ (fs : List Event). T (rising fs)) (λ here. after-rising e (tableEvents table es) after rest) (λ elsewhere. rest)
+    let all : AllFollow e (tableEvents table es) = table-follow table e es (rising-follow e es rises) in
+    table-cases table e es (λ (fs : List Event). T (rising fs)) (λ here. follow-rising e (tableEvents table es) all rest) (λ elsewhere. rest)
 
 -- what holds of a table's events holds of all events, as far as they are in the table
 table-only : (P : Event → Type 0) (table : ℕ) (es : List Event) → Every P (tableEvents table es)

@@ -22,7 +22,7 @@ use Rattle.eit.proofs.Records.{count-records, numbers-length, records-front}
 use Rattle.eit.proofs.Sound.{RecordFacts, ListFacts, list-sound, sound-list}
 use Rattle.script.specs.Machine.{limitOf, insert, find, without, withStart, zeroRecord, written, afterPut, afterWithdraw, afterMove, Step, done, check, step}
 use Rattle.script.specs.Form.{Act, put, withdraw, move}
-use Rattle.script.proofs.Placing.{insert-length, without-length, insert-valid, without-valid, find-valid, insert-rises, without-rises, insert-differ, without-differ, without-gone, find-id}
+use Rattle.script.proofs.Placing.{insert-length, without-length, insert-valid, without-valid, find-valid, new-start, insert-rises, without-rises, insert-differ, without-differ, without-gone, find-id}
 
 -- records written over the front of the buffer are the records of the list, as many as it counts
 pub written-records : (list : EventList) (rs : List Record) (n : ℕ) → n ≤ length rs → recordsOf (written list rs n) ≡ take n rs
@@ -91,7 +91,7 @@ module _ (sizes : Sizes) (pools : Pools) (list : EventList) where
       (rw (put-records list r)
       record {
         valid = insert-valid pools r rs range chain (f .records .valid);
-        rises = insert-rises pools r rs start (f .records .rises);
+        rises = insert-rises pools r rs (new-start pools r rs start) (f .records .rises);
         differ = insert-differ r rs id (f .records .differ);
       })
 
@@ -123,7 +123,7 @@ module _ (sizes : Sizes) (pools : Pools) (list : EventList) where
       (rw (move-records list id a start)
       record {
         valid = insert-valid pools r others range (was .1) (without-valid pools id rs (f .records .valid));
-        rises = insert-rises pools r others other (without-rises pools id rs (f .records .rises));
+        rises = insert-rises pools r others (new-start pools r others other) (without-rises pools id rs (f .records .rises));
         differ = insert-differ r others gone (without-differ id rs (f .records .differ));
       })
 

@@ -1,21 +1,21 @@
 -- Inserting a record and taking one away keep what soundness asks of the records: by induction over the records.
 -- Assumes nothing.
 use mathlib.Core.Path.{_≡_, refl, sym, ap, _∙_}
-use mathlib.Core.Logic.{⊎-elim}
+use mathlib.Core.Logic.{_⊎_, inl, inr, ⊎-elim}
 use mathlib.Core.Bool.{not}
-use Prim.Native.Nat.{ℕ, suc, _<_}
+use Prim.Native.Nat.{ℕ, suc}
 use native.Mathlib.Omega.{arith}
 use mathlib.Core.List.{List, [], _∷_}
 use lib.Dec.{T, eqb, eqb→eq, ltb, ltb→lt, nltb→le}
 use lib.ListN.{length}
 use borrow.Author.Tests.{eqb-false}
 use Rattle.eit.specs.Pools.{Pools}
-use Rattle.eit.specs.Events.{eventOf, eventsIn, rising}
+use Rattle.eit.specs.Events.{Event, eventOf, eventsIn, follows, rising}
 use Rattle.eit.specs.Among.{isAmong, allDiffer}
 use Rattle.eit.specs.Sound.{inRange, hasChain, allValid, idsOf, startsOf}
 use Rattle.eit.specs.declared.Record.{Record}
-use Rattle.eit.proofs.Test.{tests, or-other, ne-sym, test-or, true-is, false-is}
-use Rattle.eit.proofs.Events.{AllAfter, later-follows, rising-rest, rising-after, after-rising}
+use Rattle.eit.proofs.Test.{tests, and-both, or-other, ne-sym, test-or, true-is, false-is}
+use Rattle.eit.proofs.Events.{AllFollow, follows-later, later-follows, rising-rest, rising-follow, follow-rising}
 use Rattle.script.specs.Machine.{insert, find, without}
 
 -- ---- the two cases of each definition
@@ -84,49 +84,70 @@ module _ (pools : Pools) where
       (λ t. rw (find-later id r rs t) (find-valid id rs (among-later id r rs t a) (search tests)))
       (test-or (eqb id (r .id)))
 
-  -- ---- starts rise strictly
+  -- ---- each may follow the one before
 
-  insert-after : (s : ℕ) (r : Record) (rs : List Record) → s < r .start → AllAfter s (eventsIn pools rs)
-      → AllAfter s (eventsIn pools (insert r rs))
-  insert-after s r [] h a = (h, tt)
-  insert-after s r (q ∷ rs) h a =
-      ⊎-elim (λ t. rw (insert-here r q rs t) (h, a)) (λ t. rw (insert-later r q rs t) (a .0, insert-after s r rs h (a .1)))
-      (test-or (ltb (r .start) (q .start)))
+  -- a record has a place among others: each of them may follow it, or it may follow that one
+  abbrev pub HasPlace : Record → List Record → Type 0
+  HasPlace r [] = Unit {0}
+  HasPlace r (s ∷ rs) = (T (follows (eventOf pools r) (eventOf pools s)) ⊎ T (follows (eventOf pools s) (eventOf pools r))) × HasPlace r rs
 
-  pub insert-rises : (r : Record) (rs : List Record) → T (not (isAmong (r .start) (startsOf rs))) → T (rising (eventsIn pools rs))
-      → T (rising (eventsIn pools (insert r rs)))
-  insert-rises r [] n t = tt
-  insert-rises r (s ∷ rs) n t =
-      ⊎-elim
-      (λ b.
-      let later = later-follows (eventOf pools r) (eventOf pools s) (ltb→lt (r .start) (s .start) b) in
-      rw (insert-here r s rs b) (search tests))
-      (λ b.
+  -- one whose start none of them has
+  pub new-start : (r : Record) (rs : List Record) → T (not (isAmong (r .start) (startsOf rs))) → HasPlace r rs
+  new-start r [] n = tt
+  new-start r (s ∷ rs) n =
       let other : T (not (eqb (r .start) (s .start))) = search tests in
-      let others : T (not (isAmong (r .start) (startsOf rs))) = search tests in
-      let later : s .start < r .start =
-      omega (arith, nltb→le (r .start) (s .start) b, eqb-false (r .start) (s .start) (false-is (eqb (r .start) (s .start)) other)) in
-      rw (insert-later r s rs b)
-      (after-rising (eventOf pools s) (eventsIn pools (insert r rs))
-      (insert-after (s .start) r rs later (rising-after (eventOf pools s) (eventsIn pools rs) t))
-      (insert-rises r rs others (rising-rest (eventOf pools s) (eventsIn pools rs) t))))
+      let others : T (not (isAmong (r .start) (startsOf rs))) = search tests in (
+        ⊎-elim (λ b. inl (later-follows (eventOf pools r) (eventOf pools s) (ltb→lt (r .start) (s .start) b)))
+            (λ b.
+            let differ = eqb-false (r .start) (s .start) (false-is (eqb (r .start) (s .start)) other) in
+            inr (later-follows (eventOf pools s) (eventOf pools r) (omega (arith, nltb→le (r .start) (s .start) b, differ))))
+            (test-or (ltb (r .start) (s .start))),
+        new-start r rs others,
+      )
+
+  insert-follow : (e : Event) (r : Record) (rs : List Record) → T (follows e (eventOf pools r)) → AllFollow e (eventsIn pools rs)
+      → AllFollow e (eventsIn pools (insert r rs))
+  insert-follow e r [] t all = (t, tt)
+  insert-follow e r (s ∷ rs) t all =
+      ⊎-elim (λ b. rw (insert-here r s rs b) (t, all)) (λ b. rw (insert-later r s rs b) (all .0, insert-follow e r rs t (all .1)))
       (test-or (ltb (r .start) (s .start)))
 
-  without-after : (s id : ℕ) (rs : List Record) → AllAfter s (eventsIn pools rs) → AllAfter s (eventsIn pools (without id rs))
-  without-after s id [] a = tt
-  without-after s id (r ∷ rs) a =
-      ⊎-elim (λ t. rw (without-here id r rs t) (a .1)) (λ t. rw (without-later id r rs t) (a .0, without-after s id rs (a .1)))
+  pub insert-rises : (r : Record) (rs : List Record) → HasPlace r rs → T (rising (eventsIn pools rs))
+      → T (rising (eventsIn pools (insert r rs)))
+  insert-rises r [] place t = tt
+  insert-rises r (s ∷ rs) place t =
+      let first : Event = eventOf pools s in
+      let new : Event = eventOf pools r in
+      ⊎-elim
+      (λ b.
+      let next : T (follows new first) =
+      ⊎-elim (λ f. f) (λ f. absurd (omega (arith, ltb→lt (r .start) (s .start) b, follows-later first new f))) (place .0) in
+      rw (insert-here r s rs b) (and-both (follows new first) (rising (eventsIn pools (s ∷ rs))) next t))
+      (λ b.
+      let next : T (follows first new) =
+      ⊎-elim (λ f. absurd (omega (arith, nltb→le (r .start) (s .start) b, follows-later new first f))) (λ f. f) (place .0) in
+      rw (insert-later r s rs b)
+      (follow-rising first (eventsIn pools (insert r rs))
+      (insert-follow first r rs next (rising-follow first (eventsIn pools rs) t))
+      (insert-rises r rs (place .1) (rising-rest first (eventsIn pools rs) t))))
+      (test-or (ltb (r .start) (s .start)))
+
+  without-follow : (e : Event) (id : ℕ) (rs : List Record) → AllFollow e (eventsIn pools rs) → AllFollow e (eventsIn pools (without id rs))
+  without-follow e id [] all = tt
+  without-follow e id (r ∷ rs) all =
+      ⊎-elim (λ t. rw (without-here id r rs t) (all .1)) (λ t. rw (without-later id r rs t) (all .0, without-follow e id rs (all .1)))
       (test-or (eqb id (r .id)))
 
   pub without-rises : (id : ℕ) (rs : List Record) → T (rising (eventsIn pools rs)) → T (rising (eventsIn pools (without id rs)))
   without-rises id [] t = tt
   without-rises id (r ∷ rs) t =
-      ⊎-elim (λ b. rw (without-here id r rs b) (rising-rest (eventOf pools r) (eventsIn pools rs) t))
+      let first : Event = eventOf pools r in
+      ⊎-elim (λ b. rw (without-here id r rs b) (rising-rest first (eventsIn pools rs) t))
       (λ b.
       rw (without-later id r rs b)
-      (after-rising (eventOf pools r) (eventsIn pools (without id rs))
-      (without-after (r .start) id rs (rising-after (eventOf pools r) (eventsIn pools rs) t))
-      (without-rises id rs (rising-rest (eventOf pools r) (eventsIn pools rs) t))))
+      (follow-rising first (eventsIn pools (without id rs))
+      (without-follow first id rs (rising-follow first (eventsIn pools rs) t))
+      (without-rises id rs (rising-rest first (eventsIn pools rs) t))))
       (test-or (eqb id (r .id)))
 
 -- ---- ids differ
