@@ -17,7 +17,7 @@ pub limits : Limits
 unfolding build plan sound eventsOf recordsOf follows choose isChain crc32 versionOf chainOf row
 limits =
     record {
-      record-buffer = refl;
+      record-buffer = (refl, refl);
       three-cuts = refl;
       later-plan = refl;
       later-build = refl;

@@ -76,7 +76,7 @@ module _ (sizes : Sizes) (legal : LegalSizes sizes) (g : Given sizes) (output : 
       )
 
   -- Read of the file, built again under the identity read, gives the same answer and the same output
-  pub built-again : (buffer series : List ℕ) → RecordBuffer sizes buffer
+  pub built-again : (buffer series : List ℕ) → RecordBuffer buffer
       → let r = read sizes (g .base) (fileOf (built g output)) buffer in
       build sizes (filePools (fileOf (built g output)) series) (listOf r) (g .base) (r .answer .identity) output ≡ built g output
   built-again buffer series size =

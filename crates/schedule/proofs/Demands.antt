@@ -77,13 +77,13 @@ module _ (sizes : Sizes) (legal : LegalSizes sizes) where
         → Accepted sizes base file ↔ ((identity : Identity) × (rs : List Record) × FollowsRules sizes base file identity rs)
     accepts day = (
       λ accepted.
-          let zero = accepted-check sizes base file .0 accepted in
+          let zero = accepted-check sizes base file accepted in
           (checkFile sizes base file .identity, fileRecords base file, accepted-follows sizes base file bytes zero),
       λ (identity, rs, f).
-          accepted-exactly sizes base file (legal .most) day bytes .1 (identity, f .sections, f .rules, f .bytes),
+          accepted-exactly sizes base file (legal .most) (legal .few) day bytes .1 (identity, f .sections, f .rules, f .bytes),
     )
 
-    packs : Accepted sizes base file → (series buffer : List ℕ) → RecordBuffer sizes buffer
+    packs : Accepted sizes base file → (series buffer : List ℕ) → RecordBuffer buffer
         → (day : ℕ) (identity : Identity) (output : List ℕ)
         → let b = build sizes (filePools file series) (listOf (read sizes base file buffer)) day identity output in
         (b .number ≡ 12 → ⊥) × (b .number ≡ 10 → ⊥)
@@ -105,7 +105,7 @@ module _ (sizes : Sizes) (legal : LegalSizes sizes) where
     carries : built g output .number ≡ 0 → Carries g (fileOf (built g output))
     carries zero = let (fits, is, enough, file) = writes g output zero in subst (Carries g) (sym file) (own-carries legal g fits)
 
-    reads : (buffer : List ℕ) → built g output .number ≡ 0 → RecordBuffer sizes buffer
+    reads : (buffer : List ℕ) → built g output .number ≡ 0 → RecordBuffer buffer
         → read sizes (g .base) (fileOf (built g output)) buffer .answer
         ≡ record { number = 0; value = g .list .count; identity = g .identity; count = g .list .count }
     reads buffer zero size =
@@ -116,7 +116,7 @@ module _ (sizes : Sizes) (legal : LegalSizes sizes) where
         let few : g .list .count ≤ sizes .«event_limit» = sound-list sizes (g .pools) (g .list) (g .isSound) .few in
         ap (λ (f : List ℕ). read sizes (g .base) f buffer .answer) file
         ∙ ap (λ (r : Reading). r .answer)
-        (follows-read sizes (g .base) (legal .most) (g .legalBase) (g .identity) ss (own-rules legal g fits) buffer (omega arith))
+        (follows-read sizes (g .base) (legal .most) (g .legalBase) (g .identity) ss (own-rules legal g fits) buffer (omega (arith, legal .few)))
         ∙ ap (success (g .identity)) count
 
     -- the value is the file's length, with 0 and with 11
@@ -225,7 +225,7 @@ module _ (sizes : Sizes) (legal : LegalSizes sizes) where
       record {
         accepted-exactly = λ base file day bytes. accepts base file bytes day;
         read-exact = λ base file buffer identity rs day bytes. read-exact sizes base file buffer identity rs (legal .most) day bytes;
-        accepted-size = λ base file bytes accepted. accepted-size sizes base file (legal .most) bytes (accepted-check sizes base file .0 accepted);
+        accepted-size = λ base file bytes accepted. accepted-size sizes base file (legal .most) bytes (accepted-check sizes base file accepted);
         check-agrees = λ base file buffer not-27. read-agrees sizes base file buffer not-27;
         check-never-27 = λ base file says. omega (arith, check-below-27 sizes base file);
         accepted-sound = λ base file series buffer bytes accepted size. accepted-sound sizes base file buffer series bytes (accepted buffer size);
@@ -251,4 +251,4 @@ module _ (sizes : Sizes) (legal : LegalSizes sizes) where
 
 -- and so for broadcast
 pub demands : Demands
-demands = demands-for broadcast (record { least = omega arith; most = omega arith })
+demands = demands-for broadcast (record { least = omega arith; most = omega arith; few = omega arith })

@@ -7,7 +7,7 @@ use mathlib.Core.List.{List, []}
 use Prim.Native.Nat.{ℕ, _*_, _≤_, _<_}
 use native.Mathlib.Omega.{arith}
 use lib.Dec.{T}
-use lib.ListN.{length, replicate, length-replicate}
+use lib.ListN.{length}
 use Rattle.eit.specs.Sizes.{sectionOverhead}
 use Rattle.eit.specs.declared.Sizes.{Sizes}
 use Rattle.eit.specs.Fields.{Bytes}
@@ -22,9 +22,9 @@ use Rattle.sections.specs.Decode.{cutSections}
 use Rattle.sections.specs.Count.{firstSections, segmentSections, sectionsCounted, eventsCounted}
 use Rattle.sections.specs.Places.{filePools}
 use Rattle.sections.specs.Read.{Answer, checkFile, read, listOf}
-use Rattle.sections.specs.Exact.{Accepted}
+use Rattle.sections.specs.Exact.{acceptedNumbers, Accepted}
 use Rattle.sections.proofs.Exact.{accepted-rules, file-bytes, cut-sections-back, follows-accepted}
-use Rattle.sections.proofs.Accepted.{accepted-check}
+use Rattle.sections.proofs.Accepted.{some-buffer, accepted-check, check-accepted}
 use Rattle.sections.proofs.FileSound.{accepted-sound, accepted-events}
 use Rattle.sections.proofs.Count.{sections-counted, events-counted}
 use Rattle.schedule.specs.SectionsOf.{isUnpackable, sectionsOf}
@@ -37,16 +37,12 @@ use Rattle.schedule.proofs.Rival.{segment-eight-hold}
 use Rattle.schedule.proofs.Build.{build-sound, events-refused, events-written, written-short, written-file}
 use Rattle.schedule.proofs.Packable.{packable-or}
 
--- a record buffer of any length
-some-buffer : (n : ℕ) → (buffer : List ℕ) × (length buffer ≡ n)
-some-buffer n = (replicate n 0, length-replicate {A = ℕ} n 0)
-
 -- ---- accepted files
 
 -- the sections that the bytes of an accepted file show keep the rules, and their joined bytes are the file
 pub shown-rules : (sizes : Sizes) (base : ℕ) (file : List ℕ) → Bytes file → Accepted sizes base file
     → Rules sizes (checkFile sizes base file .identity) (cutSections base file) × (fileBytes base (cutSections base file) ≡ file)
-shown-rules sizes base file bytes accepted = accepted-rules sizes base file bytes (accepted-check sizes base file .0 accepted)
+shown-rules sizes base file bytes accepted = accepted-rules sizes base file bytes (accepted-check sizes base file accepted)
 
 -- ---- Build of what it is given
 
@@ -102,10 +98,12 @@ module _ {sizes : Sizes} (g : Given sizes) where
 
 -- ---- its file, where no segment is unpackable
 
--- section sizes for which the demands hold: a section without events fits, and 12 bits of section_length reach
+-- sizes for which the demands hold: a section without events fits, 12 bits of section_length reach, and the numbers of the largest
+-- list are no more than those for which a file is accepted
 pub record LegalSizes (sizes : Sizes) : Type 0 where
   pub least : sectionOverhead ≤ sizes .«section_limit»
   pub most : sizes .«section_limit» ≤ 4_096
+  pub few : sizes .«event_limit» * recordSize ≤ acceptedNumbers
 
 module _ {sizes : Sizes} (legal : LegalSizes sizes) (g : Given sizes) where
   pub own-rules : Fits g → Rules sizes (g .identity) (ownSections g)
@@ -115,7 +113,7 @@ module _ {sizes : Sizes} (legal : LegalSizes sizes) (g : Given sizes) where
   own-carries fits =
       let rules = own-rules fits in
       let accepted : Accepted sizes (g .base) (ownFile g) =
-      accepted-check sizes (g .base) (ownFile g) .1
+      check-accepted sizes (g .base) (ownFile g) (legal .few)
       (ap (λ (a : Answer). a .number) (follows-accepted sizes (g .base) (legal .most) (g .legalBase) (g .identity) (ownSections g) rules)) in
       let bytes : Bytes (ownFile g) = file-bytes sizes (g .base) (legal .most) (g .legalBase) (g .identity) (ownSections g) rules in
       record {
@@ -147,7 +145,7 @@ module _ {sizes : Sizes} (g : Given sizes) (file : List ℕ) (c : Carries g file
 
   pub rival-events : sectionEvents (cutSections (g .base) file) ≡ events g
   rival-events =
-      let (buffer, size) = some-buffer (sizes .«event_limit» * recordSize) in
+      let (buffer, size) = some-buffer acceptedNumbers in
       let reads : read sizes (g .base) file buffer .answer .number ≡ 0 = c .accepted buffer size in
       sym (accepted-events sizes (g .base) file buffer [] (c .bytes) reads)
       ∙ same-lists sizes (filePools file []) (g .pools) (listOf (read sizes (g .base) file buffer)) (g .list)

@@ -49,20 +49,20 @@ pub record DemandsFor (sizes : Sizes) : Type 0 where
   pub check-never-27 : (base : ℕ) (file : List ℕ) → checkFile sizes base file .number ≡ 27 → ⊥
   -- ---- Demand 2: "the identity and events that the file's bytes carry": the records of an accepted file are a sound list with
   -- the file as day pool
-  pub accepted-sound : (base : ℕ) (file series buffer : List ℕ) → Bytes file → Accepted sizes base file → RecordBuffer sizes buffer
+  pub accepted-sound : (base : ℕ) (file series buffer : List ℕ) → Bytes file → Accepted sizes base file → RecordBuffer buffer
       → T (sound sizes (filePools file series) (listOf (read sizes base file buffer)))
   -- and they are the events of the sections that the file's bytes show
-  pub accepted-events : (base : ℕ) (file series buffer : List ℕ) → Bytes file → Accepted sizes base file → RecordBuffer sizes buffer
+  pub accepted-events : (base : ℕ) (file series buffer : List ℕ) → Bytes file → Accepted sizes base file → RecordBuffer buffer
       → eventsOf (filePools file series) (listOf (read sizes base file buffer)) ≡ sectionEvents (cutSections base file)
   -- Build of them says neither 12 nor 10, whatever else it is given
-  pub accepted-packable : (base : ℕ) (file series buffer : List ℕ) → Bytes file → Accepted sizes base file → RecordBuffer sizes buffer
+  pub accepted-packable : (base : ℕ) (file series buffer : List ℕ) → Bytes file → Accepted sizes base file → RecordBuffer buffer
       → (day : ℕ) (identity : Identity) (output : List ℕ)
       → let b = build sizes (filePools file series) (listOf (read sizes base file buffer)) day identity output in
       (b .number ≡ 12 → ⊥) × (b .number ≡ 10 → ⊥)
   -- ---- Demand 2: "Build writes, byte for byte, the file that EN 300 468, OP-58 and 01's packing rule define"; "for a built file
   -- these are the ones Build was given"
   pub built-carries : (g : Given sizes) (output : List ℕ) → built g output .number ≡ 0 → Carries g (fileOf (built g output))
-  pub built-read : (g : Given sizes) (output buffer : List ℕ) → built g output .number ≡ 0 → RecordBuffer sizes buffer
+  pub built-read : (g : Given sizes) (output buffer : List ℕ) → built g output .number ≡ 0 → RecordBuffer buffer
       → read sizes (g .base) (fileOf (built g output)) buffer .answer
       ≡ record { number = 0; value = g .list .count; identity = g .identity; count = g .list .count }
   -- unless Build says 10 it gives the file's length for every output: with 0 where the file fits, with 11 where it does not
@@ -111,6 +111,6 @@ pub record DemandsFor (sizes : Sizes) : Type 0 where
   -- ---- Demand 1: "A refusal leaves them untouched, except that a refused edit keeps the edits before it"
   pub refused : RefusedFor sizes
 
--- for broadcast: sections of at most 4,096 bytes, at most 2,048 events, and so 12,288 numbers for Read's records
+-- for broadcast: sections of at most 4,096 bytes, at most 2,048 events
 abbrev pub Demands : Type 0
 Demands = DemandsFor broadcast

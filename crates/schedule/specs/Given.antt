@@ -47,7 +47,7 @@ module _ {sizes : Sizes} where
   pub record Carries (g : Given sizes) (file : List ℕ) : Type 0 where
     pub bytes : Bytes file
     pub accepted : Accepted sizes (g .base) file
-    pub sameEvents : (buffer : List ℕ) → RecordBuffer sizes buffer
+    pub sameEvents : (buffer : List ℕ) → RecordBuffer buffer
         → AllSame (filePools file []) (g .pools) (recordsOf (listOf (read sizes (g .base) file buffer))) (recordsOf (g .list))
 
 -- at most eight sections hold the events that start in a segment, in their order

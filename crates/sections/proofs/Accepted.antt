@@ -16,7 +16,7 @@ use Rattle.sections.specs.Encode.{fileBytes}
 use Rattle.sections.specs.Decode.{cutSections}
 use Rattle.sections.specs.Rules.{Rules}
 use Rattle.sections.specs.Read.{Answer, checkFile, read}
-use Rattle.sections.specs.Exact.{Accepted}
+use Rattle.sections.specs.Exact.{acceptedNumbers, Accepted}
 use Rattle.sections.proofs.Read.{read-agrees, read-says-27}
 use Rattle.sections.proofs.Exact.{accepted-answer, accepted-few, accepted-rules, follows-accepted, read-accepted}
 
@@ -30,25 +30,33 @@ read-enough sizes base file buffer enough =
     let count = ap (λ (a : Answer). a .count) (accepted-answer sizes base file zero) in
     omega (arith, accepted-few sizes base file zero))
 
+-- a record buffer of any length
+pub some-buffer : (n : ℕ) → (buffer : List ℕ) × (length buffer ≡ n)
+some-buffer n = (replicate n 0, length-replicate {A = ℕ} n 0)
+
 -- a file is accepted exactly if check, which has no record buffer, succeeds on it
-pub accepted-check : (sizes : Sizes) (base : ℕ) (file : List ℕ) → Accepted sizes base file ↔ (checkFile sizes base file .number ≡ 0)
-accepted-check sizes base file = (
-  λ accepted.
-      let buffer : List ℕ = replicate (sizes .«event_limit» * recordSize) 0 in
-      read-accepted sizes base file buffer (accepted buffer (length-replicate {A = ℕ} (sizes .«event_limit» * recordSize) 0)) .0,
-  λ zero buffer size. ap (λ (a : Answer). a .number) (read-enough sizes base file buffer (omega arith)) ∙ zero,
-)
+pub accepted-check : (sizes : Sizes) (base : ℕ) (file : List ℕ) → Accepted sizes base file → checkFile sizes base file .number ≡ 0
+accepted-check sizes base file accepted =
+    let (buffer, size) = some-buffer acceptedNumbers in
+    read-accepted sizes base file buffer (accepted buffer size) .0
+
+-- where the largest list fits the buffer
+pub check-accepted : (sizes : Sizes) (base : ℕ) (file : List ℕ) → sizes .«event_limit» * recordSize ≤ acceptedNumbers
+    → checkFile sizes base file .number ≡ 0 → Accepted sizes base file
+check-accepted sizes base file few zero buffer size =
+    ap (λ (a : Answer). a .number) (read-enough sizes base file buffer (omega arith)) ∙ zero
 
 -- demand 2: Read accepts exactly the files that follow the rules
-pub accepted-exactly : (sizes : Sizes) (base : ℕ) (file : List ℕ) → sizes .«section_limit» ≤ 4_096 → base ≤ baseMost → Bytes file
+pub accepted-exactly : (sizes : Sizes) (base : ℕ) (file : List ℕ) → sizes .«section_limit» ≤ 4_096
+    → sizes .«event_limit» * recordSize ≤ acceptedNumbers → base ≤ baseMost → Bytes file
     → Accepted sizes base file ↔
     ((identity : Identity) × (ss : List Section) × Rules sizes identity ss × (fileBytes base ss ≡ file))
-accepted-exactly sizes base file lengthFits legal bytes = (
+accepted-exactly sizes base file lengthFits few legal bytes = (
   λ accepted.
-      let (rules, joined) = accepted-rules sizes base file bytes (accepted-check sizes base file .0 accepted) in
+      let (rules, joined) = accepted-rules sizes base file bytes (accepted-check sizes base file accepted) in
       (checkFile sizes base file .identity, cutSections base file, rules, joined),
   λ (identity, ss, rules, joined).
-      accepted-check sizes base file .1
+      check-accepted sizes base file few
       (subst (λ (f : List ℕ). checkFile sizes base f .number ≡ 0) joined
       (ap (λ (a : Answer). a .number) (follows-accepted sizes base lengthFits legal identity ss rules))),
 )

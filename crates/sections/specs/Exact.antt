@@ -2,12 +2,12 @@
 -- identity and events that the file's bytes carry"). The theorems are `read-exact` of proofs/Exact.antt and `accepted-exactly` of
 -- proofs/Accepted.antt. Assumes nothing.
 use mathlib.Core.Path.{_≡_}
-use Prim.Native.Nat.{ℕ, _*_}
+use Prim.Native.Nat.{ℕ}
 use mathlib.Core.List.{List}
 use lib.ListN.{length}
 use Rattle.eit.specs.declared.Sizes.{Sizes}
 use Rattle.eit.specs.Overwrite.{overwrite}
-use Rattle.eit.specs.Records.{recordSize, numbersOfAll}
+use Rattle.eit.specs.Records.{numbersOfAll}
 use Rattle.eit.specs.declared.Identity.{Identity}
 use Rattle.eit.specs.declared.Record.{Record}
 use Rattle.sections.specs.Section.{Section}
@@ -16,13 +16,17 @@ use Rattle.sections.specs.Rules.{Rules}
 use Rattle.sections.specs.Places.{recordsFrom}
 use Rattle.sections.specs.Read.{Reading, success, read}
 
--- 12,288 numbers for records, six for each event of the largest list, whatever they are
-abbrev pub RecordBuffer : Sizes → List ℕ → Type 0
-RecordBuffer sizes buffer = length buffer ≡ sizes .«event_limit» * recordSize
+-- "Read, with 12,288 numbers for records": a number of its own, the same under every sizes
+abbrev pub acceptedNumbers : ℕ
+acceptedNumbers = 12_288
 
--- 01's term: accepted. Read, with 12,288 numbers for records, succeeds on the file
+-- so many numbers, whatever they are
+abbrev pub RecordBuffer : List ℕ → Type 0
+RecordBuffer buffer = length buffer ≡ acceptedNumbers
+
+-- 01's term: accepted. "A file is accepted under a legal base day if Read, with 12,288 numbers for records, succeeds on it"
 abbrev pub Accepted : Sizes → ℕ → List ℕ → Type 0
-Accepted sizes base file = (buffer : List ℕ) → RecordBuffer sizes buffer → read sizes base file buffer .answer .number ≡ 0
+Accepted sizes base file = (buffer : List ℕ) → RecordBuffer buffer → read sizes base file buffer .answer .number ≡ 0
 
 -- the file is the joined bytes of some sections that keep the rules, and the records are their events at their places in it
 pub record FollowsRules (sizes : Sizes) (base : ℕ) (file : List ℕ) (identity : Identity) (rs : List Record) : Type 0 where
