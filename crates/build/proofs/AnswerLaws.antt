@@ -9,7 +9,7 @@ use native.Mathlib.Omega.{arith}
 use lib.Dec.{T}
 use lib.ListN.{length}
 use Rattle.eit.specs.declared.Sizes.{Sizes}
-use Rattle.eit.specs.Limits.{baseMost, versionMost, startLimit}
+use Rattle.eit.specs.Limits.{baseDayMax, versionMax, windowSeconds}
 use Rattle.eit.specs.Fields.{Bytes}
 use Rattle.eit.specs.Overwrite.{overwrite}
 use Rattle.eit.specs.Pools.{Pools}
@@ -43,7 +43,7 @@ index-found (some index) is few = ap some (sym is)
 
 module _ (sizes : Sizes) (pools : Pools) (numbers : List ℕ) (count : ℕ) (counted : Counted)
     (is-counted : counted ≡ countedOf sizes pools (lentList numbers count)) (base : ℕ) (identity : Identity)
-    (output : List ℕ) (legalBase : base ≤ baseMost) (legalVersion : identity .version ≤ versionMost) where
+    (output : List ℕ) (legalBase : base ≤ baseDayMax) (legalVersion : identity .version ≤ versionMax) where
   abbrev list : EventList
   list = lentList numbers count
 
@@ -101,7 +101,7 @@ module _ (sizes : Sizes) (pools : Pools) (numbers : List ℕ) (count : ℕ) (cou
           ∙ written-short base (sectionsOf sizes identity es) output (omega (arith, need-found))
           ∙ ap (λ (n : ℕ). record { number = 11; value = n; output = output }) (sym need-found)
 
-      starts : Every (λ (e : Event). e .start < startLimit) es
+      starts : Every (λ (e : Event). e .start < windowSeconds) es
       starts = every-map (λ (e : Event) (f : EventFacts e). f .start) es (facts .facts)
 
       counts-are : counted .counts ≡ each (sectionCount sizes es) 0 512

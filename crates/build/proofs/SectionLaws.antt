@@ -30,10 +30,10 @@ use Rattle.build_counts.proofs.BetweenLaws.{between-more, between-end}
 -- ---- the events
 
 -- the events from `at` on are to be written, and those from place i on are left
-module _ (base : ℕ) (pools : Pools) (numbers : List ℕ) (i end : ℕ) {d : List ℕ} {at : ℕ} {all out : List ℕ} {place : ℕ}
-    (left : Left d at all out place (eventLoopBytes base (eventsBetween pools numbers i end)))
+module _ (base : ℕ) (pools : Pools) (numbers : List ℕ) (i end : ℕ) {d : List ℕ} {at : ℕ} {all out : List ℕ} {offset : ℕ}
+    (left : Left d at all out offset (eventLoopBytes base (eventsBetween pools numbers i end)))
   where
-    pub events-written : end ≤ i → (out ≡ overwrite d at all) × (place ≡ at + length all)
+    pub events-written : end ≤ i → (out ≡ overwrite d at all) × (offset ≡ at + length all)
     events-written behind =
         left-end left (ap (eventLoopBytes base) (between-end pools numbers i end behind) ∙ loop-none base)
 
@@ -57,14 +57,14 @@ module _ (base : ℕ) (pools : Pools) (numbers : List ℕ) (i end : ℕ) {d : Li
             ∙ ap₂ (λ (e : Event) (k : ℕ). e ∷ eventsBetween pools numbers k end) same after)
             ∙ loop-more base (eventWith r chain) (eventsBetween pools numbers (i + 1) end)
 
-        pub next-fits : place + (eventOverhead + length chain) ≤ length out
+        pub next-fits : offset + (eventOverhead + length chain) ≤ length out
         next-fits = omega (arith, left-fits left next behind parts, event-length base (eventWith r chain))
 
-        pub next-written : {out′ : List ℕ} → out′ ≡ writeAt out place next
-            → Left d at all out′ (place + (eventOverhead + length chain)) behind
+        pub next-written : {out′ : List ℕ} → out′ ≡ writeAt out offset next
+            → Left d at all out′ (offset + (eventOverhead + length chain)) behind
         next-written written =
             left-more left next behind parts
-            (written ∙ write-fits out place next (left-fits left next behind parts))
+            (written ∙ write-fits out offset next (left-fits left next behind parts))
             (omega (arith, event-length base (eventWith r chain)))
 
 -- ---- the section

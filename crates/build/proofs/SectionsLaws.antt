@@ -60,9 +60,9 @@ module _ (pools : Pools) (numbers : List ℕ) (room : ℕ) (first : SectionHeade
       (eventsBetween pools numbers next end)
 
   -- k sections are written; the header differs from the first one's in section_number only
-  pub record SegmentSoFar (base : ℕ) (d : List ℕ) (at from : ℕ) (out : List ℕ) (header : SectionHeader) (place next k : ℕ)
+  pub record SegmentSoFar (base : ℕ) (d : List ℕ) (at from : ℕ) (out : List ℕ) (header : SectionHeader) (offset next k : ℕ)
       : Type 0 where
-    pub left : Left d at (fileBytes base (allSections from)) out place (fileBytes base (sectionsBehind k next))
+    pub left : Left d at (fileBytes base (allSections from)) out offset (fileBytes base (sectionsBehind k next))
     pub few : k ≤ sections
     pub others : (n : ℕ) → numbered header n ≡ numbered first n
 
@@ -82,11 +82,11 @@ module _ (pools : Pools) (numbers : List ℕ) (room : ℕ) (first : SectionHeade
         others = λ n. refl;
       }
 
-  module _ {base : ℕ} {d : List ℕ} {at from : ℕ} {out : List ℕ} {header : SectionHeader} {place next k : ℕ}
-      (so-far : SegmentSoFar base d at from out header place next k)
+  module _ {base : ℕ} {d : List ℕ} {at from : ℕ} {out : List ℕ} {header : SectionHeader} {offset next k : ℕ}
+      (so-far : SegmentSoFar base d at from out header offset next k)
     where
       pub segment-end : sections ≤ k
-          → (out ≡ overwrite d at (fileBytes base (allSections from))) × (place ≡ at + sectionSizes (allSections from))
+          → (out ≡ overwrite d at (fileBytes base (allSections from))) × (offset ≡ at + sectionSizes (allSections from))
       segment-end ended =
           let h : Header = heldHeader (numbered first (first .«section_number» + k)) in
           let es : List Event = eventsBetween pools numbers next end in
@@ -148,15 +148,15 @@ module _ (pools : Pools) (numbers : List ℕ) (room : ℕ) (first : SectionHeade
               ∙ ap₂ (λ (m : ℕ) (fs : List Event). nextSection ∷ later (heldHeader (numbered first m)) fs) after rest)
               ∙ file-cons base nextSection (sectionsBehind (k + 1) (taken .to))
 
-          pub segment-fits : place + (sectionOverhead + taken .bytes) ≤ length out
+          pub segment-fits : offset + (sectionOverhead + taken .bytes) ≤ length out
           segment-fits = omega (arith, left-fits (so-far .left) sectionNow behind parts, next-size)
 
-          pub segment-more : {out′ : List ℕ} → out′ ≡ overwrite out place (sectionBytes base nextSection)
-              → SegmentSoFar base d at from out′ (numbered header number) (place + (sectionOverhead + taken .bytes))
+          pub segment-more : {out′ : List ℕ} → out′ ≡ overwrite out offset (sectionBytes base nextSection)
+              → SegmentSoFar base d at from out′ (numbered header number) (offset + (sectionOverhead + taken .bytes))
               (taken .to) (k + 1)
           segment-more written =
               record {
-                left = left-more (so-far .left) sectionNow behind parts written (ap (λ (n : ℕ). place + n) next-size);
+                left = left-more (so-far .left) sectionNow behind parts written (ap (λ (n : ℕ). offset + n) next-size);
                 few = omega arith;
                 others = λ n. so-far .others n;
               }

@@ -6,7 +6,7 @@ use Prim.Native.Nat.{ℕ, _≤_, _<_}
 use lib.Dec.{T}
 use lib.ListN.{length}
 use Rattle.eit.specs.declared.Sizes.{Sizes}
-use Rattle.eit.specs.Limits.{startLimit}
+use Rattle.eit.specs.Limits.{windowSeconds}
 use Rattle.eit.specs.Events.{Event, rising}
 use Rattle.eit.specs.declared.Identity.{Identity}
 use Rattle.sections.specs.Every.{Every}
@@ -18,7 +18,7 @@ use Rattle.schedule.specs.Plan.{sectionCount}
 -- starts rise and are in range, no segment is unpackable, each segment's sections are counted, and the output is long enough
 pub record Writable (sizes : Sizes) (identity : Identity) (es : List Event) (counts output : List ℕ) : Type 0 where
   pub rises : T (rising es)
-  pub starts : Every (λ (e : Event). e .start < startLimit) es
+  pub starts : Every (λ (e : Event). e .start < windowSeconds) es
   pub packs : (index : ℕ) → T (not (isUnpackable sizes es index))
   pub counted : counts ≡ each (sectionCount sizes es) 0 512
   pub fits : sectionSizes (sectionsOf sizes identity es) ≤ length output

@@ -27,12 +27,12 @@ ghost use Rattle.build.specs.Rows.{IsRow, rowLast};
 ghost use Rattle.build.specs.Writing.{Writable};
 
 // table_id of the first table, and the section numbers of a segment.
-const TABLE_LEAST: usize = 0x50;
+const TABLE_FIRST: usize = 0x50;
 
 const SEGMENT_SECTIONS: usize = 8;
 
 // The sections of a segment, as many as `sections` says, with the events from `from` to `end`: each takes as many of the next events
-// as fit, and is numbered from the first header's section_number on. Returns the place behind them.
+// as fit, and is numbered from the first header's section_number on. Returns the offset behind them.
 fn write_segment<'a>(
     out: &mut [u8],
     at: usize,
@@ -67,7 +67,7 @@ fn write_segment<'a>(
         (eventsBetween (lentPools (now (day .entry)) (now (series .entry))) (now (list .entry)) from end))) ⌝ }
 {
     let mut header = first;
-    let mut place = at;
+    let mut offset = at;
     let mut next = from;
     let mut k: u8 = 0;
     while k < sections {
@@ -76,7 +76,7 @@ fn write_segment<'a>(
         let size = SECTION_OVERHEAD + taken.bytes;
         section::write_section(
             out,
-            place,
+            offset,
             size,
             header,
             base_day,
@@ -87,11 +87,11 @@ fn write_segment<'a>(
             series,
             crc_tables,
         );
-        place += size;
+        offset += size;
         next = taken.to;
         k += 1;
     }
-    place
+    offset
 }
 
 // last_section_number of the table whose first segment has this index: that of the last section of its last segment.
@@ -120,7 +120,7 @@ fn first_header(
     let number = (SEGMENT_SECTIONS * (index % TABLE_SEGMENTS)) as u8;
     let triplet = identity.triplet;
     SectionHeader {
-        table_id: (TABLE_LEAST + index / TABLE_SEGMENTS) as u8,
+        table_id: (TABLE_FIRST + index / TABLE_SEGMENTS) as u8,
         section_number: number,
         last_section_number: last,
         segment_last_section_number: number + (sections - 1),
@@ -153,7 +153,7 @@ pub fn write_file<'a>(
         (eventsIn (lentPools (now (day .entry)) (now (series .entry))) (recordsIn count (now (list .entry)))))) ⌝ }
 {
     let crc_tables = codec_crc::tables();
-    let last_table_id = (TABLE_LEAST + segment::last_index(list, count) / TABLE_SEGMENTS) as u8;
+    let last_table_id = (TABLE_FIRST + segment::last_index(list, count) / TABLE_SEGMENTS) as u8;
     let mut last: u8 = 0;
     let mut at = 0;
     let mut from = 0;

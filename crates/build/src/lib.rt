@@ -4,20 +4,20 @@ use build_counts::count;
 use build_counts::segment::SEGMENTS;
 use eit::Identity;
 use eit::Sizes;
-use eit::limits::BASE_DAY_MOST;
+use eit::limits::BASE_DAY_MAX;
 ghost use mathlib.Core.Path.{_≡_};
 ghost use Rattle.eit.specs.Sizes.{broadcast};
 ghost use Rattle.eit.specs.Pools.{lentPools};
 ghost use Rattle.eit.specs.Records.{lentList};
 ghost use Rattle.schedule.specs.Plan.{plan};
 ghost use Rattle.schedule.specs.Build.{build};
-ghost use Rattle.build_answer.specs.Told.{told};
+ghost use Rattle.build_answer.specs.Outcome.{outcomeOf};
 
 mod file;
 mod section;
 
 // The most that a version may be.
-const VERSION_MOST: u8 = 31;
+const VERSION_MAX: u8 = 31;
 
 // The counts of all segments, 254 each if the list is unsound.
 fn plan_within<'a>(
@@ -57,12 +57,12 @@ fn build_within<'a>(
     ensures { λ r. ⌜
         build sizes (lentPools (now (day .entry)) (now (series .entry))) (lentList (now (list .entry)) count) «base_day»
         identity (now (out .entry))
-        ≡ told r (now (out .exit)) ⌝ }
+        ≡ outcomeOf r (now (out .exit)) ⌝ }
 {
-    if BASE_DAY_MOST < base_day {
+    if BASE_DAY_MAX < base_day {
         return BuildAnswer::BaseDay;
     }
-    if VERSION_MOST < identity.version {
+    if VERSION_MAX < identity.version {
         return BuildAnswer::Version;
     }
     let counted = count::count_sections(list, count, day, series, sizes);
@@ -104,7 +104,7 @@ pub fn build<'a>(
     ensures { λ r. ⌜
         build broadcast (lentPools (now (day .entry)) (now (series .entry))) (lentList (now (list .entry)) count) «base_day» identity
         (now (out .entry))
-        ≡ told r (now (out .exit)) ⌝ }
+        ≡ outcomeOf r (now (out .exit)) ⌝ }
 {
     build_within(
         list,

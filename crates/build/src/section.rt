@@ -21,7 +21,7 @@ ghost use Rattle.codec_crc.specs.CrcTables.{crcTables};
 ghost use Rattle.build_counts.specs.Between.{eventsBetween};
 ghost use Rattle.build.specs.Sections.{sectionOf, sectionSizeOf};
 
-// The events from `from` to `to`, written from `at` on. Returns the place behind them.
+// The events from `from` to `to`, written from `at` on. Returns the offset behind them.
 fn write_events<'a>(
     out: &mut [u8],
     at: usize,
@@ -39,16 +39,16 @@ fn write_events<'a>(
         (eventLoopBytes «base_day» (eventsBetween (lentPools (now (day .entry)) (now (series .entry))) (now (list .entry)) from to))
         × (r ≡ at + eventSizes (eventsBetween (lentPools (now (day .entry)) (now (series .entry))) (now (list .entry)) from to)) ⌝ }
 {
-    let mut place = at;
+    let mut offset = at;
     let mut i = from;
     while i < to {
         let r = records::record_at(list, i);
         let chain = pools::choose(day, series, r.marks, r.offset, r.chain_length);
-        event::write_event(out, place, base_day, r, chain);
-        place += EVENT_OVERHEAD + chain.len();
+        event::write_event(out, offset, base_day, r, chain);
+        offset += EVENT_OVERHEAD + chain.len();
         i += 1;
     }
-    place
+    offset
 }
 
 // The section of `size` bytes with the events from `from` to `to`, written from `at` on.

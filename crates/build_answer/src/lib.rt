@@ -1,6 +1,6 @@
 // What Build says: a case for each cause of 01's table ("When a call says no").
 ghost use mathlib.Core.Path.{_≡_};
-ghost use Rattle.build_answer.specs.Told.{answerNumber, answerValue};
+ghost use Rattle.build_answer.specs.Outcome.{answerNumber, answerValue};
 
 pub enum BuildAnswer {
     // The file is written; its length.

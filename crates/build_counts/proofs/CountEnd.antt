@@ -10,8 +10,8 @@ use lib.Dec.{T}
 use lib.ListN.{length, replicate}
 use lib.Seq.{ext-getD}
 use Rattle.eit.specs.declared.Sizes.{Sizes}
-use Rattle.eit.specs.Limits.{startLimit}
-use Rattle.eit.specs.Identity.{noIdentity}
+use Rattle.eit.specs.Limits.{windowSeconds}
+use Rattle.eit.specs.Identity.{zeroIdentity}
 use Rattle.eit.specs.Fields.{Bytes}
 use Rattle.eit.specs.Pools.{Pools}
 use Rattle.eit.specs.Records.{EventList, lentList}
@@ -130,10 +130,10 @@ module _ (sizes : Sizes) (pools : Pools) (numbers : List ℕ) (count : ℕ) (day
     need-are : needOf sizes (eventsOf pools list) ≡ need
     unfolding needOf
     need-are =
-        let starts : Every (λ (e : Event). e .start < startLimit) es =
+        let starts : Every (λ (e : Event). e .start < windowSeconds) es =
         every-map (λ (e : Event) (f : EventFacts e). f .start) es (facts .facts) in
         ap (needOf sizes) (events-are pools numbers count)
-        ∙ ap sectionSizes (file-by-index sizes noIdentity es starts)
+        ∙ ap sectionSizes (file-by-index sizes zeroIdentity es starts)
         ∙ end .bytes-are
         ∙ omega (arith, bytes-end sizes es index none-left)
 

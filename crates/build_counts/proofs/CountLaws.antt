@@ -11,7 +11,7 @@ use lib.Dec.{T, eqb}
 use lib.ListN.{length}
 use Rattle.eit.specs.Sizes.{sectionOverhead, room}
 use Rattle.eit.specs.declared.Sizes.{Sizes}
-use Rattle.eit.specs.Identity.{noIdentity}
+use Rattle.eit.specs.Identity.{zeroIdentity}
 use Rattle.eit.specs.Events.{Event, rising}
 use Rattle.eit.proofs.Test.{true-is, false-is, test-or}
 use Rattle.packing.specs.Greedy.{AllFit, greedy, unpackable}
@@ -36,17 +36,17 @@ use Rattle.build_counts.proofs.NeedLaws.{parts-sizes}
 
 -- the bytes of a segment's sections
 abbrev pub segmentBytes : Sizes → List Event → ℕ → ℕ
-segmentBytes sizes es index = sectionSizes (insidePart sizes noIdentity es index)
+segmentBytes sizes es index = sectionSizes (insidePart sizes zeroIdentity es index)
 
 -- and of those of the segments from `index` on
 abbrev pub bytesFrom : Sizes → List Event → ℕ → ℕ
-bytesFrom sizes es index = sectionSizes (flatten (each (insidePart sizes noIdentity es) index (512 - index)))
+bytesFrom sizes es index = sectionSizes (flatten (each (insidePart sizes zeroIdentity es) index (512 - index)))
 
 pub bytes-from : (sizes : Sizes) (es : List Event) (index : ℕ) → index < 512
     → bytesFrom sizes es index ≡ segmentBytes sizes es index + bytesFrom sizes es (index + 1)
 bytes-from sizes es index few =
     let left : 512 - index ≡ suc (512 - (index + 1)) = omega arith in
-    let f : ℕ → List Section = insidePart sizes noIdentity es in
+    let f : ℕ → List Section = insidePart sizes zeroIdentity es in
     ap (λ (n : ℕ). sectionSizes (flatten (each f index n))) left
     ∙ ap sectionSizes (joined-more f index (512 - (index + 1)))
     ∙ sizes-append (f index) (flatten (each f (suc index) (512 - (index + 1))))
@@ -99,9 +99,9 @@ module _ (sizes : Sizes) (es : List Event) (rises : T (rising es)) (index : ℕ)
   pub packed-bytes : packedOf (room sizes) (segmentEvents index es) .bytes ≡ segmentBytes sizes es index
   packed-bytes =
       sym
-      (ap sectionSizes (part-inside sizes noIdentity es index inside)
-      ∙ parts-sizes (sectionsOfSegment sizes noIdentity es index)
-      ∙ ap packedSizes (part-parts sizes noIdentity es index ∙ parts-are sizes es index))
+      (ap sectionSizes (part-inside sizes zeroIdentity es index inside)
+      ∙ parts-sizes (sectionsOfSegment sizes zeroIdentity es index)
+      ∙ ap packedSizes (part-parts sizes zeroIdentity es index ∙ parts-are sizes es index))
 
 -- outside the range there is nothing to count
 module _ (sizes : Sizes) (es : List Event) (rises : T (rising es)) (index : ℕ) (outside : T (not (isInside es index))) where
@@ -113,4 +113,4 @@ module _ (sizes : Sizes) (es : List Event) (rises : T (rising es)) (index : ℕ)
       (test-or (isUnpackable sizes es index))
 
   pub bytes-outside : segmentBytes sizes es index ≡ 0
-  bytes-outside = ap sectionSizes (part-outside sizes noIdentity es index outside)
+  bytes-outside = ap sectionSizes (part-outside sizes zeroIdentity es index outside)

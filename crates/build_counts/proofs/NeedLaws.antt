@@ -4,7 +4,7 @@ use mathlib.Core.List.{List, [], _∷_, _++_, flatten, map-append}
 use Prim.Native.Nat.{ℕ, suc, _+_, _-_, _*_}
 use Rattle.eit.specs.Sizes.{sectionOverhead}
 use Rattle.eit.specs.declared.Sizes.{Sizes}
-use Rattle.eit.specs.Identity.{noIdentity}
+use Rattle.eit.specs.Identity.{zeroIdentity}
 use Rattle.eit.specs.Events.{Event}
 use Rattle.eit.specs.declared.Identity.{Identity}
 use Rattle.sections.specs.Section.{Section, eventSizes, sectionSizes, eventsBySection}
@@ -49,5 +49,5 @@ module _ (sizes : Sizes) (es : List Event) where
   unfolding needOf
   need-is identity =
       parts-sizes (sectionsOf sizes identity es)
-      ∙ ap packedSizes (file-parts identity ∙ sym (file-parts noIdentity))
-      ∙ sym (parts-sizes (sectionsOf sizes noIdentity es))
+      ∙ ap packedSizes (file-parts identity ∙ sym (file-parts zeroIdentity))
+      ∙ sym (parts-sizes (sectionsOf sizes zeroIdentity es))

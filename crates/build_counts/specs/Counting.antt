@@ -7,14 +7,14 @@ use mathlib.Core.Option.{Option, none, some}
 use lib.ListN.{length}
 use Rattle.eit.specs.Sizes.{sectionOverhead}
 use Rattle.eit.specs.declared.Sizes.{Sizes}
-use Rattle.eit.specs.Identity.{noIdentity}
+use Rattle.eit.specs.Identity.{zeroIdentity}
 use Rattle.eit.specs.Pools.{Pools}
 use Rattle.eit.specs.Records.{EventList}
 use Rattle.eit.specs.Events.{Event}
 use Rattle.eit.specs.Sound.{sound, eventsOf}
 use Rattle.packing.specs.Greedy.{unpackable}
 use Rattle.sections.specs.Section.{eventSize, eventSizes, sectionSizes}
-use Rattle.schedule.specs.SectionsOf.{segmentMost, packed, lowestUnpackable, sectionsOf}
+use Rattle.schedule.specs.SectionsOf.{segmentSectionsMax, packed, lowestUnpackable, sectionsOf}
 use Rattle.schedule.specs.Plan.{plan}
 use Rattle.build_counts.specs.declared.count.Packed.{Packed}
 use Rattle.build_counts.specs.declared.count.Counted.{Counted}
@@ -28,14 +28,14 @@ packedSizes (p ∷ ps) = sectionOverhead + eventSizes p + packedSizes ps
 abbrev pub packedOf : ℕ → List Event → Packed
 packedOf room es =
     record {
-      sections = elim (unpackable eventSize room segmentMost es) [ true ↦ 255 | false ↦ length (packed room es) ];
+      sections = elim (unpackable eventSize room segmentSectionsMax es) [ true ↦ 255 | false ↦ length (packed room es) ];
       bytes = packedSizes (packed room es);
     }
 
--- the bytes that Build's file needs, under `noIdentity`: under every other they are as many (`need-is`)
+-- the bytes that Build's file needs, under `zeroIdentity`: under every other they are as many (`need-is`)
 unfoldable pub needOf : Sizes → List Event → ℕ
 unfolding sectionsOf
-needOf sizes es = sectionSizes (sectionsOf sizes noIdentity es)
+needOf sizes es = sectionSizes (sectionsOf sizes zeroIdentity es)
 
 -- a segment index, 512 for none
 abbrev pub indexOr512 : Option ℕ → ℕ

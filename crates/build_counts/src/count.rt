@@ -29,7 +29,7 @@ pub struct Counted {
 }
 
 // The most sections of a segment.
-const SEGMENT_MOST: u8 = 8;
+const SEGMENT_SECTIONS_MAX: u8 = 8;
 
 // Plan's entries for an unpackable segment and for an unsound list.
 const UNPACKABLE: u8 = 255;
@@ -67,7 +67,7 @@ fn count_segment<'a>(
     let mut sections: u8 = 0;
     let mut bytes = 0;
     let mut at = from;
-    while sections < SEGMENT_MOST && at < end {
+    while sections < SEGMENT_SECTIONS_MAX && at < end {
         let next = cut::next_cut(list, at, end, day, series, room as usize);
         bytes += SECTION_OVERHEAD + next.bytes;
         at = next.to;

@@ -13,7 +13,7 @@ ghost use Rattle.script.specs.Edit.{edit};
 ghost use Rattle.sections.specs.Read.{checkFile, read};
 ghost use Rattle.schedule.specs.Plan.{plan};
 ghost use Rattle.schedule.specs.Build.{build};
-ghost use Rattle.read_answer.specs.Told.{told};
+ghost use Rattle.read_answer.specs.Outcome.{outcomeOf};
 ghost use Rattle.chirdaluko.specs.Face.{editedOf, builtOf, givenIdentity, answerOf, readingOf};
 
 // What Edit returns: document 01's number and value, and the count then held.
@@ -59,11 +59,11 @@ pub extern "C" fn eit_edit<'a>(
         ≡ editedOf r (now (list .exit)) ⌝ }
 {
     let r = edit::edit(list, count, day, series, script);
-    let said = r.answer;
+    let answer = r.answer;
     let held = r.count;
     EitEdited {
-        number: edit_answer::number_of(said),
-        value: edit_answer::value_of(said, held),
+        number: edit_answer::number_of(answer),
+        value: edit_answer::value_of(answer, held),
         count: held,
     }
 }
@@ -93,10 +93,10 @@ pub extern "C" fn eit_build<'a>(
         original_network_id,
     };
     let identity = Identity { triplet, version };
-    let said = build::build(list, count, day, series, base_day, identity, out);
+    let answer = build::build(list, count, day, series, base_day, identity, out);
     EitBuilt {
-        number: build_answer::number_of(said),
-        value: build_answer::value_of(said),
+        number: build_answer::number_of(answer),
+        value: build_answer::value_of(answer),
     }
 }
 
@@ -118,15 +118,15 @@ pub extern "C" fn eit_plan<'a>(
 
 // An answer of Read as numbers.
 fn reading_of(checked: CheckedFile) -> EitReading
-    ensures { λ r. ⌜ answerOf r ≡ told checked ⌝ }
+    ensures { λ r. ⌜ answerOf r ≡ outcomeOf checked ⌝ }
 {
-    let said = checked.answer;
+    let answer = checked.answer;
     let identity = checked.identity;
     let triplet = identity.triplet;
     EitReading {
-        number: read_answer::number_of(said),
-        value: read_answer::value_of(said),
-        count: read_answer::count_of(said),
+        number: read_answer::number_of(answer),
+        value: read_answer::value_of(answer),
+        count: read_answer::count_of(answer),
         service_id: triplet.service_id,
         transport_stream_id: triplet.transport_stream_id,
         original_network_id: triplet.original_network_id,

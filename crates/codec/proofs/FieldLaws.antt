@@ -24,7 +24,7 @@ drop-take (suc m) (suc n) (x ∷ xs) = let one-less : suc n - suc m ≡ n - m = 
 
 -- ---- reading
 
--- the bytes from a place on, as a part to the end has them
+-- the bytes from an offset on, as a part to the end has them
 pub rest-whole : (bs : List ℕ) (at : ℕ) → take (length bs - at) (drop at bs) ≡ drop at bs
 rest-whole bs at = take-all (length bs - at) (drop at bs) (simp length-drop (omega arith))
 
@@ -32,11 +32,11 @@ rest-whole bs at = take-all (length bs - at) (drop at bs) (simp length-drop (ome
 pub field-whole : (bs : List ℕ) (at width : ℕ) → take width (take (length bs - at) (drop at bs)) ≡ bytesAt at width bs
 field-whole bs at width = ap (take width) (rest-whole bs at)
 
-pub field-cut : (bs : List ℕ) (at width : ℕ) → length (take (length bs - at) (drop at bs)) ≤ width
+pub field-truncated : (bs : List ℕ) (at width : ℕ) → length (take (length bs - at) (drop at bs)) ≤ width
     → take (length (take (length bs - at) (drop at bs))) (take (length bs - at) (drop at bs)) ≡ bytesAt at width bs
-field-cut bs at width cut =
+field-truncated bs at width truncated =
     let rest : List ℕ = take (length bs - at) (drop at bs) in
-    take-length rest ∙ sym (take-all width rest cut) ∙ field-whole bs at width
+    take-length rest ∙ sym (take-all width rest truncated) ∙ field-whole bs at width
 
 pub field-none : (bs : List ℕ) (at width : ℕ) → length bs ≤ at → field at width bs ≡ 0
 field-none bs at width past =

@@ -19,8 +19,8 @@ use Rattle.eit.proofs.Test.{true-is, false-is, test-or, or-cases, eq-or-not}
 use Rattle.sections.specs.Section.{Header, eventOverhead}
 use Rattle.sections.specs.Encode.{runningStatus, bitOf}
 use Rattle.sections.specs.Decode.{statusField, statedEventSize, eventIn}
-use Rattle.sections.specs.Places.{recordAt}
-use Rattle.sections.specs.JudgeEvents.{isInSegment, isEvent}
+use Rattle.sections.specs.Offsets.{recordAt}
+use Rattle.sections.specs.EventTests.{isInSegment, isEvent}
 use Rattle.sections.proofs.EventBytes.{bit-forth}
 use Rattle.codec.proofs.FieldLaws.{drop-take}
 use Rattle.codec_time.specs.TimeRead.{durationAt, startAt}
@@ -108,9 +108,9 @@ module _ (base : ℕ) (bs : List ℕ) {word : ℕ} (is-word : word ≡ statusFie
   size : statedEventSize bs ≡ eventOverhead + word % 0x1000
   size = rw is-word
 
-  pub event-cut : length bs < eventOverhead + word % 0x1000 → eventRead base bs ≡ Broken
+  pub event-truncated : length bs < eventOverhead + word % 0x1000 → eventRead base bs ≡ Broken
   unfolding isWholeEvent
-  event-cut short =
+  event-truncated short =
       let all : frontEvent bs ≡ bs = take-all (statedEventSize bs) bs (omega arith) in
       let other : length bs ≡ statedEventSize bs → ⊥ = λ same. omega arith in
       broken-read base bs (rw (all, ne-eqb (length bs) (statedEventSize bs) other))

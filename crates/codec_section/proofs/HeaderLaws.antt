@@ -15,7 +15,7 @@ use Rattle.sections.specs.Section.{headerSize}
 use Rattle.sections.specs.Encode.{lengthWord, versionByte, headerBytes}
 use Rattle.sections.specs.Decode.{headerIn}
 use Rattle.codec.specs.Write.{writeAt}
-use Rattle.codec_section.specs.HeaderRead.{heldHeader, frontBytes, restBytes, headerTold, headerRead}
+use Rattle.codec_section.specs.HeaderRead.{heldHeader, frontBytes, restBytes, headerOrNone, headerRead}
 use Rattle.codec_section.specs.declared.header.SectionHeader.{SectionHeader}
 use Rattle.codec_section.specs.declared.header.HeaderRead.the-variants.{Header as Read, Short}
 use Rattle.codec.proofs.WriteLaws.{write-then}
@@ -65,7 +65,7 @@ module _ (d : List ℕ) (at : ℕ) (h : SectionHeader) where
 
 -- what was read, and what it says of the bytes
 module _ (bs : List ℕ) where
-  pub header-only : {h : SectionHeader} → headerTold (Read h) ≡ headerRead bs → (headerSize ≤ length bs) × (heldHeader h ≡ headerIn bs)
+  pub header-only : {h : SectionHeader} → headerOrNone (Read h) ≡ headerRead bs → (headerSize ≤ length bs) × (heldHeader h ≡ headerIn bs)
   header-only {h} read =
       ⊎-elim
       (λ (enough : headerSize ≤ length bs).
@@ -77,7 +77,7 @@ module _ (bs : List ℕ) where
       absurd (omega arith))
       (le-or-lt headerSize (length bs))
 
-  pub short-only : headerTold Short ≡ headerRead bs → length bs < headerSize
+  pub short-only : headerOrNone Short ≡ headerRead bs → length bs < headerSize
   short-only read =
       ⊎-elim
       (λ (enough : headerSize ≤ length bs).

@@ -10,7 +10,7 @@ use Rattle.eit.specs.Time.{isStartBytes, isDurationBytes}
 use Rattle.eit.specs.Chain.{isChain}
 use Rattle.sections.specs.Section.{eventOverhead}
 use Rattle.sections.specs.Decode.{statusField, statedEventSize, eventIn}
-use Rattle.sections.specs.Places.{recordAt}
+use Rattle.sections.specs.Offsets.{recordAt}
 use Rattle.codec_section.specs.declared.event.EventRead.{EventRead}
 use Rattle.codec_section.specs.declared.event.EventRead.the-variants.{Whole, Broken}
 

@@ -45,10 +45,10 @@ restBytes h =
     ++ bigEndian 1 (h .«segment_last_section_number»)
     ++ bigEndian 1 (h .«last_table_id»)
 
--- what reading a header tells
-abbrev pub headerTold : HeaderRead → Option Header
-headerTold (Read h) = some (heldHeader h)
-headerTold Short = none
+-- the header that was read, or none
+abbrev pub headerOrNone : HeaderRead → Option Header
+headerOrNone (Read h) = some (heldHeader h)
+headerOrNone Short = none
 
 -- the header at the front of some bytes, if there are enough
 abbrev pub headerRead : List ℕ → Option Header

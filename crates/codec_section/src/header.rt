@@ -8,7 +8,7 @@ ghost use lib.ListN.{length};
 ghost use Rattle.eit.specs.Fields.{field};
 ghost use Rattle.sections.specs.Encode.{lengthWord, headerBytes};
 ghost use Rattle.codec.specs.Write.{writeAt};
-ghost use Rattle.codec_section.specs.HeaderRead.{heldHeader, frontBytes, restBytes, headerTold, headerRead};
+ghost use Rattle.codec_section.specs.HeaderRead.{heldHeader, frontBytes, restBytes, headerOrNone, headerRead};
 
 // What stands before a section's events, but for section_length and the fixed bits.
 pub struct SectionHeader {
@@ -91,7 +91,7 @@ fn word_at(bytes: &[u8], at: usize) -> u16
 
 // The header at the front of the bytes; section_length and the fixed bits are not looked at.
 pub fn read_header(bytes: &[u8]) -> HeaderRead
-    ensures { λ r. ⌜ headerTold r ≡ headerRead (now (bytes .entry)) ⌝ }
+    ensures { λ r. ⌜ headerOrNone r ≡ headerRead (now (bytes .entry)) ⌝ }
 {
     if bytes.len() < HEADER_SIZE {
         return HeaderRead::Short;

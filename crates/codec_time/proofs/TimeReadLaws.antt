@@ -11,8 +11,8 @@ use borrow.Author.Tests.{le-leb, lt-leb, le-ltb, lt-ltb}
 use lib.Dec.{T, leb, ltb, leb→le}
 use lib.ListN.{length, take, drop, getD}
 use lib.Seq.{getD-take, getD-drop, take-take, drop-drop}
-use Rattle.eit.specs.Limits.{startLimit, durationLeast, durationMost}
-use Rattle.eit.specs.Limits.{startHoursMost, durationHoursMost, minutesMost, secondsMost}
+use Rattle.eit.specs.Limits.{windowSeconds, durationMin, durationMax}
+use Rattle.eit.specs.Limits.{startHoursMax, durationHoursMax, minutesMax, secondsMax}
 use Rattle.eit.specs.Fields.{bytesAt, field}
 use Rattle.eit.specs.Time.{timeOf, secondsOfDay, ofBcd, isBcdUpTo, isTime, secondsOf, isDurationBytes, startOf, isStartBytes}
 use Rattle.eit.specs.declared.Time.{Time}
@@ -48,9 +48,9 @@ and-true false = refl
 -- ---- three bytes
 
 module _ (most at : ℕ) (bs : List ℕ) where
-  pub time-cut : length bs < at + 3 → timeAt most at bs ≡ Broken
+  pub time-truncated : length bs < at + 3 → timeAt most at bs ≡ Broken
   unfolding timeAt
-  time-cut cut = rw (lt-leb (at + 3) (length bs) cut)
+  time-truncated truncated = rw (lt-leb (at + 3) (length bs) truncated)
 
   byte : (k : ℕ) → k < 3 → getD (bytesAt at 3 bs) k 0 ≡ getD bs (at + k) 0
   byte k low = getD-take 3 (drop at bs) k 0 low ∙ getD-drop at bs k 0
@@ -58,7 +58,7 @@ module _ (most at : ℕ) (bs : List ℕ) where
   -- where the three bytes are there, their digits decide
   module _ (fits : at + 3 ≤ length bs) {b : Bool}
       (test : b ≡ (isBcdUpTo most (getD bs at 0)
-      && (isBcdUpTo minutesMost (getD bs (at + 1) 0) && isBcdUpTo secondsMost (getD bs (at + 2) 0)))) where
+      && (isBcdUpTo minutesMax (getD bs (at + 1) 0) && isBcdUpTo secondsMax (getD bs (at + 2) 0)))) where
     first : getD (bytesAt at 3 bs) 0 0 ≡ getD bs at 0
     first = byte 0 (omega arith) ∙ ap (λ (k : ℕ). getD bs k 0) (add-zero at)
 
@@ -82,32 +82,32 @@ time-small s t is =
     ⊎-elim
     (λ within. rw (is, time-within s within) (omega arith))
     (λ above. rw (is, time-above s above) (omega arith))
-    (le-or-lt s durationMost)
+    (le-or-lt s durationMax)
 
 -- ---- a duration
 
 module _ (at : ℕ) (bs : List ℕ) where
-  pub duration-no-time : timeAt durationHoursMost at bs ≡ Broken → durationAt at bs ≡ Broken
+  pub duration-no-time : timeAt durationHoursMax at bs ≡ Broken → durationAt at bs ≡ Broken
   unfolding timeAt durationAt
   duration-no-time none =
       let fits : Bool = leb (at + 3) (length bs) in
-      let time : Bool = isTime durationHoursMost (bytesAt at 3 bs) in
-      let least : Bool = leb durationLeast (secondsOf (bytesAt at 3 bs)) in
+      let time : Bool = isTime durationHoursMax (bytesAt at 3 bs) in
+      let least : Bool = leb durationMin (secondsOf (bytesAt at 3 bs)) in
       rw (and-no fits time least (broken-only (fits && time) (secondsOf (bytesAt at 3 bs)) none))
 
   -- a time of up to 99 hours is a duration if it is in range; it is never too long
-  pub duration-time : (n : ℕ) → timeAt durationHoursMost at bs ≡ Seconds n
-      → durationAt at bs ≡ secondsIf (leb durationLeast n && leb n durationMost) n
+  pub duration-time : (n : ℕ) → timeAt durationHoursMax at bs ≡ Seconds n
+      → durationAt at bs ≡ secondsIf (leb durationMin n && leb n durationMax) n
   unfolding timeAt durationAt
   duration-time n is =
       let fits : Bool = leb (at + 3) (length bs) in
-      let time : Bool = isTime durationHoursMost (bytesAt at 3 bs) in
+      let time : Bool = isTime durationHoursMax (bytesAt at 3 bs) in
       let (passed, same) = seconds-only (fits && time) (secondsOf (bytesAt at 3 bs)) n is in
       let (room, shown) = and-parts fits time passed in
       let three : length (bytesAt at 3 bs) ≡ 3 = field-length bs at 3 (leb→le (at + 3) (length bs) room) in
-      let few : secondsOf (bytesAt at 3 bs) < 100 * 3600 = time-only durationHoursMost (bytesAt at 3 bs) three shown .1 in
-      let most : n ≤ durationMost = omega arith in
-      rw (true-is fits room, true-is time shown, same, le-leb n durationMost most, and-true (leb durationLeast n))
+      let few : secondsOf (bytesAt at 3 bs) < 100 * 3600 = time-only durationHoursMax (bytesAt at 3 bs) three shown .1 in
+      let most : n ≤ durationMax = omega arith in
+      rw (true-is fits room, true-is time shown, same, le-leb n durationMax most, and-true (leb durationMin n))
 
   -- what was found in bytes that are there
   pub no-duration : at + 3 ≤ length bs → durationAt at bs ≡ Broken → isDurationBytes (bytesAt at 3 bs) ≡ false
@@ -127,9 +127,9 @@ module _ (at : ℕ) (bs : List ℕ) where
 -- ---- a start: a day and a time of that day
 
 module _ (base at : ℕ) (bs : List ℕ) where
-  pub start-cut : length bs < at + 5 → startAt base at bs ≡ Broken
+  pub start-truncated : length bs < at + 5 → startAt base at bs ≡ Broken
   unfolding startAt
-  start-cut cut = rw (lt-leb (at + 5) (length bs) cut)
+  start-truncated truncated = rw (lt-leb (at + 5) (length bs) truncated)
 
   day-of : take 2 (bytesAt at 5 bs) ≡ bytesAt at 2 bs
   day-of = take-take 2 5 (drop at bs) (omega arith)
@@ -141,9 +141,9 @@ module _ (base at : ℕ) (bs : List ℕ) where
   start-parts : at + 5 ≤ length bs
       → startAt base at bs
       ≡ secondsIf
-      (isTime startHoursMost (bytesAt (at + 2) 3 bs)
+      (isTime startHoursMax (bytesAt (at + 2) 3 bs)
       && (leb base (field at 2 bs)
-      && ltb ((field at 2 bs - base) * secondsOfDay + secondsOf (bytesAt (at + 2) 3 bs)) startLimit))
+      && ltb ((field at 2 bs - base) * secondsOfDay + secondsOf (bytesAt (at + 2) 3 bs)) windowSeconds))
       ((field at 2 bs - base) * secondsOfDay + secondsOf (bytesAt (at + 2) 3 bs))
   unfolding startAt
   start-parts fits = rw (le-leb (at + 5) (length bs) fits, day-of, time-of)
@@ -152,20 +152,20 @@ module _ (base at : ℕ) (bs : List ℕ) where
     inside : leb (at + 2 + 3) (length bs) ≡ true
     inside = le-leb (at + 2 + 3) (length bs) (omega arith)
 
-    pub start-no-time : timeAt startHoursMost (at + 2) bs ≡ Broken → startAt base at bs ≡ Broken
+    pub start-no-time : timeAt startHoursMax (at + 2) bs ≡ Broken → startAt base at bs ≡ Broken
     unfolding timeAt
     start-no-time none =
-        let time : Bool = isTime startHoursMost (bytesAt (at + 2) 3 bs) in
+        let time : Bool = isTime startHoursMax (bytesAt (at + 2) 3 bs) in
         let fails : time ≡ false = sym (ap (λ (b : Bool). b && time) inside) ∙ broken-only (leb (at + 2 + 3) (length bs) && time) _ none in
         start-parts fits ∙ rw fails
 
     -- a day and a time that were read
-    module _ {day n : ℕ} (is-day : day ≡ field at 2 bs) (is-time : timeAt startHoursMost (at + 2) bs ≡ Seconds n) where
+    module _ {day n : ℕ} (is-day : day ≡ field at 2 bs) (is-time : timeAt startHoursMax (at + 2) bs ≡ Seconds n) where
       start-read : startAt base at bs
-          ≡ secondsIf (leb base day && ltb ((day - base) * secondsOfDay + n) startLimit) ((day - base) * secondsOfDay + n)
+          ≡ secondsIf (leb base day && ltb ((day - base) * secondsOfDay + n) windowSeconds) ((day - base) * secondsOfDay + n)
       unfolding timeAt
       start-read =
-          let time : Bool = isTime startHoursMost (bytesAt (at + 2) 3 bs) in
+          let time : Bool = isTime startHoursMax (bytesAt (at + 2) 3 bs) in
           let (passed, same) = seconds-only (leb (at + 2 + 3) (length bs) && time) (secondsOf (bytesAt (at + 2) 3 bs)) n is-time in
           let (room, shown) = and-parts (leb (at + 2 + 3) (length bs)) time passed in
           start-parts fits ∙ rw (true-is time shown, same, is-day)
@@ -173,12 +173,12 @@ module _ (base at : ℕ) (bs : List ℕ) where
       pub start-early : day < base → startAt base at bs ≡ Broken
       start-early early = start-read ∙ rw (lt-leb base day early)
 
-      pub start-late : base ≤ day → startLimit ≤ (day - base) * secondsOfDay + n → startAt base at bs ≡ Broken
-      start-late later late = start-read ∙ rw (le-leb base day later, le-ltb ((day - base) * secondsOfDay + n) startLimit late)
+      pub start-late : base ≤ day → windowSeconds ≤ (day - base) * secondsOfDay + n → startAt base at bs ≡ Broken
+      start-late later late = start-read ∙ rw (le-leb base day later, le-ltb ((day - base) * secondsOfDay + n) windowSeconds late)
 
-      pub start-shown : base ≤ day → (day - base) * secondsOfDay + n < startLimit
+      pub start-shown : base ≤ day → (day - base) * secondsOfDay + n < windowSeconds
           → startAt base at bs ≡ Seconds ((day - base) * secondsOfDay + n)
-      start-shown later soon = start-read ∙ rw (le-leb base day later, lt-ltb ((day - base) * secondsOfDay + n) startLimit soon)
+      start-shown later soon = start-read ∙ rw (le-leb base day later, lt-ltb ((day - base) * secondsOfDay + n) windowSeconds soon)
 
   -- what was found in bytes that are there
   pub no-start : at + 5 ≤ length bs → startAt base at bs ≡ Broken → isStartBytes base (bytesAt at 5 bs) ≡ false

@@ -17,7 +17,7 @@ secondsIf test seconds = elim test [ true ↦ Seconds seconds | false ↦ Broken
 
 -- six BCD digits hhmmss
 unfoldable pub timeAt : ℕ → ℕ → List ℕ → TimeRead
-timeAt hoursMost at bs = secondsIf (leb (at + 3) (length bs) && isTime hoursMost (bytesAt at 3 bs)) (secondsOf (bytesAt at 3 bs))
+timeAt hoursMax at bs = secondsIf (leb (at + 3) (length bs) && isTime hoursMax (bytesAt at 3 bs)) (secondsOf (bytesAt at 3 bs))
 
 unfoldable pub durationAt : ℕ → List ℕ → TimeRead
 durationAt at bs = secondsIf (leb (at + 3) (length bs) && isDurationBytes (bytesAt at 3 bs)) (secondsOf (bytesAt at 3 bs))

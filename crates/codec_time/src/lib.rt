@@ -5,7 +5,7 @@ use eit::Time;
 ghost use mathlib.Core.Path.{_≡_};
 ghost use mathlib.Core.Bool.{_&&_};
 ghost use Prim.Native.Nat.{_+_, _*_, _<_};
-ghost use Rattle.eit.specs.Limits.{minutesMost, secondsMost};
+ghost use Rattle.eit.specs.Limits.{minutesMax, secondsMax};
 ghost use Rattle.eit.specs.Time.{timeOf, toBcd, timeBytes, startBytes, durationBytes, isBcd, ofBcd, isBcdUpTo};
 ghost use Rattle.codec.specs.Write.{writeAt};
 ghost use Rattle.codec_time.specs.TimeRead.{timeAt, durationAt, startAt};
@@ -85,10 +85,10 @@ fn is_bcd_up_to(most: u8, byte: u8) -> bool
 
 // Whether three bytes are six BCD digits hhmmss with hours of at most `most`.
 fn is_time(most: u8, hours: u8, minutes: u8, seconds: u8) -> bool
-    ensures { λ r. ⌜ r ≡ (isBcdUpTo most hours && (isBcdUpTo minutesMost minutes && isBcdUpTo secondsMost seconds)) ⌝ }
+    ensures { λ r. ⌜ r ≡ (isBcdUpTo most hours && (isBcdUpTo minutesMax minutes && isBcdUpTo secondsMax seconds)) ⌝ }
 {
     is_bcd_up_to(most, hours)
-        && (is_bcd_up_to(Time::MINUTES_MOST, minutes) && is_bcd_up_to(Time::SECONDS_MOST, seconds))
+        && (is_bcd_up_to(Time::MINUTES_MAX, minutes) && is_bcd_up_to(Time::SECONDS_MAX, seconds))
 }
 
 // The seconds of six BCD digits hhmmss.
@@ -118,7 +118,7 @@ fn read_time(bytes: &[u8], at: usize, most: u8) -> TimeRead
 pub fn read_duration(bytes: &[u8], at: usize) -> TimeRead
     ensures { λ r. ⌜ r ≡ durationAt at (now (bytes .entry)) ⌝ }
 {
-    let TimeRead::Seconds(duration) = read_time(bytes, at, Time::DURATION_HOURS_MOST) else {
+    let TimeRead::Seconds(duration) = read_time(bytes, at, Time::DURATION_HOURS_MAX) else {
         return TimeRead::Broken;
     };
     if Time::is_duration(duration) {
@@ -135,7 +135,7 @@ pub fn read_start(bytes: &[u8], at: usize, base_day: u32) -> TimeRead
     if !fields::is_within(bytes.len(), at, 5) {
         return TimeRead::Broken;
     }
-    let TimeRead::Seconds(time) = read_time(bytes, at + 2, Time::START_HOURS_MOST) else {
+    let TimeRead::Seconds(time) = read_time(bytes, at + 2, Time::START_HOURS_MAX) else {
         return TimeRead::Broken;
     };
     let day = fields::read_field(bytes, at, 2);
@@ -143,7 +143,7 @@ pub fn read_start(bytes: &[u8], at: usize, base_day: u32) -> TimeRead
         return TimeRead::Broken;
     }
     let start = (day - base_day) as usize * SECONDS_OF_DAY as usize + time as usize;
-    if start < Time::START_LIMIT as usize {
+    if start < Time::WINDOW_SECONDS as usize {
         TimeRead::Seconds(start as u32)
     } else {
         TimeRead::Broken

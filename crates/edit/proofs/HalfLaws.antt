@@ -12,7 +12,7 @@ use Rattle.eit.specs.Pools.{lentPools}
 use Rattle.eit.specs.Records.{EventList}
 use Rattle.eit.specs.Sound.{sound}
 use Rattle.script.specs.Form.{Command}
-use Rattle.script.specs.Struck.{live, passed}
+use Rattle.script.specs.Struck.{live, pendingBefore}
 use Rattle.script.specs.Edit.{Edited, run}
 use Rattle.script.proofs.Struck.{live-append}
 use Rattle.script.proofs.Edit.{run-append, run-sound}
@@ -33,7 +33,7 @@ module _ (script : List ℕ) (k at h mid : ℕ) (fits : h ≤ k) (there : mid �
   half-within within = omega (arith, ap length behind, length-drop h (commandsAt at script))
 
   -- and the first has q UNDOs pending behind it
-  live-halves : (p q : ℕ) → q ≡ passed p (take (k - h) (commandsAt mid script))
+  live-halves : (p q : ℕ) → q ≡ pendingBefore p (take (k - h) (commandsAt mid script))
       → live p (take k (commandsAt at script)) ≡ live q (take h (commandsAt at script)) ++ live p (take (k - h) (commandsAt mid script))
   live-halves p q before =
       let first : List Command = take h (commandsAt at script) in
@@ -58,7 +58,7 @@ module _ (sizes : Sizes) (day series : List ℕ) (list : EventList) (script : Li
 
     -- o is what the first half comes to
     module _ (h mid : ℕ) (fits : h ≤ k) (there : mid ≡ offsetBehind h at script)
-        (q : ℕ) (before : q ≡ passed p (take (k - h) (commandsAt mid script)))
+        (q : ℕ) (before : q ≡ pendingBefore p (take (k - h) (commandsAt mid script)))
         (o : Edited) (does : runPart sizes day series list q h at script ≡ o) where
       halves : runPart sizes day series list p k at script
           ≡ run sizes (lentPools day series) list (live q (take h (commandsAt at script)) ++ live p (take (k - h) (commandsAt mid script)))

@@ -13,7 +13,7 @@ use Rattle.eit.specs.Records.{EventList, recordSize}
 use Rattle.eit.specs.Sound.{sound}
 use Rattle.codec.specs.Seen.{isSeen}
 use Rattle.script.specs.Form.{Command}
-use Rattle.edit_answer.specs.Told.{answerNumber}
+use Rattle.edit_answer.specs.Outcome.{answerNumber}
 use Rattle.edit_index.specs.Index.{Index, indexedList}
 use Rattle.edit.specs.Run.{runOne}
 use Rattle.edit.specs.Indexed.{Kept, Leaves}

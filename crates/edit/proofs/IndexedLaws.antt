@@ -13,11 +13,11 @@ use Rattle.eit.specs.declared.Sizes.{Sizes}
 use Rattle.eit.specs.Pools.{lentPools}
 use Rattle.eit.specs.Overwrite.{overwrite}
 use Rattle.eit.specs.Among.{isAmong}
-use Rattle.eit.specs.Find.{indexOf, placeOf}
+use Rattle.eit.specs.Find.{positionOf, placeOf}
 use Rattle.eit.specs.Records.{EventList, lentList, recordSize, recordsOf, numbersOfAll}
 use Rattle.eit.specs.Sound.{idsOf}
 use Rattle.eit.specs.declared.Record.{Record}
-use Rattle.eit.proofs.Find.{index-length}
+use Rattle.eit.proofs.Find.{position-length}
 use Rattle.eit.proofs.Overwrite.{over-again, over-length}
 use Rattle.eit.proofs.Records.{numbers-length, numbers-append}
 use Rattle.eit.proofs.Test.{le-or-lt}
@@ -28,10 +28,10 @@ use Rattle.script.proofs.Placing.{without-length}
 use Rattle.script.proofs.Steps.{withdraw-6, withdraw-passes}
 use Rattle.list_records.specs.Written.{recordWritten}
 use Rattle.list_records.proofs.WriteLaws.{over-ahead, written-is}
-use Rattle.edit_answer.specs.Told.{told}
+use Rattle.edit_answer.specs.Outcome.{outcomeOf}
 use Rattle.edit_answer.specs.declared.EditAnswer.{EditAnswer}
 use Rattle.edit_answer.specs.declared.EditAnswer.the-variants.{Done, WrongId}
-use Rattle.edit_index.specs.Index.{idLimit, slotRecord, recordsAt, Ordered, Index, indexedNumbers, indexedList}
+use Rattle.edit_index.specs.Index.{idLimit, slotRecord, slotRecords, Ordered, Index, indexedNumbers, indexedList}
 use Rattle.edit_index.proofs.IndexLaws.{held-length, index-records, id-absent, id-present, id-record, take-out-records, take-out-index}
 use Rattle.edit_index.proofs.SlotLaws.{below-more}
 use Rattle.edit_index.proofs.RiseLaws.{own-place}
@@ -57,7 +57,7 @@ kept-ordered list slots order ids count used k =
 
 module _ (sizes : Sizes) (day series list slots order ids : List ℕ) (count used : ℕ) (k : Kept list slots order ids count used) (at : ℕ) where
   abbrev rs : List Record
-  rs = recordsAt slots (take count order)
+  rs = slotRecords slots (take count order)
 
   abbrev stands : EventList
   stands = indexedList list slots order count
@@ -79,7 +79,7 @@ module _ (sizes : Sizes) (day series list slots order ids : List ℕ) (count use
   refuses a number q = one-refused sizes (lentPools day series) stands (record { at = at; act = a }) number q
 
   pub stays : (a : Act) (answer : EditAnswer)
-      → does a ≡ told (record { answer = answer; count = count }) (indexedNumbers list slots order count)
+      → does a ≡ outcomeOf (record { answer = answer; count = count }) (indexedNumbers list slots order count)
       → Leaves (does a) (record { answer = answer; count = count; used = used }) list slots order ids
   stays a answer q = record { says = q; index = k .index; fits = k .fits }
 
@@ -108,7 +108,7 @@ module _ (sizes : Sizes) (day series list slots order ids : List ℕ) (count use
   -- ---- the record of an id
 
   module _ (id number : ℕ) (found : number ≡ getD ids id 0) where
-    pub absent : number ≡ 0 → T (not (isAmong id (idsOf (recordsAt slots (take count order)))))
+    pub absent : number ≡ 0 → T (not (isAmong id (idsOf (slotRecords slots (take count order)))))
     absent none =
         ⊎-elim (λ large. not-T (isAmong id (idsOf rs)) (λ a. omega (arith, k .small id a)))
         (λ small. id-absent slots order ids count used (k .index) id small (sym found ∙ none)) (le-or-lt idLimit id)
@@ -119,35 +119,35 @@ module _ (sizes : Sizes) (day series list slots order ids : List ℕ) (count use
           ⊎-elim (λ large. absurd (some (found ∙ List·getD-eq-default ids 0 (omega (arith, k .index .idsSize))))) (λ small. small)
           (le-or-lt idLimit id)
 
-      pub present : T (isAmong id (idsOf (recordsAt slots (take count order))))
+      pub present : T (isAmong id (idsOf (slotRecords slots (take count order))))
       present = id-present slots order ids count used (k .index) id id-small (λ z. some (found ∙ z))
 
       module _ (event : Record) (is : event ≡ slotRecord slots (number - 1)) where
-        pub its-record : event ≡ find id (recordsAt slots (take count order))
+        pub its-record : event ≡ find id (slotRecords slots (take count order))
         its-record =
             is ∙ id-record slots order ids count used (k .index) id id-small present (number - 1) (ap (λ (n : ℕ). n - 1) found)
 
         -- it stands before the place of its start
-        module _ (place : ℕ) (at-place : place ≡ placeOf (event .start) (recordsAt slots (take count order))) where
-          pub its-place : place ≡ suc (indexOf id (recordsAt slots (take count order)))
+        module _ (place : ℕ) (at-place : place ≡ placeOf (event .start) (slotRecords slots (take count order))) where
+          pub its-place : place ≡ suc (positionOf id (slotRecords slots (take count order)))
           its-place = at-place ∙ ap (λ (r : Record). placeOf (r .start) rs) its-record ∙ own-place id rs present (k .rises)
 
-          its-index : place - 1 ≡ indexOf id (recordsAt slots (take count order))
-          its-index = omega (arith, its-place)
+          its-position : place - 1 ≡ positionOf id (slotRecords slots (take count order))
+          its-position = omega (arith, its-place)
 
           pub some-records : place ≤ count
-          some-records = omega (arith, its-place, index-length id rs present, records-length)
+          some-records = omega (arith, its-place, position-length id rs present, records-length)
 
           module _ (newOrder newIds : List ℕ) (out : TakenOut order ids count (place - 1) id newOrder newIds) where
-            pub out-records : recordsAt slots (take (count - 1) newOrder) ≡ without id (recordsAt slots (take count order))
+            pub out-records : slotRecords slots (take (count - 1) newOrder) ≡ without id (slotRecords slots (take count order))
             out-records =
-                ap (λ (o : List ℕ). recordsAt slots (take (count - 1) o)) (out .orderIs)
-                ∙ take-out-records slots order ids count used (k .index) id id-small present (k .differ) (place - 1) its-index
+                ap (λ (o : List ℕ). slotRecords slots (take (count - 1) o)) (out .orderIs)
+                ∙ take-out-records slots order ids count used (k .index) id id-small present (k .differ) (place - 1) its-position
 
             pub out-index : Index slots newOrder newIds (count - 1) used
             out-index =
                 rw (out .orderIs, out .idsAre)
-                (take-out-index slots order ids count used (k .index) id id-small present (k .differ) (place - 1) its-index)
+                (take-out-index slots order ids count used (k .index) id id-small present (k .differ) (place - 1) its-position)
 
     -- ---- WITHDRAW
 
@@ -158,7 +158,7 @@ module _ (sizes : Sizes) (day series list slots order ids : List ℕ) (count use
         (refuses (withdraw id) 6 (withdraw-6 sizes (lentPools day series) stands id (rw stands-records (absent none))))
 
     pub withdraw-present : (some : number ≡ 0 → ⊥) (event : Record) → event ≡ slotRecord slots (number - 1)
-        → (place : ℕ) → place ≡ placeOf (event .start) (recordsAt slots (take count order)) → (newList newOrder newIds : List ℕ)
+        → (place : ℕ) → place ≡ placeOf (event .start) (slotRecords slots (take count order)) → (newList newOrder newIds : List ℕ)
         → newList ≡ recordWritten list (count - 1) zeroRecord → TakenOut order ids count (place - 1) id newOrder newIds
         → Leaves (does (withdraw id)) (record { answer = Done; count = count - 1; used = used }) newList slots newOrder newIds
     withdraw-present some event is place at-place newList newOrder newIds cleared out =

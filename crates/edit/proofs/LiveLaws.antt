@@ -15,22 +15,22 @@ use Rattle.eit.proofs.Test.{eq-or-not}
 use Rattle.codec.specs.Seen.{isSeen, withSeen}
 use Rattle.codec.proofs.SeenLaws.{seen-length, seen-same, seen-other}
 use Rattle.script.specs.Form.{Edit, Command, doEdit, undo}
-use Rattle.script.specs.Struck.{passed, unlessStruck, live}
+use Rattle.script.specs.Struck.{pendingBefore, unlessStruck, live}
 use Rattle.edit.specs.Run.{editsOf}
 use Rattle.edit.specs.Live.{beginsUndo, beginsLive, NoPlaces, UndoPlaces, LivePlaces}
 
 -- ---- the first command, with p UNDOs pending behind them all
 
-undo-first : (p : ℕ) (cs : List Command) → beginsUndo cs ≡ true → (passed p cs ≡ passed p (drop 1 cs) + 1) × (beginsLive p cs ≡ false)
+undo-first : (p : ℕ) (cs : List Command) → beginsUndo cs ≡ true → (pendingBefore p cs ≡ pendingBefore p (drop 1 cs) + 1) × (beginsLive p cs ≡ false)
 undo-first p [] u = let never : _≡_ {A = ℕ} 0 1 = cc in absurd (omega arith)
 undo-first p (doEdit e ∷ cs) u = let never : _≡_ {A = ℕ} 0 1 = cc in absurd (omega arith)
 undo-first p (undo at ∷ cs) u = (omega arith, refl)
 
 edit-first : (p : ℕ) (cs : List Command) → 0 < length cs → beginsUndo cs ≡ false
-    → (passed p cs ≡ passed p (drop 1 cs) - 1) × (beginsLive p cs ≡ eqb (passed p (drop 1 cs)) 0)
+    → (pendingBefore p cs ≡ pendingBefore p (drop 1 cs) - 1) × (beginsLive p cs ≡ eqb (pendingBefore p (drop 1 cs)) 0)
 edit-first p [] some u = absurd (omega arith)
 edit-first p (doEdit e ∷ cs) some u =
-    let one : pred (passed p cs) ≡ passed p cs - 1 = omega arith in
+    let one : pred (pendingBefore p cs) ≡ pendingBefore p cs - 1 = omega arith in
     (one, refl)
 edit-first p (undo at ∷ cs) some u = let never : _≡_ {A = ℕ} 0 1 = cc in absurd (omega arith)
 
@@ -44,7 +44,7 @@ pub record StruckFrom (undo-places : List ℕ) (k undos : ℕ) (places₀ places
   pub room : pending ≤ undos + (k - place)
   pub clear : (m : ℕ) → m < place → isSeen places m ≡ false
   pub known : (cs : List Command) → length cs ≡ k → UndoPlaces undo-places cs
-      → (pending ≡ passed undos (drop place cs)) × ((m : ℕ) → place ≤ m → m < k → isSeen places m ≡ beginsLive undos (drop m cs))
+      → (pending ≡ pendingBefore undos (drop place cs)) × ((m : ℕ) → place ≤ m → m < k → isSeen places m ≡ beginsLive undos (drop m cs))
 
 module _ (undo-places : List ℕ) (k undos : ℕ) (places₀ : List ℕ) where
   pub struck-none : NoPlaces places₀ → StruckFrom undo-places k undos places₀ places₀ undos k
@@ -54,15 +54,15 @@ module _ (undo-places : List ℕ) (k undos : ℕ) (places₀ : List ℕ) where
         size = refl;
         room = omega arith;
         clear = λ m h. none m;
-        known = λ cs all are. (sym (ap (passed undos) (drop-of-length-le cs {i = k} (omega arith))), λ m from to. absurd (omega arith));
+        known = λ cs all are. (sym (ap (pendingBefore undos) (drop-of-length-le cs {i = k} (omega arith))), λ m from to. absurd (omega arith));
       }
 
   module _ {places : List ℕ} {pending place : ℕ} (s : StruckFrom undo-places k undos places₀ places pending place) where
     pub struck-all : place ≤ 0 → (cs : List Command) → length cs ≡ k → UndoPlaces undo-places cs
-        → LivePlaces places undos cs × (pending ≡ passed undos cs)
+        → LivePlaces places undos cs × (pending ≡ pendingBefore undos cs)
     struck-all none cs all are =
         let first : place ≡ 0 = omega arith in
-        (λ i h. s .known cs all are .1 i (omega arith) (omega arith), s .known cs all are .0 ∙ ap (λ (n : ℕ). passed undos (drop n cs)) first)
+        (λ i h. s .known cs all are .1 i (omega arith) (omega arith), s .known cs all are .0 ∙ ap (λ (n : ℕ). pendingBefore undos (drop n cs)) first)
 
     module _ (some : 0 < place) where
       behind : (cs : List Command) → drop 1 (drop (place - 1) cs) ≡ drop place cs
@@ -79,7 +79,7 @@ module _ (undo-places : List ℕ) (k undos : ℕ) (places₀ : List ℕ) where
             clear = λ m h. s .clear m (omega arith);
             known = λ cs all are.
                 let first = undo-first undos (drop (place - 1) cs) (sym (are (place - 1) (omega (arith, s .few))) ∙ u) in (
-                  omega (arith, s .known cs all are .0, first .0, ap (passed undos) (behind cs)),
+                  omega (arith, s .known cs all are .0, first .0, ap (pendingBefore undos) (behind cs)),
                   λ m from to.
                       ⊎-elim (λ here. rw here (s .clear (place - 1) (omega arith) ∙ sym (first .1)))
                       (λ ne. s .known cs all are .1 m (omega (arith, ne)) to) (eq-or-not m (place - 1)),
@@ -89,11 +89,11 @@ module _ (undo-places : List ℕ) (k undos : ℕ) (places₀ : List ℕ) where
       module _ (e : isSeen undo-places (place - 1) ≡ false) where
         -- the edit at the place before
         edit-there : (cs : List Command) → length cs ≡ k → UndoPlaces undo-places cs
-            → (passed undos (drop (place - 1) cs) ≡ pending - 1) × (beginsLive undos (drop (place - 1) cs) ≡ eqb pending 0)
+            → (pendingBefore undos (drop (place - 1) cs) ≡ pending - 1) × (beginsLive undos (drop (place - 1) cs) ≡ eqb pending 0)
         edit-there cs all are =
             let some-left : 0 < length (drop (place - 1) cs) = omega (arith, s .few, length-drop (place - 1) cs) in
             let first = edit-first undos (drop (place - 1) cs) some-left (sym (are (place - 1) (omega (arith, s .few))) ∙ e) in
-            let pends : passed undos (drop 1 (drop (place - 1) cs)) ≡ pending = ap (passed undos) (behind cs) ∙ sym (s .known cs all are .0) in
+            let pends : pendingBefore undos (drop 1 (drop (place - 1) cs)) ≡ pending = ap (pendingBefore undos) (behind cs) ∙ sym (s .known cs all are .0) in
             (first .0 ∙ ap (λ (n : ℕ). n - 1) pends, first .1 ∙ ap (λ (n : ℕ). eqb n 0) pends)
 
         struck-edit : 0 < pending → StruckFrom undo-places k undos places₀ places (pending - 1) (place - 1)
@@ -160,9 +160,9 @@ module _ (p : ℕ) where
   taken (suc q) e es n = refl
 
   pub live-begins : (c : Command) (cs : List Command) → beginsLive p (c ∷ cs) ≡ true → live p (c ∷ cs) ≡ editsOf c ++ live p cs
-  live-begins (doEdit e) cs t = kept (passed p cs) e (live p cs) (eqb-true (passed p cs) 0 t)
+  live-begins (doEdit e) cs t = kept (pendingBefore p cs) e (live p cs) (eqb-true (pendingBefore p cs) 0 t)
   live-begins (undo at) cs t = let never : _≡_ {A = ℕ} 0 1 = cc in absurd (omega arith)
 
   pub live-passes : (c : Command) (cs : List Command) → beginsLive p (c ∷ cs) ≡ false → live p (c ∷ cs) ≡ live p cs
-  live-passes (doEdit e) cs t = taken (passed p cs) e (live p cs) (eqb-false (passed p cs) 0 t)
+  live-passes (doEdit e) cs t = taken (pendingBefore p cs) e (live p cs) (eqb-false (pendingBefore p cs) 0 t)
   live-passes (undo at) cs t = refl

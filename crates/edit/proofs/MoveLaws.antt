@@ -10,11 +10,11 @@ use borrow.Author.Tests.{le-leb, lt-leb}
 use lib.Dec.{T, ltb}
 use lib.ListN.{length, getD, take, drop}
 use Rattle.eit.specs.declared.Sizes.{Sizes}
-use Rattle.eit.specs.Limits.{startLimit}
+use Rattle.eit.specs.Limits.{windowSeconds}
 use Rattle.eit.specs.Pools.{lentPools}
 use Rattle.eit.specs.Overwrite.{overwrite}
 use Rattle.eit.specs.Among.{isAmong}
-use Rattle.eit.specs.Find.{indexOf, placeOf}
+use Rattle.eit.specs.Find.{positionOf, placeOf}
 use Rattle.eit.specs.Records.{EventList, lentList, recordsOf, numbersOfAll}
 use Rattle.eit.specs.Sound.{idsOf, startsOf}
 use Rattle.eit.specs.declared.Record.{Record}
@@ -27,7 +27,7 @@ use Rattle.script.proofs.Places.{insert-place}
 use Rattle.script.proofs.Steps.{move-5, move-6, move-7, move-passes}
 use Rattle.edit_answer.specs.declared.EditAnswer.{EditAnswer}
 use Rattle.edit_answer.specs.declared.EditAnswer.the-variants.{Done, OutOfRange, WrongId, StartTaken}
-use Rattle.edit_index.specs.Index.{slotLimit, slotRecord, recordsAt, Index, indexedNumbers, indexedList}
+use Rattle.edit_index.specs.Index.{slotLimit, slotRecord, slotRecords, Index, indexedNumbers, indexedList}
 use Rattle.edit_index.proofs.IndexLaws.{held-length, add-records, add-index}
 use Rattle.edit_index.proofs.RiseLaws.{without-starts, own-start, place-left-before, place-left-behind}
 use Rattle.edit.specs.Indexed.{placeIn, placeLeft, Added, TakenOut, Kept, Leaves}
@@ -39,7 +39,7 @@ use Rattle.edit.proofs.PutLaws.{holds, fails}
 module _ (sizes : Sizes) (day series list slots order ids : List ℕ) (count used : ℕ) (k : Kept list slots order ids count used) (at : ℕ)
     (id start : ℕ) where
   abbrev rs : List Record
-  rs = recordsAt slots (take count order)
+  rs = slotRecords slots (take count order)
 
   abbrev stands : EventList
   stands = indexedList list slots order count
@@ -49,13 +49,13 @@ module _ (sizes : Sizes) (day series list slots order ids : List ℕ) (count use
       Leaves (does sizes day series list slots order ids count used k at (move id start)) (record { answer = answer; count = count; used = used })
       list slots order ids
 
-  pub move-outside : ltb start startLimit ≡ false → Refused (OutOfRange at)
+  pub move-outside : ltb start windowSeconds ≡ false → Refused (OutOfRange at)
   move-outside e =
       stays sizes day series list slots order ids count used k at (move id start) (OutOfRange at)
       (refuses sizes day series list slots order ids count used k at (move id start) 5
       (move-5 sizes (lentPools day series) stands id start (fails e)))
 
-  module _ (range : ltb start startLimit ≡ true) (number : ℕ) (found : number ≡ getD ids id 0) where
+  module _ (range : ltb start windowSeconds ≡ true) (number : ℕ) (found : number ≡ getD ids id 0) where
     pub move-absent : number ≡ 0 → Refused (WrongId at)
     move-absent none =
         stays sizes day series list slots order ids count used k at (move id start) (WrongId at)
@@ -100,7 +100,7 @@ module _ (sizes : Sizes) (day series list slots order ids : List ℕ) (count use
 
       module _ (place : ℕ) (was : place ≡ placeOf (event .start) rs) (midOrder midIds : List ℕ)
           (out : TakenOut order ids count (place - 1) id midOrder midIds) where
-        left-records : recordsAt slots (take (count - 1) midOrder) ≡ without id rs
+        left-records : slotRecords slots (take (count - 1) midOrder) ≡ without id rs
         left-records =
             out-records sizes day series list slots order ids count used k at id number found some event is place was midOrder midIds out
 
@@ -120,7 +120,7 @@ module _ (sizes : Sizes) (day series list slots order ids : List ℕ) (count use
         -- the place among what is left
         left-place : (p : Place) → p ≡ placeIn start rs → placeLeft (p .place) place ≡ placeOf start (without id rs)
         left-place p at-place =
-            let was-place : place ≡ suc (indexOf id rs) =
+            let was-place : place ≡ suc (positionOf id rs) =
             its-place sizes day series list slots order ids count used k at id number found some event is place was in
             let all : p .place ≡ placeOf start rs = ap (λ (q : Place). q .place) at-place in
             ⊎-elim
@@ -144,7 +144,7 @@ module _ (sizes : Sizes) (day series list slots order ids : List ℕ) (count use
             let again : count - 1 + 1 ≡ count = omega arith in
             let its-id : moved .id ≡ id = ap (λ (q : Record). q .id) same ∙ find-id id rs old in
             let small = id-small sizes day series list slots order ids count used k at id number found some in
-            let gone : T (not (isAmong (moved .id) (idsOf (recordsAt slots (take (count - 1) midOrder))))) =
+            let gone : T (not (isAmong (moved .id) (idsOf (slotRecords slots (take (count - 1) midOrder))))) =
             rw (left-records, its-id) (without-gone id rs (k .differ)) in
             let at-next : next ≡ placeOf start left = is-next ∙ left-place p at-place in
             let there : next ≤ count - 1 =
@@ -155,8 +155,8 @@ module _ (sizes : Sizes) (day series list slots order ids : List ℕ) (count use
               ap length left-records,
             ) in
             let room = k .index .few in
-            let records : recordsAt newSlots (take count newOrder) ≡ insert r left =
-            ap (λ (n : ℕ). recordsAt newSlots (take n newOrder)) (sym again)
+            let records : slotRecords newSlots (take count newOrder) ≡ insert r left =
+            ap (λ (n : ℕ). slotRecords newSlots (take n newOrder)) (sym again)
             ∙ (rw (added .slotsAre, added .orderIs)
             (add-records slots midOrder midIds (count - 1) used left-index next moved there (omega arith) slot (omega arith) gone))
             ∙ ap (λ (qs : List Record). take next qs ++ moved ∷ drop next qs) left-records

@@ -11,7 +11,7 @@ use lib.Dec.{T, eqb, ltb}
 use lib.ListN.{length, getD, take}
 use Rattle.eit.proofs.Test.{le-or-lt, eq-or-not}
 use Rattle.script.specs.Form.{Command, doEdit, undo, operandBytes}
-use Rattle.script.specs.Struck.{passed, unlessStruck, live}
+use Rattle.script.specs.Struck.{pendingBefore, unlessStruck, live}
 use Rattle.edit_scan.specs.Commands.{isWholeAt, commandsAt}
 use Rattle.edit_scan.proofs.CommandLaws.{commands-edit, commands-undo}
 use Rattle.edit_scan.proofs.PartLaws.{take-more}
@@ -20,17 +20,17 @@ use Rattle.edit_scan.proofs.StrikeLaws.{byte-few}
 -- ---- UNDOs that are enough to strike all
 
 -- a command takes away one at most
-passed-least : (p : ℕ) (cs : List Command) → p ≤ passed p cs + length cs
-passed-least p [] = omega arith
-passed-least p (doEdit e ∷ cs) =
-    let rest : p ≤ passed p cs + length cs = passed-least p cs in
-    let one : p ≤ pred (passed p cs) + suc (length cs) = omega arith in
+pending-least : (p : ℕ) (cs : List Command) → p ≤ pendingBefore p cs + length cs
+pending-least p [] = omega arith
+pending-least p (doEdit e ∷ cs) =
+    let rest : p ≤ pendingBefore p cs + length cs = pending-least p cs in
+    let one : p ≤ pred (pendingBefore p cs) + suc (length cs) = omega arith in
     one
-passed-least p (undo at ∷ cs) = omega (arith, passed-least p cs)
+pending-least p (undo at ∷ cs) = omega (arith, pending-least p cs)
 
 pub live-none : (p : ℕ) (cs : List Command) → length cs ≤ p → live p cs ≡ []
 live-none p [] h = refl
-live-none p (doEdit e ∷ cs) h = struck (passed p cs) (omega (arith, passed-least p cs)) (live-none p cs (omega arith))
+live-none p (doEdit e ∷ cs) h = struck (pendingBefore p cs) (omega (arith, pending-least p cs)) (live-none p cs (omega arith))
   where
     struck : (q : ℕ) → 0 < q → live p cs ≡ [] → unlessStruck q e (live p cs) ≡ []
     struck zero h none = absurd (omega arith)
@@ -41,7 +41,7 @@ live-none p (undo at ∷ cs) h = live-none p cs (omega arith)
 
 -- p UNDOs are pending behind the commands; before them are `kept` edits that are not yet struck, and `over` UNDOs that found nothing
 abbrev pub pendingAfter : ℕ → ℕ → ℕ → List Command → ℕ
-pendingAfter over kept p cs = over + (passed p cs - kept)
+pendingAfter over kept p cs = over + (pendingBefore p cs - kept)
 
 -- as the code counts: 1 for an UNDO and 0 for an edit, and 1 for an UNDO that finds nothing to strike
 abbrev pub undoByte : ℕ → ℕ
@@ -77,7 +77,7 @@ module _ (over kept p k at : ℕ) (script : List ℕ) (next : ℕ)
       → pendingAfter over kept p (take k (commandsAt at script)) ≡ pendingAfter over (kept + 1) p (take (k - 1) (commandsAt next script))
   pending-edit n =
       let (f, here) = commands-edit at script next e whole n in
-      let counts : over + (pred (passed p rest) - kept) ≡ over + (passed p rest - (kept + 1)) = omega arith in
+      let counts : over + (pred (pendingBefore p rest) - kept) ≡ over + (pendingBefore p rest - (kept + 1)) = omega arith in
       ap (pendingAfter over kept p) (first (doEdit f) here) ∙ counts
 
   module _ (u : getD script at 0 ≡ 0x04) where
@@ -87,13 +87,13 @@ module _ (over kept p k at : ℕ) (script : List ℕ) (next : ℕ)
     pending-undo : (kept ≡ 0 → ⊥)
         → pendingAfter over kept p (take k (commandsAt at script)) ≡ pendingAfter over (kept - 1) p (take (k - 1) (commandsAt next script))
     pending-undo n =
-        let counts : over + (suc (passed p rest) - kept) ≡ over + (passed p rest - (kept - 1)) = omega (arith, n) in
+        let counts : over + (suc (pendingBefore p rest) - kept) ≡ over + (pendingBefore p rest - (kept - 1)) = omega (arith, n) in
         ap (pendingAfter over kept p) undone ∙ counts
 
     pending-over : kept ≡ 0
         → pendingAfter over kept p (take k (commandsAt at script)) ≡ pendingAfter (over + 1) kept p (take (k - 1) (commandsAt next script))
     pending-over none =
-        let counts : over + (suc (passed p rest) - kept) ≡ over + 1 + (passed p rest - kept) = omega arith in
+        let counts : over + (suc (pendingBefore p rest) - kept) ≡ over + 1 + (pendingBefore p rest - kept) = omega arith in
         ap (pendingAfter over kept p) undone ∙ counts
 
   abbrev undos : ℕ

@@ -27,7 +27,7 @@ use Rattle.script.proofs.Steps.{put-5, put-9, put-6, put-7, put-8, put-passes}
 use Rattle.eit.proofs.Find.{place-length}
 use Rattle.edit_answer.specs.declared.EditAnswer.{EditAnswer}
 use Rattle.edit_answer.specs.declared.EditAnswer.the-variants.{Done, OutOfRange, WrongId, StartTaken, ListFull, NoChain}
-use Rattle.edit_index.specs.Index.{slotLimit, orderLimit, idLimit, recordsAt, indexedNumbers, indexedList}
+use Rattle.edit_index.specs.Index.{slotLimit, orderLimit, idLimit, slotRecords, indexedNumbers, indexedList}
 use Rattle.edit_index.proofs.IndexLaws.{add-records, add-index}
 use Rattle.edit.specs.Indexed.{placeIn, Added, Kept, Leaves}
 use Rattle.edit.specs.declared.index.Place.{Place}
@@ -43,7 +43,7 @@ fails e = rw e tt
 module _ (sizes : Sizes) (day series list slots order ids : List ℕ) (count used : ℕ) (k : Kept list slots order ids count used) (at : ℕ)
     (r : Record) where
   abbrev rs : List Record
-  rs = recordsAt slots (take count order)
+  rs = slotRecords slots (take count order)
 
   abbrev stands : EventList
   stands = indexedList list slots order count
@@ -124,7 +124,7 @@ module _ (sizes : Sizes) (day series list slots order ids : List ℕ) (count use
               let there : p .place ≤ count =
               omega (arith, place-length (r .start) rs, records-length sizes day series list slots order ids count used k at) in
               let small : r .id < idLimit = omega (arith, range-facts r (holds range) .id) in
-              let records : recordsAt newSlots (take (count + 1) newOrder) ≡ insert r rs =
+              let records : slotRecords newSlots (take (count + 1) newOrder) ≡ insert r rs =
               rw (added .slotsAre, added .orderIs)
               (add-records slots order ids count used (k .index) (p .place) r there (omega arith) slot small new)
               ∙ ap (λ (n : ℕ). take n rs ++ r ∷ drop n rs) place

@@ -18,7 +18,7 @@ use Rattle.eit.proofs.Overwrite.{over-length}
 use Rattle.eit.proofs.Records.{records-length, record-at, numbers-length}
 use Rattle.eit.proofs.Sound.{RecordFacts, sound-list, valid-at, range-facts}
 use Rattle.script.specs.Machine.{zeroRecord}
-use Rattle.edit_index.specs.Index.{slotLimit, orderLimit, idLimit, slotRecord, recordsAt, Index, Loadable, Loaded, indexedNumbers, indexedList}
+use Rattle.edit_index.specs.Index.{slotLimit, orderLimit, idLimit, slotRecord, slotRecords, Index, Loadable, Loaded, indexedNumbers, indexedList}
 use Rattle.edit_index.proofs.IndexLaws.{held-length, index-records, index-none, indexed-own}
 use Rattle.edit_index.proofs.RiseLaws.{rising-starts}
 use Rattle.edit.specs.Indexed.{Kept, Renewed}
@@ -39,14 +39,14 @@ pub kept-sound : (sizes : Sizes) (day series list slots order ids : List ℕ) (c
     → Kept list slots order ids count used
 kept-sound sizes day series list slots order ids count used x fits t =
     let pools : Pools = lentPools day series in
-    let facts : RecordFacts pools (recordsAt slots (take count order)) =
+    let facts : RecordFacts pools (slotRecords slots (take count order)) =
     subst (RecordFacts pools) (index-records slots order ids count used x list) (sound-list sizes pools _ t .records) in
     record {
       index = x;
       fits = fits;
-      rises = rising-starts pools (recordsAt slots (take count order)) (facts .rises);
+      rises = rising-starts pools (slotRecords slots (take count order)) (facts .rises);
       differ = facts .differ;
-      small = ids-small pools (recordsAt slots (take count order)) (facts .valid);
+      small = ids-small pools (slotRecords slots (take count order)) (facts .valid);
     }
 
 -- what an index is made from
@@ -97,17 +97,17 @@ index-zeros slots order n slotsAre orderIs all =
 
 module _ (list slots order ids : List ℕ) (count used : ℕ) (k : Kept list slots order ids count used) (stored : List ℕ)
     (written : stored ≡ indexedNumbers list slots order count) where
-  stored-records : recordsIn count stored ≡ recordsAt slots (take count order)
+  stored-records : recordsIn count stored ≡ slotRecords slots (take count order)
   unfolding recordsOf
   stored-records = ap (recordsIn count) written ∙ index-records slots order ids count used (k .index) list
 
   pub stored-length : length stored ≡ length list
   stored-length =
       ap length written
-      ∙ over-length list 0 (numbersOfAll (recordsAt slots (take count order)))
+      ∙ over-length list 0 (numbersOfAll (slotRecords slots (take count order)))
       (omega (
         arith,
-        numbers-length (recordsAt slots (take count order)),
+        numbers-length (slotRecords slots (take count order)),
         held-length slots order ids count used (k .index),
         k .fits,
       ))
@@ -133,7 +133,7 @@ pub renewed-kept : (list slots order ids : List ℕ) (count used : ℕ) → Kept
     → Renewed (indexedList list slots order count) newList newSlots newOrder newIds count newUsed
     → Kept newList newSlots newOrder newIds count newUsed
 renewed-kept list slots order ids count used k newList newSlots newOrder newIds newUsed r =
-    let same : recordsAt newSlots (take count newOrder) ≡ recordsAt slots (take count order) =
+    let same : slotRecords newSlots (take count newOrder) ≡ slotRecords slots (take count order) =
     sym (index-records newSlots newOrder newIds count newUsed (r .index) newList)
     ∙ ap recordsOf (r .same)
     ∙ index-records slots order ids count used (k .index) list in

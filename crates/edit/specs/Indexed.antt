@@ -13,9 +13,9 @@ use Rattle.eit.specs.Records.{EventList, recordSize, numbersOf}
 use Rattle.eit.specs.Sound.{idsOf, startsOf}
 use Rattle.eit.specs.declared.Record.{Record}
 use Rattle.script.specs.Edit as model
-use Rattle.edit_answer.specs.Told.{told}
+use Rattle.edit_answer.specs.Outcome.{outcomeOf}
 use Rattle.edit_index.specs.Order.{withSlot, withoutSlot}
-use Rattle.edit_index.specs.Index.{slotLimit, idLimit, recordsAt, Rises, Index, indexedNumbers, indexedList}
+use Rattle.edit_index.specs.Index.{slotLimit, idLimit, slotRecords, Rises, Index, indexedNumbers, indexedList}
 use Rattle.edit.specs.declared.index.Place.{Place}
 use Rattle.edit.specs.declared.indexed.Reached.{Reached}
 
@@ -42,13 +42,13 @@ pub record TakenOut (order ids : List ℕ) (count place id : ℕ) (newOrder newI
 pub record Kept (list slots order ids : List ℕ) (count used : ℕ) : Type 0 where
   pub index : Index slots order ids count used
   pub fits : count * recordSize ≤ length list
-  pub rises : Rises (startsOf (recordsAt slots (take count order)))
-  pub differ : T (allDiffer (idsOf (recordsAt slots (take count order))))
-  pub small : (id : ℕ) → T (isAmong id (idsOf (recordsAt slots (take count order)))) → id < idLimit
+  pub rises : Rises (startsOf (slotRecords slots (take count order)))
+  pub differ : T (allDiffer (idsOf (slotRecords slots (take count order))))
+  pub small : (id : ℕ) → T (isAmong id (idsOf (slotRecords slots (take count order)))) → id < idLimit
 
 -- after it: o is what the plain machine comes to
 pub record Leaves (o : model.Edited) (r : Reached) (list slots order ids : List ℕ) : Type 0 where
-  pub says : o ≡ told (record { answer = r .answer; count = r .count }) (indexedNumbers list slots order (r .count))
+  pub says : o ≡ outcomeOf (record { answer = r .answer; count = r .count }) (indexedNumbers list slots order (r .count))
   pub index : Index slots order ids (r .count) (r .used)
   pub fits : r .count * recordSize ≤ length list
 

@@ -8,7 +8,7 @@ use lib.Dec.{eqb}
 use lib.ListN.{length, drop}
 use Rattle.codec.specs.Seen.{isSeen, withSeen}
 use Rattle.script.specs.Form.{Command, doEdit, undo}
-use Rattle.script.specs.Struck.{passed}
+use Rattle.script.specs.Struck.{pendingBefore}
 
 -- the most places that a set of them has room for
 abbrev pub placeLimit : ℕ
@@ -23,7 +23,7 @@ beginsUndo (undo at ∷ cs) = true
 -- it is an edit that is not struck, with p UNDOs pending behind the commands
 abbrev pub beginsLive : ℕ → List Command → Bool
 beginsLive p [] = false
-beginsLive p (doEdit e ∷ cs) = eqb (passed p cs) 0
+beginsLive p (doEdit e ∷ cs) = eqb (pendingBefore p cs) 0
 beginsLive p (undo at ∷ cs) = false
 
 -- a set with one more place, if a test holds

@@ -8,7 +8,7 @@ ghost use Prim.Native.Nat.{_+_, _*_, _/_, _≤_, _<_};
 ghost use lib.ListN.{length, getD, take, replicate};
 ghost use Rattle.eit.specs.Find.{placeOf};
 ghost use Rattle.eit.specs.Records.{recordSize};
-ghost use Rattle.edit_index.specs.Index.{slotRecord, recordsAt, Ordered, Index, Loadable, Loaded, indexedNumbers, indexedList};
+ghost use Rattle.edit_index.specs.Index.{slotRecord, slotRecords, Ordered, Index, Loadable, Loaded, indexedNumbers, indexedList};
 ghost use Rattle.edit.specs.Indexed.{placeIn, placeLeft, Added, TakenOut, Kept, Renewed};
 
 // Slots of an index: those of a full list, and at least as many for edits until it is made anew.
@@ -37,7 +37,7 @@ fn start_at(slots: &[u32], order: &[u16], i: usize) -> u32
 // The place before the first record that starts later: records before `low` start no later, those from `high` on later.
 pub fn place_of(slots: &[u32], order: &[u16], count: usize, start: u32) -> usize
     requires { ⌜ Ordered (now slots) (now order) count ⌝ }
-    ensures { λ r. ⌜ r ≡ placeOf start (recordsAt (now (slots .entry)) (take count (now (order .entry)))) ⌝ }
+    ensures { λ r. ⌜ r ≡ placeOf start (slotRecords (now (slots .entry)) (take count (now (order .entry)))) ⌝ }
 {
     let mut low = 0;
     let mut high = count;
@@ -55,7 +55,7 @@ pub fn place_of(slots: &[u32], order: &[u16], count: usize, start: u32) -> usize
 // The same place, and whether the record before it has the start.
 pub fn place_in(slots: &[u32], order: &[u16], count: usize, start: u32) -> Place
     requires { ⌜ Ordered (now slots) (now order) count ⌝ }
-    ensures { λ r. ⌜ r ≡ placeIn start (recordsAt (now (slots .entry)) (take count (now (order .entry)))) ⌝ }
+    ensures { λ r. ⌜ r ≡ placeIn start (slotRecords (now (slots .entry)) (take count (now (order .entry)))) ⌝ }
 {
     let place = place_of(slots, order, count, start);
     if place == 0 {

@@ -11,7 +11,7 @@ use list_records::records;
 use list_records::records::RECORD_SIZE;
 ghost use Prim.Native.Nat.{ℕ, _≤_, _<_};
 ghost use mathlib.Core.List.{List};
-ghost use Rattle.edit_scan.specs.Commands.{commandTold};
+ghost use Rattle.edit_scan.specs.Commands.{modelCommand};
 ghost use Rattle.edit_index.specs.Index.{slotLimit, orderLimit, indexedList};
 ghost use Rattle.edit.specs.Run.{runOne};
 ghost use Rattle.edit.specs.Indexed.{Kept, Leaves};
@@ -53,7 +53,7 @@ fn put_indexed<'a>(
     ensures { λ r. ⌜
         Leaves
         (runOne sizes (now (day .entry)) (now (series .entry))
-        (indexedList (now (list .entry)) (now (slots .entry)) (now (order .entry)) count) (commandTold at (Command.Put event)))
+        (indexedList (now (list .entry)) (now (slots .entry)) (now (order .entry)) count) (modelCommand at (Command.Put event)))
         r (now (list .entry)) (now (slots .exit)) (now (order .exit)) (now (ids .exit)) ⌝ }
 {
     if !list_sound::is_in_range(event) {
@@ -116,7 +116,7 @@ fn withdraw_indexed(
         ((sizes : Sizes) (day series : List ℕ) →
         Leaves
         (runOne sizes day series (indexedList (now (list .entry)) (now (slots .entry)) (now (order .entry)) count)
-        (commandTold at (Command.Withdraw id)))
+        (modelCommand at (Command.Withdraw id)))
         r (now (list .exit)) (now (slots .entry)) (now (order .exit)) (now (ids .exit))) ⌝ }
 {
     let number = index::slot_of(ids, id);
@@ -155,7 +155,7 @@ fn move_indexed(
         ((sizes : Sizes) (day series : List ℕ) →
         Leaves
         (runOne sizes day series (indexedList (now (list .entry)) (now (slots .entry)) (now (order .entry)) count)
-        (commandTold at (Command.Move id start)))
+        (modelCommand at (Command.Move id start)))
         r (now (list .entry)) (now (slots .exit)) (now (order .exit)) (now (ids .exit))) ⌝ }
 {
     if !Time::is_start(start) {
@@ -214,7 +214,7 @@ fn carry_out_indexed<'a>(
     ensures { λ r. ⌜
         Leaves
         (runOne sizes (now (day .entry)) (now (series .entry))
-        (indexedList (now (list .entry)) (now (slots .entry)) (now (order .entry)) count) (commandTold at command))
+        (indexedList (now (list .entry)) (now (slots .entry)) (now (order .entry)) count) (modelCommand at command))
         r (now (list .exit)) (now (slots .exit)) (now (order .exit)) (now (ids .exit)) ⌝ }
 {
     match command {
@@ -261,7 +261,7 @@ pub fn carry_out<'a>(
     ensures { λ r. ⌜
         Leaves
         (runOne sizes (now (day .entry)) (now (series .entry))
-        (indexedList (now (list .entry)) (now (slots .entry)) (now (order .entry)) count) (commandTold at command))
+        (indexedList (now (list .entry)) (now (slots .entry)) (now (order .entry)) count) (modelCommand at command))
         r (now (list .exit)) (now (slots .exit)) (now (order .exit)) (now (ids .exit)) ⌝ }
 {
     let free = index::renew(list, slots, order, ids, count, used);

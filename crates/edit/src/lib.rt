@@ -10,7 +10,7 @@ ghost use Rattle.eit.specs.Sizes.{broadcast};
 ghost use Rattle.eit.specs.Pools.{lentPools};
 ghost use Rattle.eit.specs.Records.{lentList};
 ghost use Rattle.script.specs.Edit.{edit};
-ghost use Rattle.edit_answer.specs.Told.{told};
+ghost use Rattle.edit_answer.specs.Outcome.{outcomeOf};
 ghost use Rattle.edit_index.specs.Index.{orderLimit};
 
 mod index;
@@ -32,7 +32,7 @@ fn edit_within<'a>(
     ensures { λ r. ⌜
         edit sizes (lentPools (now (day .entry)) (now (series .entry))) (lentList (now (list .entry)) count)
         (now (script .entry))
-        ≡ told r (now (list .exit)) ⌝ }
+        ≡ outcomeOf r (now (list .exit)) ⌝ }
 {
     if !list_sound::is_sound(list, count, day, series, sizes) {
         return Edited {
@@ -59,7 +59,7 @@ pub fn edit<'a>(
 ) -> Edited
     ensures { λ r. ⌜
         edit broadcast (lentPools (now (day .entry)) (now (series .entry))) (lentList (now (list .entry)) count) (now (script .entry))
-        ≡ told r (now (list .exit)) ⌝ }
+        ≡ outcomeOf r (now (list .exit)) ⌝ }
 {
     edit_within(list, count, day, series, script, Sizes::BROADCAST)
 }

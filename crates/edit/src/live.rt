@@ -9,7 +9,7 @@ ghost use mathlib.Core.List.{List};
 ghost use lib.ListN.{length, take};
 ghost use Rattle.codec.specs.Seen.{isSeen};
 ghost use Rattle.script.specs.Form.{Command};
-ghost use Rattle.script.specs.Struck.{passed};
+ghost use Rattle.script.specs.Struck.{pendingBefore};
 ghost use Rattle.edit_scan.specs.Commands.{commandsAt};
 ghost use Rattle.edit.specs.Live.{placeLimit, withPlaceIf, NoPlaces, UndoPlaces, LivePlaces};
 
@@ -42,7 +42,7 @@ pub fn live_in(undo_places: &[u64], k: usize, undos: usize, live_places: &mut [u
         (k ≤ 64 * length (now «live_places»)) × (k ≤ placeLimit) × (undos ≤ placeLimit) × NoPlaces (now «live_places») ⌝ }
     ensures { λ r. ⌜
         ((cs : List Command) → length cs ≡ k → UndoPlaces (now («undo_places» .entry)) cs
-        → LivePlaces (now («live_places» .exit)) undos cs × (r ≡ passed undos cs)) ⌝ }
+        → LivePlaces (now («live_places» .exit)) undos cs × (r ≡ pendingBefore undos cs)) ⌝ }
 {
     let mut pending = undos;
     let mut place = k;

@@ -18,11 +18,11 @@ ghost use lib.ListN.{length, take};
 ghost use Rattle.eit.specs.Pools.{lentPools};
 ghost use Rattle.eit.specs.Records.{lentList, recordSize};
 ghost use Rattle.eit.specs.Sound.{sound};
-ghost use Rattle.script.specs.Struck.{passed};
+ghost use Rattle.script.specs.Struck.{pendingBefore};
 ghost use Rattle.edit_scan.specs.Commands.{commandsAt};
 ghost use Rattle.edit.specs.Run.{runPart};
 ghost use Rattle.edit.specs.Live.{placeLimit, LivePlaces};
-ghost use Rattle.edit_answer.specs.Told.{told};
+ghost use Rattle.edit_answer.specs.Outcome.{outcomeOf};
 ghost use Rattle.edit_index.specs.Index.{orderLimit, Index, indexedNumbers, indexedList};
 
 // Places that a set has room for, and so the most commands of a part that is not halved; and its words of 64.
@@ -37,7 +37,7 @@ const IDS: usize = 65_536;
 // yet struck, `over` the UNDOs that find nothing among them to strike; with no branch that the processor would have to guess.
 fn pending_before(script: &[u8], at: usize, k: usize, undos: usize) -> usize
     requires { ⌜ (k ≤ length (commandsAt at (now script))) × (undos ≤ length (now script)) ⌝ }
-    ensures { λ r. ⌜ r ≡ passed undos (take k (commandsAt at (now (script .entry)))) ⌝ }
+    ensures { λ r. ⌜ r ≡ pendingBefore undos (take k (commandsAt at (now (script .entry)))) ⌝ }
 {
     let mut over: usize = 0;
     let mut kept: usize = 0;
@@ -81,7 +81,7 @@ fn run_indexed<'a>(
         ((undos : ℕ) → LivePlaces (now («live_places» .entry)) undos (take k (commandsAt at (now (script .entry))))
         → runPart sizes (now (day .entry)) (now (series .entry))
         (indexedList (now (list .entry)) (now (slots .entry)) (now (order .entry)) count) undos k at (now (script .entry))
-        ≡ told r (indexedNumbers (now (list .exit)) (now (slots .exit)) (now (order .exit)) (r .count)))
+        ≡ outcomeOf r (indexedNumbers (now (list .exit)) (now (slots .exit)) (now (order .exit)) (r .count)))
         × (r .count * recordSize ≤ length (now (list .exit))) × (r .count ≤ length (now (order .exit))) ⌝ }
 {
     let mut held = count;
@@ -104,10 +104,10 @@ fn run_indexed<'a>(
                 i,
                 command,
             );
-            let said = r.answer;
-            if edit_answer::number_of(said) != 0 {
+            let answer = r.answer;
+            if edit_answer::number_of(answer) != 0 {
                 return Edited {
-                    answer: said,
+                    answer,
                     count: r.count,
                 };
             }
@@ -142,7 +142,7 @@ pub fn run_live<'a>(
         ((undos : ℕ) → LivePlaces (now («live_places» .entry)) undos (take k (commandsAt at (now (script .entry))))
         → runPart sizes (now (day .entry)) (now (series .entry)) (lentList (now (list .entry)) count) undos k at
         (now (script .entry))
-        ≡ told r (now (list .exit))) ⌝ }
+        ≡ outcomeOf r (now (list .exit))) ⌝ }
 {
     let mut slots = [0u32; SLOT_LIMIT * RECORD_SIZE];
     let mut order = [0u16; EVENT_LIMIT];
@@ -187,7 +187,7 @@ fn run_short<'a>(
     ensures { λ r. ⌜
         runPart sizes (now (day .entry)) (now (series .entry)) (lentList (now (list .entry)) count) undos k at
         (now (script .entry))
-        ≡ told r (now (list .exit)) ⌝ }
+        ≡ outcomeOf r (now (list .exit)) ⌝ }
 {
     let mut undo_places = [0u64; PLACE_WORDS];
     live::undos_in(script, at, k, &mut undo_places);
@@ -215,7 +215,7 @@ pub fn run_part<'a>(
     ensures { λ r. ⌜
         runPart sizes (now (day .entry)) (now (series .entry)) (lentList (now (list .entry)) count) undos k at
         (now (script .entry))
-        ≡ told r (now (list .exit)) ⌝ }
+        ≡ outcomeOf r (now (list .exit)) ⌝ }
 {
     if k <= undos {
         return Edited {
@@ -231,8 +231,8 @@ pub fn run_part<'a>(
     let mid = scan::skip_commands(script, at, h);
     let before = pending_before(script, mid, rest, undos);
     let r = run_part(list, count, day, series, sizes, script, at, h, before);
-    let said = r.answer;
-    if edit_answer::number_of(said) != 0 {
+    let answer = r.answer;
+    if edit_answer::number_of(answer) != 0 {
         return r;
     }
     let n = r.count;

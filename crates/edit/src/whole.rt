@@ -17,8 +17,8 @@ ghost use Rattle.eit.specs.Records.{lentList};
 ghost use Rattle.eit.specs.Sound.{sound};
 ghost use Rattle.script.specs.Form.{formOf};
 ghost use Rattle.script.specs.Edit.{edit};
-ghost use Rattle.edit_scan.specs.Commands.{formTold};
-ghost use Rattle.edit_answer.specs.Told.{told};
+ghost use Rattle.edit_scan.specs.Commands.{formFound};
+ghost use Rattle.edit_answer.specs.Outcome.{outcomeOf};
 ghost use Rattle.edit_index.specs.Index.{orderLimit};
 ghost use Rattle.edit.specs.Live.{placeLimit};
 
@@ -34,11 +34,11 @@ fn edit_long<'a>(
 ) -> Edited
     requires { ⌜
         T (sound sizes (lentPools (now day) (now series)) (lentList (now list) count))
-        × (formTold (formOf (now script)) ≡ Form.Whole k) × (sizes .«event_limit» ≤ orderLimit) ⌝ }
+        × (formFound (formOf (now script)) ≡ Form.Whole k) × (sizes .«event_limit» ≤ orderLimit) ⌝ }
     ensures { λ r. ⌜
         edit sizes (lentPools (now (day .entry)) (now (series .entry))) (lentList (now (list .entry)) count)
         (now (script .entry))
-        ≡ told r (now (list .exit)) ⌝ }
+        ≡ outcomeOf r (now (list .exit)) ⌝ }
 {
     if let Strikes::NothingAt(at) = scan::strikes_in(script) {
         return Edited {
@@ -62,11 +62,11 @@ fn edit_short<'a>(
 ) -> Edited
     requires { ⌜
         T (sound sizes (lentPools (now day) (now series)) (lentList (now list) count))
-        × (formTold (formOf (now script)) ≡ Form.Whole k) × (sizes .«event_limit» ≤ orderLimit) × (k ≤ placeLimit) ⌝ }
+        × (formFound (formOf (now script)) ≡ Form.Whole k) × (sizes .«event_limit» ≤ orderLimit) × (k ≤ placeLimit) ⌝ }
     ensures { λ r. ⌜
         edit sizes (lentPools (now (day .entry)) (now (series .entry))) (lentList (now (list .entry)) count)
         (now (script .entry))
-        ≡ told r (now (list .exit)) ⌝ }
+        ≡ outcomeOf r (now (list .exit)) ⌝ }
 {
     let mut undo_places = [0u64; PLACE_WORDS];
     live::undos_in(script, 0, k, &mut undo_places);
@@ -90,11 +90,11 @@ pub fn edit_whole<'a>(
 ) -> Edited
     requires { ⌜
         T (sound sizes (lentPools (now day) (now series)) (lentList (now list) count))
-        × (formTold (formOf (now script)) ≡ Form.Whole k) × (sizes .«event_limit» ≤ orderLimit) ⌝ }
+        × (formFound (formOf (now script)) ≡ Form.Whole k) × (sizes .«event_limit» ≤ orderLimit) ⌝ }
     ensures { λ r. ⌜
         edit sizes (lentPools (now (day .entry)) (now (series .entry))) (lentList (now (list .entry)) count)
         (now (script .entry))
-        ≡ told r (now (list .exit)) ⌝ }
+        ≡ outcomeOf r (now (list .exit)) ⌝ }
 {
     if k == 0 {
         return Edited {

@@ -1,2 +1,2 @@
 -- What the contracts of this crate say beyond the model's definitions.
-pub mod Told  -- the paper's number and value for each case of Edit's answer
+pub mod Outcome  -- the paper's number and value for each case of Edit's answer

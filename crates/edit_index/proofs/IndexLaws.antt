@@ -11,19 +11,19 @@ use lib.ListN.{length, getD, take, drop, set, length-set, length-map}
 use lib.Seq.{getD-drop, getD-set-same, getD-set-other, drop-at, length-take-le}
 use Rattle.eit.specs.Overwrite.{overwrite}
 use Rattle.eit.specs.Among.{isAmong, allDiffer}
-use Rattle.eit.specs.Find.{indexOf}
+use Rattle.eit.specs.Find.{positionOf}
 use Rattle.eit.specs.Records.{lentList, recordSize, recordsOf, frontRecord, numbersOf, numbersOfAll}
 use Rattle.eit.specs.Sound.{idsOf}
 use Rattle.eit.specs.declared.Record.{Record}
-use Rattle.eit.proofs.Find.{index-length}
+use Rattle.eit.proofs.Find.{position-length}
 use Rattle.eit.proofs.Overwrite.{over-length, over-self}
 use Rattle.eit.proofs.Records.{records-written, numbers-back}
 use Rattle.eit.proofs.Test.{eq-or-not, eq-test, ne-test}
 use Rattle.list_records.proofs.WriteLaws.{read-before}
 use Rattle.script.specs.Machine.{find, without, zeroRecord}
 use Rattle.script.proofs.Placing.{without-gone, find-id}
-use Rattle.script.proofs.Places.{find-at, without-index}
-use Rattle.edit_index.specs.Index.{slotLimit, orderLimit, idLimit, slotRecord, recordsAt, slotOf, Index, indexedNumbers, indexedList}
+use Rattle.script.proofs.Places.{find-at, without-position}
+use Rattle.edit_index.specs.Index.{slotLimit, orderLimit, idLimit, slotRecord, slotRecords, slotOf, Index, indexedNumbers, indexedList}
 use Rattle.edit_index.specs.Order.{withSlot, withoutSlot}
 use Rattle.edit_index.proofs.OrderLaws.{with-length, with-around, without-length, without-around}
 use Rattle.edit_index.proofs.SlotLaws.{below-more, below-at, below-insert, below-leave, map-insert, map-leave, map-at}
@@ -71,53 +71,53 @@ module _ (slots order ids : List ℕ) (count used : ℕ) (x : Index slots order 
   entries = take count order
 
   abbrev held : List Record
-  held = recordsAt slots (take count order)
+  held = slotRecords slots (take count order)
 
   pub entries-length : length (take count order) ≡ count
   entries-length = length-take-le count order (omega (arith, x .few, x .orderSize))
 
-  pub held-length : length (recordsAt slots (take count order)) ≡ count
+  pub held-length : length (slotRecords slots (take count order)) ≡ count
   held-length = length-map (take count order) (slotRecord slots) ∙ entries-length
 
   -- the records of the list that it stands for are those that it holds
-  pub index-records : (list : List ℕ) → recordsOf (indexedList list slots order count) ≡ recordsAt slots (take count order)
+  pub index-records : (list : List ℕ) → recordsOf (indexedList list slots order count) ≡ slotRecords slots (take count order)
   index-records list =
       ap (λ (n : ℕ). recordsOf (lentList (indexedNumbers list slots order count) n)) (sym held-length)
-      ∙ records-written (recordsAt slots (take count order)) list
+      ∙ records-written (slotRecords slots (take count order)) list
 
   -- ---- the slot of an id
 
   module _ (id : ℕ) (small : id < idLimit) where
-    pub id-absent : getD ids id 0 ≡ 0 → T (not (isAmong id (idsOf (recordsAt slots (take count order)))))
+    pub id-absent : getD ids id 0 ≡ 0 → T (not (isAmong id (idsOf (slotRecords slots (take count order)))))
     id-absent z = slot-absent (slotRecord slots) id (take count order) (sym (x .found id small) ∙ z)
 
-    pub id-present : (getD ids id 0 ≡ 0 → ⊥) → T (isAmong id (idsOf (recordsAt slots (take count order))))
+    pub id-present : (getD ids id 0 ≡ 0 → ⊥) → T (isAmong id (idsOf (slotRecords slots (take count order))))
     id-present nz = slot-present (slotRecord slots) id (take count order) (λ z. nz (x .found id small ∙ z))
 
-    module _ (a : T (isAmong id (idsOf (recordsAt slots (take count order))))) (slot : ℕ) (is : slot ≡ getD ids id 0 - 1) where
-      pub id-place : indexOf id (recordsAt slots (take count order)) < count
-      id-place = omega (arith, index-length id (recordsAt slots (take count order)) a, held-length)
+    module _ (a : T (isAmong id (idsOf (slotRecords slots (take count order))))) (slot : ℕ) (is : slot ≡ getD ids id 0 - 1) where
+      pub id-place : positionOf id (slotRecords slots (take count order)) < count
+      id-place = omega (arith, position-length id (slotRecords slots (take count order)) a, held-length)
 
-      id-slot : slot ≡ getD (take count order) (indexOf id (recordsAt slots (take count order))) 0
+      id-slot : slot ≡ getD (take count order) (positionOf id (slotRecords slots (take count order))) 0
       id-slot = omega (arith, x .found id small, slot-some (slotRecord slots) id (take count order) a)
 
       pub id-below : slot < used
       id-below =
-          let below = below-at used (take count order) (x .below) (indexOf id (recordsAt slots (take count order)))
+          let below = below-at used (take count order) (x .below) (positionOf id (slotRecords slots (take count order)))
           (omega (arith, id-place, entries-length)) in
           omega (arith, id-slot)
 
-      pub id-record : slotRecord slots slot ≡ find id (recordsAt slots (take count order))
+      pub id-record : slotRecord slots slot ≡ find id (slotRecords slots (take count order))
       id-record =
-          let i : ℕ = indexOf id (recordsAt slots (take count order)) in
+          let i : ℕ = positionOf id (slotRecords slots (take count order)) in
           ap (slotRecord slots) id-slot
           ∙ sym (map-at (slotRecord slots) (take count order) i zeroRecord (omega (arith, id-place, entries-length)))
-          ∙ sym (find-at id (recordsAt slots (take count order)) zeroRecord a)
+          ∙ sym (find-at id (slotRecords slots (take count order)) zeroRecord a)
 
   -- ---- a record put in a new slot
 
   module _ (place : ℕ) (r : Record) (there : place ≤ count) (room : count < orderLimit) (free : used < slotLimit)
-      (small : r .id < idLimit) (new : T (not (isAmong (r .id) (idsOf (recordsAt slots (take count order)))))) where
+      (small : r .id < idLimit) (new : T (not (isAmong (r .id) (idsOf (slotRecords slots (take count order)))))) where
     fits : used * recordSize + recordSize ≤ length slots
     fits = omega (arith, x .slotsSize)
 
@@ -130,13 +130,13 @@ module _ (slots order ids : List ℕ) (count used : ℕ) (x : Index slots order 
     around : take (count + 1) newOrder ≡ take place (take count order) ++ used ∷ drop place (take count order)
     around = with-around order count place used (omega (arith, x .orderSize)) there (take count order) refl
 
-    same-records : recordsAt newSlots (take count order) ≡ recordsAt slots (take count order)
+    same-records : slotRecords newSlots (take count order) ≡ slotRecords slots (take count order)
     same-records = records-same (slotRecord slots) (slotRecord newSlots) used (slot-kept slots used r fits) (take count order) (x .below)
 
-    pub add-records : recordsAt newSlots (take (count + 1) newOrder)
-        ≡ take place (recordsAt slots (take count order)) ++ r ∷ drop place (recordsAt slots (take count order))
+    pub add-records : slotRecords newSlots (take (count + 1) newOrder)
+        ≡ take place (slotRecords slots (take count order)) ++ r ∷ drop place (slotRecords slots (take count order))
     add-records =
-        ap (recordsAt newSlots) around
+        ap (slotRecords newSlots) around
         ∙ map-insert (slotRecord newSlots) used place (take count order)
         ∙ ap₂ (λ (rs : List Record) (q : Record). take place rs ++ q ∷ drop place rs) same-records (slot-new slots used r fits)
 
@@ -154,7 +154,7 @@ module _ (slots order ids : List ℕ) (count used : ℕ) (x : Index slots order 
         same : id ≡ r .id → getD (set ids (r .id) (used + 1)) id 0 ≡ slotOf (slotRecord newSlots) id (take place es ++ used ∷ drop place es)
         same e =
             let one : used + 1 ≡ suc used = omega arith in
-            let gone : T (not (isAmong id (idsOf (recordsAt newSlots es)))) = rw (same-records, e) new in
+            let gone : T (not (isAmong id (idsOf (slotRecords newSlots es)))) = rw (same-records, e) new in
             ap (λ (n : ℕ). getD (set ids (r .id) (used + 1)) n 0) e
             ∙ getD-set-same ids (r .id) (used + 1) 0 (omega (arith, x .idsSize))
             ∙ one
@@ -186,11 +186,11 @@ module _ (slots order ids : List ℕ) (count used : ℕ) (x : Index slots order 
 
   -- ---- the record of an id taken out
 
-  module _ (id : ℕ) (small : id < idLimit) (a : T (isAmong id (idsOf (recordsAt slots (take count order)))))
-      (differ : T (allDiffer (idsOf (recordsAt slots (take count order))))) (place : ℕ)
-      (is : place ≡ indexOf id (recordsAt slots (take count order))) where
+  module _ (id : ℕ) (small : id < idLimit) (a : T (isAmong id (idsOf (slotRecords slots (take count order)))))
+      (differ : T (allDiffer (idsOf (slotRecords slots (take count order))))) (place : ℕ)
+      (is : place ≡ positionOf id (slotRecords slots (take count order))) where
     there : place < count
-    there = omega (arith, index-length id (recordsAt slots (take count order)) a, held-length)
+    there = omega (arith, position-length id (slotRecords slots (take count order)) a, held-length)
 
     abbrev oldOrder : List ℕ
     oldOrder = withoutSlot order count place
@@ -198,12 +198,12 @@ module _ (slots order ids : List ℕ) (count used : ℕ) (x : Index slots order 
     left-around : take (count - 1) oldOrder ≡ take place (take count order) ++ drop (suc place) (take count order)
     left-around = without-around order count place (omega (arith, x .few, x .orderSize)) there (take count order) refl
 
-    pub take-out-records : recordsAt slots (take (count - 1) oldOrder) ≡ without id (recordsAt slots (take count order))
+    pub take-out-records : slotRecords slots (take (count - 1) oldOrder) ≡ without id (slotRecords slots (take count order))
     take-out-records =
-        ap (recordsAt slots) left-around
+        ap (slotRecords slots) left-around
         ∙ map-leave (slotRecord slots) place (take count order)
         ∙ ap (λ (p : ℕ). take p held ++ drop (suc p) held) is
-        ∙ sym (without-index id held a)
+        ∙ sym (without-position id held a)
 
     its-id : slotRecord slots (getD (take count order) place 0) .id ≡ id
     its-id =
@@ -218,7 +218,7 @@ module _ (slots order ids : List ℕ) (count used : ℕ) (x : Index slots order 
       where
         same : other ≡ id → getD (set ids id 0) other 0 ≡ slotOf (slotRecord slots) other (take (count - 1) oldOrder)
         same e =
-            let gone : T (not (isAmong other (idsOf (recordsAt slots (take (count - 1) oldOrder))))) =
+            let gone : T (not (isAmong other (idsOf (slotRecords slots (take (count - 1) oldOrder))))) =
             rw (take-out-records, e) (without-gone id held differ) in
             ap (λ (n : ℕ). getD (set ids id 0) n 0) e
             ∙ getD-set-same ids id 0 0 (omega (arith, x .idsSize))
@@ -261,7 +261,7 @@ index-none slots order ids slotsAre orderIs idsAre zeros =
     }
 
 pub indexed-own : (list slots order : List ℕ) (count : ℕ) → count * recordSize ≤ length list
-    → recordsAt slots (take count order) ≡ recordsOf (lentList list count) → indexedList list slots order count ≡ lentList list count
+    → slotRecords slots (take count order) ≡ recordsOf (lentList list count) → indexedList list slots order count ≡ lentList list count
 unfolding recordsOf
 indexed-own list slots order count fits same =
     ap (λ (ns : List ℕ). lentList ns count)

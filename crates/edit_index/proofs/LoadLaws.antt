@@ -19,7 +19,7 @@ use Rattle.eit.proofs.Records.{records-length, record-at, numbers-length}
 use Rattle.list_records.proofs.WriteLaws.{over-behind}
 use Rattle.script.specs.Machine.{zeroRecord}
 use Rattle.edit_index.specs.Order.{withSlot}
-use Rattle.edit_index.specs.Index.{orderLimit, slotRecord, recordsAt, Index, Loadable, Loaded, indexedNumbers}
+use Rattle.edit_index.specs.Index.{orderLimit, slotRecord, slotRecords, Index, Loadable, Loaded, indexedNumbers}
 use Rattle.edit_index.proofs.IndexLaws.{held-length, add-records, add-index}
 
 -- ---- one record more
@@ -63,7 +63,7 @@ module _ (list : List ℕ) (count : ℕ) (loadable : Loadable list count) (n : �
   its-place : getD (recordsIn count list) n zeroRecord ≡ slotRecord list n
   its-place = record-at count list n zeroRecord within
 
-  new : T (not (isAmong (slotRecord list n .id) (idsOf (recordsAt slots (take n order)))))
+  new : T (not (isAmong (slotRecord list n .id) (idsOf (slotRecords slots (take n order)))))
   new =
       rw (so-far .records)
       (rw its-place at (next-new (recordsIn count list) (loadable .differ) n zeroRecord (omega (arith, records-length count list))))
@@ -74,7 +74,7 @@ module _ (list : List ℕ) (count : ℕ) (loadable : Loadable list count) (n : �
   load-next r is newSlots newOrder newIds slotsAre orderIs idsAre =
       let x = so-far .index in
       let few : n < orderLimit = omega (arith, loadable .few) in
-      let rs : List Record = recordsAt slots (take n order) in
+      let rs : List Record = slotRecords slots (take n order) in
       let size : length rs ≡ n = held-length slots order ids n n x in
       let one : suc n ≡ n + 1 = omega arith in
       let behind : drop n rs ≡ [] = drop-of-length-le rs {i = n} (omega arith) in
@@ -95,15 +95,15 @@ pub store-none : (list slots order : List ℕ) → list ≡ indexedNumbers list 
 store-none list slots order = sym (over-nothing list 0)
 
 module _ (list slots order : List ℕ) (n : ℕ) (within : n < length order) (fits : n * recordSize ≤ length list) where
-  more-records : numbersOfAll (recordsAt slots (take (n + 1) order))
-      ≡ numbersOfAll (recordsAt slots (take n order)) ++ numbersOf (slotRecord slots (getD order n 0))
+  more-records : numbersOfAll (slotRecords slots (take (n + 1) order))
+      ≡ numbersOfAll (slotRecords slots (take n order)) ++ numbersOf (slotRecord slots (getD order n 0))
   more-records =
       let one : n + 1 ≡ suc n = omega arith in
       rw (one, take-suc order n 0 within)
       (snoc (take n order) (getD order n 0))
     where
       snoc : (es : List ℕ) (s : ℕ)
-          → numbersOfAll (recordsAt slots (es ++ (s ∷ []))) ≡ numbersOfAll (recordsAt slots es) ++ numbersOf (slotRecord slots s)
+          → numbersOfAll (slotRecords slots (es ++ (s ∷ []))) ≡ numbersOfAll (slotRecords slots es) ++ numbersOf (slotRecord slots s)
       snoc [] s = refl
       snoc (e ∷ es) s = ap (λ (ns : List ℕ). numbersOf (slotRecord slots e) ++ ns) (snoc es s)
 
@@ -111,11 +111,11 @@ module _ (list slots order : List ℕ) (n : ℕ) (within : n < length order) (fi
       → next ≡ overwrite so-far (n * recordSize) (numbersOf (slotRecord slots (getD order n 0)))
       → next ≡ indexedNumbers list slots order (n + 1)
   store-next so-far next is written =
-      let front : List ℕ = numbersOfAll (recordsAt slots (take n order)) in
+      let front : List ℕ = numbersOfAll (slotRecords slots (take n order)) in
       let size : 0 + length front ≡ n * recordSize =
       omega (
         arith,
-        numbers-length (recordsAt slots (take n order)),
+        numbers-length (slotRecords slots (take n order)),
         length-map (take n order) (slotRecord slots),
         length-take-le n order (omega arith),
       ) in

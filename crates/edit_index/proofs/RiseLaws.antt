@@ -11,16 +11,16 @@ use lib.ListN.{length, getD, take, drop, length-append, length-take, length-drop
 use Rattle.eit.specs.Pools.{Pools}
 use Rattle.eit.specs.Among.{isAmong}
 use Rattle.eit.specs.Events.{eventOf, eventsIn, rising}
-use Rattle.eit.specs.Find.{indexOf, placeOf}
+use Rattle.eit.specs.Find.{positionOf, placeOf}
 use Rattle.eit.specs.Sound.{idsOf, startsOf}
 use Rattle.eit.specs.declared.Record.{Record}
 use Rattle.eit.proofs.Among.{among-at, among-found}
 use Rattle.eit.proofs.Events.{AllAfter, rising-rest, rising-after}
-use Rattle.eit.proofs.Find.{place-here, place-later, place-length, index-length}
+use Rattle.eit.proofs.Find.{place-here, place-later, place-length, position-length}
 use Rattle.eit.proofs.Test.{le-or-lt, test-or, ne-test, false-is}
 use Rattle.script.specs.Machine.{find, without, zeroRecord}
 use Rattle.script.proofs.Placing.{find-here, find-later, without-here, without-later, without-length, among-later}
-use Rattle.script.proofs.Places.{find-at, without-index}
+use Rattle.script.proofs.Places.{find-at, without-position}
 use Rattle.edit_index.specs.Index.{Rises}
 use Rattle.edit_index.proofs.SlotLaws.{map-leave}
 
@@ -161,13 +161,13 @@ module _ (ss : List ℕ) (rises : Rises ss) (i : ℕ) (within : i < length ss) w
 -- ---- the record of an id
 
 module _ (id : ℕ) (rs : List Record) (a : T (isAmong id (idsOf rs))) where
-  found-start : getD (startsOf rs) (indexOf id rs) 0 ≡ find id rs .start
+  found-start : getD (startsOf rs) (positionOf id rs) 0 ≡ find id rs .start
   found-start =
-      List·getD-map (λ (r : Record). r .start) rs (indexOf id rs) zeroRecord
+      List·getD-map (λ (r : Record). r .start) rs (positionOf id rs) zeroRecord
       ∙ ap (λ (r : Record). r .start) (sym (find-at id rs zeroRecord a))
 
-  others-are : startsOf (without id rs) ≡ take (indexOf id rs) (startsOf rs) ++ drop (suc (indexOf id rs)) (startsOf rs)
-  others-are = ap startsOf (without-index id rs a) ∙ map-leave (λ (r : Record). r .start) (indexOf id rs) rs
+  others-are : startsOf (without id rs) ≡ take (positionOf id rs) (startsOf rs) ++ drop (suc (positionOf id rs)) (startsOf rs)
+  others-are = ap startsOf (without-position id rs a) ∙ map-leave (λ (r : Record). r .start) (positionOf id rs) rs
 
   -- another start is among the others exactly if it is among all
   pub without-starts : (start : ℕ) → (start ≡ find id rs .start → ⊥)
@@ -189,51 +189,51 @@ module _ (id : ℕ) (rs : List Record) (a : T (isAmong id (idsOf rs))) where
 
   module _ (rises : Rises (startsOf rs)) where
     -- its start has its place behind it
-    pub own-place : placeOf (find id rs .start) rs ≡ suc (indexOf id rs)
-    own-place = place-own rs rises (indexOf id rs) (find id rs .start) (index-length id rs a) found-start
+    pub own-place : placeOf (find id rs .start) rs ≡ suc (positionOf id rs)
+    own-place = place-own rs rises (positionOf id rs) (find id rs .start) (position-length id rs a) found-start
 
-    index-starts : indexOf id rs < length (startsOf rs)
-    index-starts = omega (arith, starts-length rs, index-length id rs a)
+    position-starts : positionOf id rs < length (startsOf rs)
+    position-starts = omega (arith, starts-length rs, position-length id rs a)
 
     pub without-rises : Rises (startsOf (without id rs))
-    without-rises = rw others-are (leave-rises (startsOf rs) rises (indexOf id rs) index-starts)
+    without-rises = rw others-are (leave-rises (startsOf rs) rises (positionOf id rs) position-starts)
 
     -- its own start is not among the others
     pub own-start : T (not (isAmong (find id rs .start) (startsOf (without id rs))))
-    own-start = rw (others-are, ← found-start) (leave-none (startsOf rs) rises (indexOf id rs) index-starts)
+    own-start = rw (others-are, ← found-start) (leave-none (startsOf rs) rises (positionOf id rs) position-starts)
 
     -- the place of a start, once the record is taken out: one less if the record stood before it
     module _ (start : ℕ) where
       left-length : suc (length (without id rs)) ≡ length rs
       left-length = without-length id rs a
 
-      left-before : (k : ℕ) → k < indexOf id rs → getD (startsOf (without id rs)) k 0 ≡ getD (startsOf rs) k 0
-      left-before k h = ap (λ (xs : List ℕ). getD xs k 0) others-are ∙ leave-before (indexOf id rs) (startsOf rs) k h
+      left-before : (k : ℕ) → k < positionOf id rs → getD (startsOf (without id rs)) k 0 ≡ getD (startsOf rs) k 0
+      left-before k h = ap (λ (xs : List ℕ). getD xs k 0) others-are ∙ leave-before (positionOf id rs) (startsOf rs) k h
 
-      left-behind : (k : ℕ) → indexOf id rs ≤ k → getD (startsOf (without id rs)) k 0 ≡ getD (startsOf rs) (suc k) 0
-      left-behind k h = ap (λ (xs : List ℕ). getD xs k 0) others-are ∙ leave-behind (indexOf id rs) (startsOf rs) k h
+      left-behind : (k : ℕ) → positionOf id rs ≤ k → getD (startsOf (without id rs)) k 0 ≡ getD (startsOf rs) (suc k) 0
+      left-behind k h = ap (λ (xs : List ℕ). getD xs k 0) others-are ∙ leave-behind (positionOf id rs) (startsOf rs) k h
 
       later : (k : ℕ) → placeOf start rs ≤ k → k < length rs → start < getD (startsOf rs) k 0
       later k h within =
           omega (arith, place-behind start rs (omega arith), rises-to rs rises (placeOf start rs) k h within)
 
-      pub place-left-before : indexOf id rs < placeOf start rs → placeOf start (without id rs) ≡ placeOf start rs - 1
+      pub place-left-before : positionOf id rs < placeOf start rs → placeOf start (without id rs) ≡ placeOf start rs - 1
       place-left-before stood =
           let size : suc (length (without id rs)) ≡ length rs = left-length in
           let few : placeOf start rs ≤ length rs = place-length start rs in
           place-is start (without id rs) (placeOf start rs - 1) (omega arith)
           (λ k h.
           ⊎-elim (λ behind. omega (arith, left-behind k behind, place-before start rs (suc k) (omega arith)))
-          (λ before. omega (arith, left-before k before, place-before start rs k (omega arith))) (le-or-lt (indexOf id rs) k))
+          (λ before. omega (arith, left-before k before, place-before start rs k (omega arith))) (le-or-lt (positionOf id rs) k))
           (λ h.
           let next : suc (placeOf start rs - 1) ≡ placeOf start rs = omega arith in
           let moved = ap (λ (n : ℕ). getD (startsOf rs) n 0) next in
           omega (arith, left-behind (placeOf start rs - 1) (omega arith), later (placeOf start rs) (omega arith) (omega arith)))
 
-      pub place-left-behind : placeOf start rs ≤ indexOf id rs → placeOf start (without id rs) ≡ placeOf start rs
+      pub place-left-behind : placeOf start rs ≤ positionOf id rs → placeOf start (without id rs) ≡ placeOf start rs
       place-left-behind stood =
           let size : suc (length (without id rs)) ≡ length rs = left-length in
-          let within = index-length id rs a in
+          let within = position-length id rs a in
           place-is start (without id rs) (placeOf start rs) (omega arith)
           (λ k h. omega (arith, left-before k (omega arith), place-before start rs k h))
           (λ h.
@@ -241,4 +241,4 @@ module _ (id : ℕ) (rs : List Record) (a : T (isAmong id (idsOf rs))) where
           (λ behind.
           omega (arith, left-behind (placeOf start rs) behind, later (suc (placeOf start rs)) (omega arith) (omega arith)))
           (λ before. omega (arith, left-before (placeOf start rs) before, later (placeOf start rs) (omega arith) (omega arith)))
-          (le-or-lt (indexOf id rs) (placeOf start rs)))
+          (le-or-lt (positionOf id rs) (placeOf start rs)))

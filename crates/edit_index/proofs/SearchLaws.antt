@@ -16,15 +16,15 @@ use Rattle.eit.specs.Sound.{startsOf}
 use Rattle.eit.specs.declared.Record.{Record}
 use Rattle.eit.proofs.Find.{place-length}
 use Rattle.eit.proofs.Test.{true-is, false-is}
-use Rattle.edit_index.specs.Index.{slotRecord, recordsAt, Ordered}
+use Rattle.edit_index.specs.Index.{slotRecord, slotRecords, Ordered}
 use Rattle.edit_index.proofs.RiseLaws.{place-is, rises-to, start-has, start-none}
 use Rattle.edit_index.proofs.SlotLaws.{below-at, start-at}
 
 module _ (slots order : List ℕ) (count : ℕ) (o : Ordered slots order count) where
   abbrev starts : List ℕ
-  starts = startsOf (recordsAt slots (take count order))
+  starts = startsOf (slotRecords slots (take count order))
 
-  ordered-length : length (recordsAt slots (take count order)) ≡ count
+  ordered-length : length (slotRecords slots (take count order)) ≡ count
   ordered-length = length-map (take count order) (slotRecord slots) ∙ length-take-le count order (o .few)
 
   -- record i of the order
@@ -34,7 +34,7 @@ module _ (slots order : List ℕ) (count : ℕ) (o : Ordered slots order count) 
         let slot = below-at (length slots / recordSize) (take count order) (o .within) i (omega (arith, length-take-le count order (o .few))) in
         omega (arith, getD-take count order i 0 within)
 
-    pub start-in : getD (startsOf (recordsAt slots (take count order))) i 0 ≡ slotRecord slots (getD order i 0) .start
+    pub start-in : getD (startsOf (slotRecords slots (take count order))) i 0 ≡ slotRecord slots (getD order i 0) .start
     start-in =
         start-at (slotRecord slots) (take count order) i (omega (arith, length-take-le count order (o .few)))
         ∙ ap (λ (s : ℕ). slotRecord slots s .start) (getD-take count order i 0 within)
@@ -44,8 +44,8 @@ module _ (slots order : List ℕ) (count : ℕ) (o : Ordered slots order count) 
     pub record Between (low high : ℕ) : Type 0 where
       pub inOrder : low ≤ high
       pub within : high ≤ count
-      pub before : (i : ℕ) → i < low → getD (startsOf (recordsAt slots (take count order))) i 0 ≤ start
-      pub behind : (i : ℕ) → high ≤ i → i < count → start < getD (startsOf (recordsAt slots (take count order))) i 0
+      pub before : (i : ℕ) → i < low → getD (startsOf (slotRecords slots (take count order))) i 0 ≤ start
+      pub behind : (i : ℕ) → high ≤ i → i < count → start < getD (startsOf (slotRecords slots (take count order))) i 0
 
     pub between-all : Between 0 count
     between-all =
@@ -62,7 +62,7 @@ module _ (slots order : List ℕ) (count : ℕ) (o : Ordered slots order count) 
                 omega (
                   arith,
                   start-in middle (omega (arith, b .within)),
-                  rises-to (recordsAt slots (take count order)) (o .rises) i middle (omega arith) (omega (arith, b .within, ordered-length)),
+                  rises-to (slotRecords slots (take count order)) (o .rises) i middle (omega arith) (omega (arith, b .within, ordered-length)),
                 );
             behind = b .behind;
           }
@@ -78,34 +78,34 @@ module _ (slots order : List ℕ) (count : ℕ) (o : Ordered slots order count) 
                 omega (
                   arith,
                   start-in middle (omega (arith, b .within)),
-                  rises-to (recordsAt slots (take count order)) (o .rises) middle i h (omega (arith, ordered-length)),
+                  rises-to (slotRecords slots (take count order)) (o .rises) middle i h (omega (arith, ordered-length)),
                 );
           }
 
-    pub between-none : (low high : ℕ) → Between low high → high ≤ low → low ≡ placeOf start (recordsAt slots (take count order))
+    pub between-none : (low high : ℕ) → Between low high → high ≤ low → low ≡ placeOf start (slotRecords slots (take count order))
     between-none low high b met =
         sym
-        (place-is start (recordsAt slots (take count order)) low (omega (arith, b .inOrder, b .within, ordered-length)) (b .before)
+        (place-is start (slotRecords slots (take count order)) low (omega (arith, b .inOrder, b .within, ordered-length)) (b .before)
         (λ h. b .behind low met (omega (arith, ordered-length))))
 
     -- whether a record has the start: the one before the place tells
-    module _ (place : ℕ) (at-place : place ≡ placeOf start (recordsAt slots (take count order))) where
+    module _ (place : ℕ) (at-place : place ≡ placeOf start (slotRecords slots (take count order))) where
       pub place-few : place ≤ count
-      place-few = omega (arith, place-length start (recordsAt slots (take count order)), ordered-length)
+      place-few = omega (arith, place-length start (slotRecords slots (take count order)), ordered-length)
 
-      pub taken-first : place ≡ 0 → false ≡ isAmong start (startsOf (recordsAt slots (take count order)))
+      pub taken-first : place ≡ 0 → false ≡ isAmong start (startsOf (slotRecords slots (take count order)))
       taken-first none =
           sym
-          (false-is (isAmong start (startsOf (recordsAt slots (take count order))))
-          (start-none (recordsAt slots (take count order)) (o .rises) start place at-place (λ some. absurd (omega arith))))
+          (false-is (isAmong start (startsOf (slotRecords slots (take count order))))
+          (start-none (slotRecords slots (take count order)) (o .rises) start place at-place (λ some. absurd (omega arith))))
 
       pub taken-is : (place ≡ 0 → ⊥)
-          → eqb (slotRecord slots (getD order (place - 1) 0) .start) start ≡ isAmong start (startsOf (recordsAt slots (take count order)))
+          → eqb (slotRecord slots (getD order (place - 1) 0) .start) start ≡ isAmong start (startsOf (slotRecords slots (take count order)))
       taken-is some =
           by (eqb (slotRecord slots (getD order (place - 1) 0) .start) start) refl
         where
           rs : List Record
-          rs = recordsAt slots (take count order)
+          rs = slotRecords slots (take count order)
 
           positive : 0 < place
           positive = omega (arith, some)

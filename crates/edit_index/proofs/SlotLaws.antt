@@ -8,10 +8,10 @@ use native.Mathlib.Omega.{arith}
 use lib.Dec.{T, eqb, not-T}
 use lib.ListN.{length, getD, take, drop}
 use Rattle.eit.specs.Among.{isAmong}
-use Rattle.eit.specs.Find.{indexOf}
+use Rattle.eit.specs.Find.{positionOf}
 use Rattle.eit.specs.Sound.{idsOf, startsOf}
 use Rattle.eit.specs.declared.Record.{Record}
-use Rattle.eit.proofs.Find.{index-here, index-later}
+use Rattle.eit.proofs.Find.{position-here, position-later}
 use Rattle.eit.proofs.Test.{or-other, nor-left, nor-right, test-or, true-is, false-is}
 use Rattle.edit_index.specs.Index.{slotOf, AllBelow}
 
@@ -109,12 +109,12 @@ module _ (f : ℕ → Record) where
       ∙ slot-none id es (nor-right (eqb id (f e .id)) (isAmong id (idsOf (map f es))) n)
 
   pub slot-some : (id : ℕ) (es : List ℕ) → T (isAmong id (idsOf (map f es)))
-      → slotOf f id es ≡ suc (getD es (indexOf id (map f es)) 0)
+      → slotOf f id es ≡ suc (getD es (positionOf id (map f es)) 0)
   slot-some id [] a = absurd a
   slot-some id (e ∷ es) a =
-      ⊎-elim (λ t. rw (index-here id (f e) (map f es) t) (slot-here id e es t))
+      ⊎-elim (λ t. rw (position-here id (f e) (map f es) t) (slot-here id e es t))
       (λ t.
-      rw (index-later id (f e) (map f es) t)
+      rw (position-later id (f e) (map f es) t)
       (slot-later id e es t ∙ slot-some id es (or-other (eqb id (f e .id)) (isAmong id (idsOf (map f es))) t a)))
       (test-or (eqb id (f e .id)))
 

@@ -26,8 +26,8 @@ idLimit = 65536
 abbrev pub slotRecord : List ℕ → ℕ → Record
 slotRecord slots s = frontRecord (drop (s * recordSize) slots)
 
-abbrev pub recordsAt : List ℕ → List ℕ → List Record
-recordsAt slots es = map (slotRecord slots) es
+abbrev pub slotRecords : List ℕ → List ℕ → List Record
+slotRecords slots es = map (slotRecord slots) es
 
 -- one more than the first slot whose record has the id; 0 if none has it
 abbrev pub slotOf : (ℕ → Record) → ℕ → List ℕ → ℕ
@@ -47,7 +47,7 @@ Rises starts = (i j : ℕ) → i < j → j < length starts → getD starts i 0 <
 pub record Ordered (slots order : List ℕ) (count : ℕ) : Type 0 where
   pub few : count ≤ length order
   pub within : AllBelow (length slots / recordSize) (take count order)
-  pub rises : Rises (startsOf (recordsAt slots (take count order)))
+  pub rises : Rises (startsOf (slotRecords slots (take count order)))
 
 -- an index of `count` records in slots below `used`
 pub record Index (slots order ids : List ℕ) (count used : ℕ) : Type 0 where
@@ -68,12 +68,12 @@ pub record Loadable (list : List ℕ) (count : ℕ) : Type 0 where
 -- an index of the first n of a list's records, record i in slot i
 pub record Loaded (list : List ℕ) (count n : ℕ) (slots order ids : List ℕ) : Type 0 where
   pub index : Index slots order ids n n
-  pub records : recordsAt slots (take n order) ≡ take n (recordsIn count list)
+  pub records : slotRecords slots (take n order) ≡ take n (recordsIn count list)
 
 -- the numbers of the list that an index stands for, and the list. Those of its records in the lent list are stale; those behind them
 -- are the list's
 abbrev pub indexedNumbers : List ℕ → List ℕ → List ℕ → ℕ → List ℕ
-indexedNumbers list slots order count = overwrite list 0 (numbersOfAll (recordsAt slots (take count order)))
+indexedNumbers list slots order count = overwrite list 0 (numbersOfAll (slotRecords slots (take count order)))
 
 abbrev pub indexedList : List ℕ → List ℕ → List ℕ → ℕ → EventList
 indexedList list slots order count = lentList (indexedNumbers list slots order count) count

@@ -18,7 +18,7 @@ use Rattle.eit.proofs.Test.{and-left, and-right, true-is, false-is, test-or, le
 use Rattle.script.specs.Form.{Edit, Command, doEdit, undo, isCommand, operandBytes, commandOf, isWhole}
 use Rattle.script.specs.Form.{Form, commands, broken, before, formFrom, formOf}
 use Rattle.script.proofs.Form.{whole-room, form-whole, form-broken, by-code, before-only}
-use Rattle.edit_scan.specs.Commands.{formTold, isWholeAt, wholeFrom, commandsAt}
+use Rattle.edit_scan.specs.Commands.{formFound, isWholeAt, wholeFrom, commandsAt}
 use Rattle.edit_scan.specs.declared.scan.Form as scanned
 use Rattle.edit_scan.specs.declared.scan.Form.the-variants.{Whole, Broken}
 
@@ -73,7 +73,7 @@ abbrev pub formAfter : ℕ → Form → scanned.Form
 formAfter n (commands cs) = Whole (n + length cs)
 formAfter n (broken at) = Broken at
 
-pub after-none : (form : Form) → formTold form ≡ formAfter 0 form
+pub after-none : (form : Form) → formFound form ≡ formAfter 0 form
 after-none (commands cs) = rw zero-add
 after-none (broken at) = refl
 
@@ -118,8 +118,8 @@ module _ (at : ℕ) (script : List ℕ) where
   whole-fails r e t = rw (sym e ∙ t) tt
 
   -- a byte of the script with no whole command at it
-  cut-is : at < length script → T (not (isWholeAt at script)) → T (not (isWhole (getD script at 0) (drop (suc at) script)))
-  cut-is h t = rw (lt-ltb at (length script) h) at t
+  truncated-is : at < length script → T (not (isWholeAt at script)) → T (not (isWhole (getD script at 0) (drop (suc at) script)))
+  truncated-is h t = rw (lt-ltb at (length script) h) at t
 
   behind : drop (operandBytes (getD script at 0)) (drop (suc at) script) ≡ drop (at + 1 + operandBytes (getD script at 0)) script
   behind =
@@ -147,7 +147,7 @@ module _ (at : ℕ) (script : List ℕ) where
   unfolding commandsAt
   commands-stop t =
       ⊎-elim (λ h. rw (drop-of-length-le script h))
-      (λ h. rw (drop-cons script at 0 h) (whole-none (getD script at 0) at (drop (suc at) script) (cut-is h t)))
+      (λ h. rw (drop-cons script at 0 h) (whole-none (getD script at 0) at (drop (suc at) script) (truncated-is h t)))
       (le-or-lt (length script) at)
 
   -- ---- the form from an offset on
@@ -169,7 +169,7 @@ module _ (at : ℕ) (script : List ℕ) where
       )
 
   pub form-stop : at < length script → T (not (isWholeAt at script)) → formFrom 0 at (drop at script) ≡ broken at
-  form-stop h t = rw (drop-cons script at 0 h) (form-broken (getD script at 0) at (drop (suc at) script) (cut-is h t))
+  form-stop h t = rw (drop-cons script at 0 h) (form-broken (getD script at 0) at (drop (suc at) script) (truncated-is h t))
 
   pub form-all : length script ≤ at → formFrom 0 at (drop at script) ≡ commands []
   form-all h = rw (drop-of-length-le script h)

@@ -10,7 +10,7 @@ use Rattle.eit.specs.declared.Record.{Record}
 use Rattle.eit.proofs.Fields.{bytes-drop}
 use Rattle.script.specs.Form.{putRecord, commandOf}
 use Rattle.codec.proofs.FieldLaws.{rest-whole, field-exact}
-use Rattle.edit_scan.specs.Commands.{commandTold}
+use Rattle.edit_scan.specs.Commands.{modelCommand}
 use Rattle.edit_scan.specs.declared.command.Command.the-variants.{Put, Withdraw, Move, Undo}
 
 -- the record that is read of PUT's operands
@@ -55,25 +55,25 @@ module _ (script : List ℕ) (bytes : Bytes script) (at : ℕ) where
   pub read-put : (r : Record)
       → getD script at 0 ≡ 0x01
       → r ≡ putRecord (partBehind at script)
-      → commandTold at (Put r) ≡ commandOf (getD script at 0) at (drop (suc at) script)
-  read-put r is e = ap (λ (s : Record). commandTold at (Put s)) (e ∙ ap putRecord part-is) ∙ of-code 0x01 is
+      → modelCommand at (Put r) ≡ commandOf (getD script at 0) at (drop (suc at) script)
+  read-put r is e = ap (λ (s : Record). modelCommand at (Put s)) (e ∙ ap putRecord part-is) ∙ of-code 0x01 is
 
   pub read-withdraw : (id : ℕ)
       → getD script at 0 ≡ 0x02
       → id ≡ field 0 2 (partBehind at script) % 2 ^ 32
-      → commandTold at (Withdraw id) ≡ commandOf (getD script at 0) at (drop (suc at) script)
-  read-withdraw id is e = ap (λ (n : ℕ). commandTold at (Withdraw n)) (operand 0 2 id (omega arith) e) ∙ of-code 0x02 is
+      → modelCommand at (Withdraw id) ≡ commandOf (getD script at 0) at (drop (suc at) script)
+  read-withdraw id is e = ap (λ (n : ℕ). modelCommand at (Withdraw n)) (operand 0 2 id (omega arith) e) ∙ of-code 0x02 is
 
   pub read-move : (id start : ℕ)
       → getD script at 0 ≡ 0x03
       → id ≡ field 0 2 (partBehind at script) % 2 ^ 32
       → start ≡ field 2 4 (partBehind at script) % 2 ^ 32
-      → commandTold at (Move id start) ≡ commandOf (getD script at 0) at (drop (suc at) script)
+      → modelCommand at (Move id start) ≡ commandOf (getD script at 0) at (drop (suc at) script)
   read-move id start is e f =
-      ap₂ (λ (m n : ℕ). commandTold at (Move m n)) (operand 0 2 id (omega arith) e) (operand 2 4 start (omega arith) f) ∙ of-code 0x03 is
+      ap₂ (λ (m n : ℕ). modelCommand at (Move m n)) (operand 0 2 id (omega arith) e) (operand 2 4 start (omega arith) f) ∙ of-code 0x03 is
 
 -- beyond the script
 pub read-beyond : (script : List ℕ) (at : ℕ)
     → length script ≤ at
-    → commandTold at Undo ≡ commandOf (getD script at 0) at (drop (suc at) script)
+    → modelCommand at Undo ≡ commandOf (getD script at 0) at (drop (suc at) script)
 read-beyond script at h = sym (ap (λ (k : ℕ). commandOf k at (drop (suc at) script)) (List·getD-eq-default script 0 h))

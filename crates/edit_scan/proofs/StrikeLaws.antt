@@ -13,7 +13,7 @@ use lib.ListN.{length, getD}
 use Rattle.eit.proofs.Test.{eq-or-not}
 use Rattle.script.specs.Form.{Edit, Command, doEdit, undo, operandBytes}
 use Rattle.script.specs.Struck.{unstruckIn, strike}
-use Rattle.edit_scan.specs.Commands.{strikesTold, isWholeAt, commandsAt}
+use Rattle.edit_scan.specs.Commands.{strikesFound, isWholeAt, commandsAt}
 use Rattle.edit_scan.specs.declared.scan.Strikes.{Strikes}
 use Rattle.edit_scan.specs.declared.scan.Strikes.the-variants.{Enough, NothingAt}
 use Rattle.edit_scan.proofs.CommandLaws.{commands-stop, commands-edit, commands-undo}
@@ -27,13 +27,13 @@ strikesAfter kept (doEdit e ∷ cs) = strikesAfter (suc kept) cs
 strikesAfter zero (undo at ∷ cs) = NothingAt at
 strikesAfter (suc kept) (undo at ∷ cs) = strikesAfter kept cs
 
-strikes-count : (kept : List Edit) (cs : List Command) → strikesTold (strike kept cs) ≡ strikesAfter (length kept) cs
+strikes-count : (kept : List Edit) (cs : List Command) → strikesFound (strike kept cs) ≡ strikesAfter (length kept) cs
 strikes-count kept [] = refl
 strikes-count kept (doEdit e ∷ cs) = strikes-count (e ∷ kept) cs
 strikes-count [] (undo at ∷ cs) = refl
 strikes-count (e ∷ kept) (undo at ∷ cs) = strikes-count kept cs
 
-pub strikes-all : (cs : List Command) → strikesTold (unstruckIn cs) ≡ strikesAfter 0 cs
+pub strikes-all : (cs : List Command) → strikesFound (unstruckIn cs) ≡ strikesAfter 0 cs
 unfolding unstruckIn
 strikes-all cs = strikes-count [] cs
 

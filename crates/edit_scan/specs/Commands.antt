@@ -16,21 +16,21 @@ use Rattle.edit_scan.specs.declared.scan.Strikes.{Strikes}
 use Rattle.edit_scan.specs.declared.scan.Strikes.the-variants.{Enough, NothingAt}
 
 -- 3 over the script: its form, and of the commands how many they are
-abbrev pub formTold : model.Form → Form
-formTold (commands cs) = Whole (length cs)
-formTold (broken at) = Broken at
+abbrev pub formFound : model.Form → Form
+formFound (commands cs) = Whole (length cs)
+formFound (broken at) = Broken at
 
 -- 4 over the script: whether each UNDO has something to strike, without the edits that are left
-abbrev pub strikesTold : Unstruck → Strikes
-strikesTold (unstruck es) = Enough
-strikesTold (nothingAt at) = NothingAt at
+abbrev pub strikesFound : Unstruck → Strikes
+strikesFound (unstruck es) = Enough
+strikesFound (nothingAt at) = NothingAt at
 
 -- a command whose byte stands at the offset `at`
-abbrev pub commandTold : ℕ → Command → model.Command
-commandTold at (Put r) = doEdit (record { at = at; act = put r })
-commandTold at (Withdraw id) = doEdit (record { at = at; act = withdraw id })
-commandTold at (Move id start) = doEdit (record { at = at; act = move id start })
-commandTold at Undo = undo at
+abbrev pub modelCommand : ℕ → Command → model.Command
+modelCommand at (Put r) = doEdit (record { at = at; act = put r })
+modelCommand at (Withdraw id) = doEdit (record { at = at; act = withdraw id })
+modelCommand at (Move id start) = doEdit (record { at = at; act = move id start })
+modelCommand at Undo = undo at
 
 -- a known command stands at the offset `at` with its operands
 abbrev pub isWholeAt : ℕ → List ℕ → Bool

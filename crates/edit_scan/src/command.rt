@@ -5,7 +5,7 @@ ghost use mathlib.Core.Path.{_≡_};
 ghost use Prim.Native.Nat.{suc};
 ghost use lib.ListN.{getD, drop};
 ghost use Rattle.script.specs.Form.{putRecord, isCommand, operandBytes, commandOf};
-ghost use Rattle.edit_scan.specs.Commands.{commandTold};
+ghost use Rattle.edit_scan.specs.Commands.{modelCommand};
 
 pub const PUT: u8 = 0x01;
 
@@ -61,7 +61,7 @@ pub fn put_record(operands: &[u8]) -> Record
 // The command whose byte stands at `at`; any other byte than those of the edits, and none, counts as UNDO, and operands that are
 // cut as far as there are bytes.
 pub fn command_at(script: &[u8], at: usize) -> Command
-    ensures { λ r. ⌜ commandTold at r ≡ commandOf (getD (now (script .entry)) at 0) at (drop (suc at) (now (script .entry))) ⌝ }
+    ensures { λ r. ⌜ modelCommand at r ≡ commandOf (getD (now (script .entry)) at 0) at (drop (suc at) (now (script .entry))) ⌝ }
 {
     if script.len() <= at {
         return Command::Undo;

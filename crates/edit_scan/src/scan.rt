@@ -4,7 +4,7 @@ use crate::command;
 ghost use mathlib.Core.Path.{_≡_};
 ghost use Rattle.script.specs.Form.{formOf};
 ghost use Rattle.script.specs.Struck.{unstruckIn};
-ghost use Rattle.edit_scan.specs.Commands.{formTold, strikesTold, isWholeAt, commandsAt, offsetBehind};
+ghost use Rattle.edit_scan.specs.Commands.{formFound, strikesFound, isWholeAt, commandsAt, offsetBehind};
 
 // The form of a script.
 pub enum Form {
@@ -34,7 +34,7 @@ pub fn is_whole_at(script: &[u8], at: usize) -> bool
 
 // A script is whole if its whole commands reach its end.
 pub fn form_of(script: &[u8]) -> Form
-    ensures { λ r. ⌜ r ≡ formTold (formOf (now (script .entry))) ⌝ }
+    ensures { λ r. ⌜ r ≡ formFound (formOf (now (script .entry))) ⌝ }
 {
     let mut count: usize = 0;
     let mut at = 0;
@@ -51,7 +51,7 @@ pub fn form_of(script: &[u8]) -> Form
 // Whether each UNDO has something to strike: `kept` counts the edits that are not yet struck, one more for an edit and one less for an
 // UNDO, with no branch between the two that the processor would have to guess.
 pub fn strikes_in(script: &[u8]) -> Strikes
-    ensures { λ r. ⌜ r ≡ strikesTold (unstruckIn (commandsAt 0 (now (script .entry)))) ⌝ }
+    ensures { λ r. ⌜ r ≡ strikesFound (unstruckIn (commandsAt 0 (now (script .entry)))) ⌝ }
 {
     let mut kept: usize = 0;
     let mut at = 0;

@@ -218,8 +218,8 @@ crc-four r bs hr four hb =
     ∙ ap₂ (λ (n x : ℕ). crcBits (8 * n) (bitXor r x)) four (mul-one (valueOf bs))
 
 -- the register's own bytes bring it to 0
-pub crc-closes : (r : ℕ) → r < 2 ^ 32 → crcOf r (bigEndian 4 r) ≡ 0
-crc-closes r h =
+pub crc-leaves-0 : (r : ℕ) → r < 2 ^ 32 → crcOf r (bigEndian 4 r) ≡ 0
+crc-leaves-0 r h =
     crc-four r (bigEndian 4 r) h refl (big-endian-bytes 4 r)
     ∙ ap (λ (x : ℕ). crcBits 32 (bitXor r x)) (value-back 4 r h)
     ∙ ap (crcBits 32) (xor-self r)
@@ -245,11 +245,11 @@ crc32-lt bs h = rw crc32-of (crc-lt crcFirst bs (lit< tt) h)
 pub crc32-append : (xs ys : List ℕ) → crc32 (xs ++ ys) ≡ crcOf (crc32 xs) ys
 crc32-append xs ys = simp crc32-of (crc-append crcFirst xs ys)
 
-pub closed : (bs : List ℕ) → Bytes bs → crc32 (bs ++ bigEndian 4 (crc32 bs)) ≡ 0
-closed bs h = crc32-append bs (bigEndian 4 (crc32 bs)) ∙ crc-closes (crc32 bs) (crc32-lt bs h)
+pub crc-right : (bs : List ℕ) → Bytes bs → crc32 (bs ++ bigEndian 4 (crc32 bs)) ≡ 0
+crc-right bs h = crc32-append bs (bigEndian 4 (crc32 bs)) ∙ crc-leaves-0 (crc32 bs) (crc32-lt bs h)
 
-pub closed-only : (bs cs : List ℕ) → Bytes bs → Bytes cs → length cs ≡ 4 → crc32 (bs ++ cs) ≡ 0 → cs ≡ bigEndian 4 (crc32 bs)
-closed-only bs cs hb hc four e = crc-only (crc32 bs) cs (crc32-lt bs hb) four hc (sym (crc32-append bs cs) ∙ e)
+pub crc-right-only : (bs cs : List ℕ) → Bytes bs → Bytes cs → length cs ≡ 4 → crc32 (bs ++ cs) ≡ 0 → cs ≡ bigEndian 4 (crc32 bs)
+crc-right-only bs cs hb hc four e = crc-only (crc32 bs) cs (crc32-lt bs hb) four hc (sym (crc32-append bs cs) ∙ e)
 
 -- the usual check value (the digits 1 to 9 in ASCII), one byte 0, and the four bytes that close an empty section
 crc-vectors

@@ -9,7 +9,7 @@ use mathlib.Core.List.{List, [], _∷_}
 use lib.Dec.{T, eqb}
 use lib.ListN.{length, getD, drop}
 use Rattle.eit.specs.declared.Sizes.{Sizes}
-use Rattle.eit.specs.Limits.{marksMost}
+use Rattle.eit.specs.Limits.{marksMax}
 use Rattle.eit.specs.Pools.{Pools, odd, marksFreeCa, marksOffAir}
 use Rattle.eit.specs.Records.{EventList, recordsOf}
 use Rattle.eit.specs.Events.{Event, eventOf, eventsIn, marksOther, Same, AllSame}
@@ -27,7 +27,7 @@ bit-same (suc (suc a)) b p q e = absurd (omega arith)
 bit-same zero (suc (suc b)) p q e = absurd (omega arith)
 bit-same (suc zero) (suc (suc b)) p q e = absurd (omega arith)
 
-pub marks-same : (m n : ℕ) → m ≤ marksMost → n ≤ marksMost
+pub marks-same : (m n : ℕ) → m ≤ marksMax → n ≤ marksMax
     → (marksOther m ≡ marksOther n) ↔ ((marksFreeCa m ≡ marksFreeCa n) × (marksOffAir m ≡ marksOffAir n))
 marks-same m n hm hn = (forth, back)
   where
@@ -46,7 +46,7 @@ marks-same m n hm hn = (forth, back)
         let quarter : m / 4 ≡ n / 4 = sym few ∙ high ∙ few′ in
         λ i. quarter i * 4 + low i
 
-pub same-event : (p q : Pools) (r s : Record) → r .marks ≤ marksMost → s .marks ≤ marksMost
+pub same-event : (p q : Pools) (r s : Record) → r .marks ≤ marksMax → s .marks ≤ marksMax
     → (eventOf p r ≡ eventOf q s) ↔ Same p q r s
 same-event p q r s hr hs = (forth, back)
   where

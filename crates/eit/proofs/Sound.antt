@@ -6,7 +6,7 @@ use mathlib.Core.List.{List, [], _∷_, _++_}
 use lib.Dec.{T, leb→le, le→leb, ltb→lt}
 use lib.ListN.{length, getD, length-map}
 use Rattle.eit.specs.declared.Sizes.{Sizes}
-use Rattle.eit.specs.Limits.{idMost, startLimit, durationLeast, durationMost, marksMost}
+use Rattle.eit.specs.Limits.{idMax, windowSeconds, durationMin, durationMax, marksMax}
 use Rattle.eit.specs.Chain.{isChain}
 use Rattle.eit.specs.Pools.{Pools, poolOf, choose}
 use Rattle.eit.specs.Records.{EventList, recordSize, recordsOf}
@@ -19,20 +19,20 @@ use Rattle.eit.proofs.Records.{count-records}
 
 -- values in range, one by one
 pub record RangeFacts (r : Record) : Type 0 where
-  pub id : r .id ≤ idMost
-  pub start : r .start < startLimit
-  pub durationLow : durationLeast ≤ r .duration
-  pub durationHigh : r .duration ≤ durationMost
-  pub marks : r .marks ≤ marksMost
+  pub id : r .id ≤ idMax
+  pub start : r .start < windowSeconds
+  pub durationLow : durationMin ≤ r .duration
+  pub durationHigh : r .duration ≤ durationMax
+  pub marks : r .marks ≤ marksMax
 
 pub range-facts : (r : Record) → T (inRange r) → RangeFacts r
 range-facts r t =
     record {
-      id = leb→le (r .id) idMost (search tests);
-      start = ltb→lt (r .start) startLimit (search tests);
-      durationLow = leb→le durationLeast (r .duration) (search tests);
-      durationHigh = leb→le (r .duration) durationMost (search tests);
-      marks = leb→le (r .marks) marksMost (search tests);
+      id = leb→le (r .id) idMax (search tests);
+      start = ltb→lt (r .start) windowSeconds (search tests);
+      durationLow = leb→le durationMin (r .duration) (search tests);
+      durationHigh = leb→le (r .duration) durationMax (search tests);
+      marks = leb→le (r .marks) marksMax (search tests);
     }
 
 pub facts-range : (r : Record) → RangeFacts r → T (inRange r)

@@ -10,8 +10,8 @@ use borrow.Author.Tests.{le-leb, lt-leb}
 use lib.Dec.{T, leb, ltb, leb→le, le→leb, ltb→lt, lt→ltb}
 use lib.ListN.{length}
 use Rattle.eit.specs.Fields.{Bytes, bigEndian, valueOf}
-use Rattle.eit.specs.Limits.{startLimit, durationLeast, durationMost, baseMost}
-use Rattle.eit.specs.Limits.{startHoursMost, durationHoursMost, minutesMost, secondsMost}
+use Rattle.eit.specs.Limits.{windowSeconds, durationMin, durationMax, baseDayMax}
+use Rattle.eit.specs.Limits.{startHoursMax, durationHoursMax, minutesMax, secondsMax}
 use Rattle.eit.specs.Time.{timeOf, toBcd, timeBytes, durationBytes, secondsOfDay, startBytes}
 use Rattle.eit.specs.Time.{isBcd, ofBcd, isBcdUpTo, isTime, secondsOf, isDurationBytes, startOf, isStartBytes}
 use Rattle.eit.specs.declared.Time.{Time}
@@ -70,31 +70,31 @@ module _ (t : Time) (shown : Shown t) where
   shown-hours : (h : ℕ) → t .hours ≤ h → T (isTime h (timeBytes t))
   shown-hours h small =
       let first : Bool = isBcdUpTo h (toBcd (t .hours)) in
-      let second : Bool = isBcdUpTo minutesMost (toBcd (t .minutes)) in
-      let third : Bool = isBcdUpTo secondsMost (toBcd (t .seconds)) in
-      let minutes : T second = up-to minutesMost (t .minutes) (omega arith) (omega arith) in
-      let seconds : T third = up-to secondsMost (t .seconds) (omega arith) (omega arith) in
+      let second : Bool = isBcdUpTo minutesMax (toBcd (t .minutes)) in
+      let third : Bool = isBcdUpTo secondsMax (toBcd (t .seconds)) in
+      let minutes : T second = up-to minutesMax (t .minutes) (omega arith) (omega arith) in
+      let seconds : T third = up-to secondsMax (t .seconds) (omega arith) (omega arith) in
       and-both first (second && third) (up-to h (t .hours) small (shown .0)) (and-both second third minutes seconds)
 
 -- the two cases of `timeOf`
-pub time-within : (s : ℕ) → s ≤ durationMost
+pub time-within : (s : ℕ) → s ≤ durationMax
     → timeOf s ≡ record { hours = s / 3600; minutes = s / 60 % 60; seconds = s % 60 }
-time-within s within = rw (timeOf, le-leb s durationMost within)
+time-within s within = rw (timeOf, le-leb s durationMax within)
 
-pub time-above : (s : ℕ) → durationMost < s → timeOf s ≡ record { hours = 99; minutes = 59; seconds = 59 }
-time-above s above = rw (timeOf, lt-leb s durationMost above)
+pub time-above : (s : ℕ) → durationMax < s → timeOf s ≡ record { hours = 99; minutes = 59; seconds = 59 }
+time-above s above = rw (timeOf, lt-leb s durationMax above)
 
 time-shown : (s : ℕ) → Shown (timeOf s)
 time-shown s =
     ⊎-elim
     (λ within. rw (time-within s within) (omega arith))
     (λ above. rw (time-above s above) (omega arith))
-    (le-or-lt s durationMost)
+    (le-or-lt s durationMax)
 
 pub time-bytes : (s : ℕ) → Bytes (timeBytes (timeOf s))
 time-bytes s = shown-bytes (timeOf s) (time-shown s)
 
-pub time-back : (s : ℕ) → s ≤ durationMost → secondsOf (timeBytes (timeOf s)) ≡ s
+pub time-back : (s : ℕ) → s ≤ durationMax → secondsOf (timeBytes (timeOf s)) ≡ s
 time-back s within = shown-back (timeOf s) (time-shown s) ∙ rw (time-within s within) (omega arith)
 
 -- a time of day shows at most 23 hours, a duration at most 99
@@ -104,7 +104,7 @@ time-hours h s few =
     (⊎-elim
     (λ within. rw (time-within s within) (omega arith))
     (λ above. rw (time-above s above) (omega arith))
-    (le-or-lt s durationMost))
+    (le-or-lt s durationMax))
 
 -- back from the seconds to the parts
 time-parts : (h m s : ℕ) → h < 100 → m < 60 → s < 60
@@ -122,11 +122,11 @@ time-only h [] three t = absurd (omega arith)
 time-only h (a ∷ []) three t = absurd (omega arith)
 time-only h (a ∷ b ∷ []) three t = absurd (omega arith)
 time-only h (a ∷ b ∷ c ∷ []) three t =
-    let (first, rest) = and-parts (isBcdUpTo h a) (isBcdUpTo minutesMost b && isBcdUpTo secondsMost c) t in
-    let (second, third) = and-parts (isBcdUpTo minutesMost b) (isBcdUpTo secondsMost c) rest in
+    let (first, rest) = and-parts (isBcdUpTo h a) (isBcdUpTo minutesMax b && isBcdUpTo secondsMax c) t in
+    let (second, third) = and-parts (isBcdUpTo minutesMax b) (isBcdUpTo secondsMax c) rest in
     let (same-a, hours, few) = up-to-only h a first in
-    let (same-b, minutes, few-b) = up-to-only minutesMost b second in
-    let (same-c, seconds, few-c) = up-to-only secondsMost c third in (
+    let (same-b, minutes, few-b) = up-to-only minutesMax b second in
+    let (same-c, seconds, few-c) = up-to-only secondsMax c third in (
       ap timeBytes (time-parts (ofBcd a) (ofBcd b) (ofBcd c) few (omega arith) (omega arith))
           ∙ (λ i. same-a i ∷ same-b i ∷ same-c i ∷ []),
       omega arith,
@@ -135,22 +135,22 @@ time-only h (a ∷ b ∷ c ∷ d ∷ bs) three t = absurd (omega arith)
 
 -- ---- a duration
 
-pub duration-back : (d : ℕ) → d ≤ durationMost → secondsOf (durationBytes d) ≡ d
+pub duration-back : (d : ℕ) → d ≤ durationMax → secondsOf (durationBytes d) ≡ d
 duration-back d most = time-back d most
 
-pub duration-is : (d : ℕ) → durationLeast ≤ d → d ≤ durationMost → T (isDurationBytes (durationBytes d))
+pub duration-is : (d : ℕ) → durationMin ≤ d → d ≤ durationMax → T (isDurationBytes (durationBytes d))
 duration-is d least most =
-    let enough : durationLeast ≤ secondsOf (durationBytes d) = rw (duration-back d most) least in
-    and-both (isTime durationHoursMost (durationBytes d)) (leb durationLeast (secondsOf (durationBytes d)))
-    (time-hours durationHoursMost d (omega arith))
+    let enough : durationMin ≤ secondsOf (durationBytes d) = rw (duration-back d most) least in
+    and-both (isTime durationHoursMax (durationBytes d)) (leb durationMin (secondsOf (durationBytes d)))
+    (time-hours durationHoursMax d (omega arith))
     (le→leb _ _ enough)
 
 pub duration-only : (bs : List ℕ) → length bs ≡ 3 → T (isDurationBytes bs)
-    → (durationBytes (secondsOf bs) ≡ bs) × (durationLeast ≤ secondsOf bs) × (secondsOf bs ≤ durationMost)
+    → (durationBytes (secondsOf bs) ≡ bs) × (durationMin ≤ secondsOf bs) × (secondsOf bs ≤ durationMax)
 duration-only bs three t =
-    let (time, least) = and-parts (isTime durationHoursMost bs) (leb durationLeast (secondsOf bs)) t in
-    let (same, few) = time-only durationHoursMost bs three time in
-    (same, leb→le durationLeast (secondsOf bs) least, omega arith)
+    let (time, least) = and-parts (isTime durationHoursMax bs) (leb durationMin (secondsOf bs)) t in
+    let (same, few) = time-only durationHoursMax bs three time in
+    (same, leb→le durationMin (secondsOf bs) least, omega arith)
 
 -- ---- a start, as a day and a time of that day
 
@@ -160,7 +160,7 @@ start-length base s = refl
 pub start-bytes : (base s : ℕ) → Bytes (startBytes base s)
 start-bytes base s = (omega arith, (omega arith, time-bytes (s % secondsOfDay)))
 
-module _ (base s : ℕ) (inside : base ≤ baseMost) (few : s < startLimit) where
+module _ (base s : ℕ) (inside : base ≤ baseDayMax) (few : s < windowSeconds) where
   start-day : valueOf (bigEndian 2 (base + s / secondsOfDay)) ≡ base + s / secondsOfDay
   start-day = value-back 2 (base + s / secondsOfDay) (omega arith)
 
@@ -173,10 +173,10 @@ module _ (base s : ℕ) (inside : base ≤ baseMost) (few : s < startLimit) wher
       let day : ℕ = valueOf (bigEndian 2 (base + s / secondsOfDay)) in
       let start : ℕ = startOf base (startBytes base s) in
       let later : base ≤ day = rw start-day (omega arith) in
-      let soon : start < startLimit = rw start-back few in
-      and-both (isTime startHoursMost time) (leb base day && ltb start startLimit)
-      (time-hours startHoursMost (s % secondsOfDay) (omega arith))
-      (and-both (leb base day) (ltb start startLimit) (le→leb _ _ later) (lt→ltb _ _ soon))
+      let soon : start < windowSeconds = rw start-back few in
+      and-both (isTime startHoursMax time) (leb base day && ltb start windowSeconds)
+      (time-hours startHoursMax (s % secondsOfDay) (omega arith))
+      (and-both (leb base day) (ltb start windowSeconds) (le→leb _ _ later) (lt→ltb _ _ soon))
 
 -- back from the seconds to the day and the time of that day
 start-parts : (base day rest : ℕ) → base ≤ day → rest < secondsOfDay
@@ -185,19 +185,19 @@ start-parts : (base day rest : ℕ) → base ≤ day → rest < secondsOfDay
 start-parts base day rest later few = omega arith
 
 pub start-only : (base : ℕ) (bs : List ℕ) → length bs ≡ 5 → Bytes bs → T (isStartBytes base bs)
-    → (startBytes base (startOf base bs) ≡ bs) × (startOf base bs < startLimit)
+    → (startBytes base (startOf base bs) ≡ bs) × (startOf base bs < windowSeconds)
 start-only base [] five bytes t = absurd (omega arith)
 start-only base (a ∷ []) five bytes t = absurd (omega arith)
 start-only base (a ∷ b ∷ bs) five bytes t =
     let day : ℕ = valueOf (a ∷ b ∷ []) in
     let start : ℕ = startOf base (a ∷ b ∷ bs) in
-    let (time, rest) = and-parts (isTime startHoursMost bs) (leb base day && ltb start startLimit) t in
-    let (later, soon) = and-parts (leb base day) (ltb start startLimit) rest in
-    let (same-time, few) = time-only startHoursMost bs (omega arith) time in
+    let (time, rest) = and-parts (isTime startHoursMax bs) (leb base day && ltb start windowSeconds) t in
+    let (later, soon) = and-parts (leb base day) (ltb start windowSeconds) rest in
+    let (same-time, few) = time-only startHoursMax bs (omega arith) time in
     let (the-day, the-time) = start-parts base day (secondsOf bs) (leb→le base day later) few in (
       (λ i. bigEndian 2 (the-day i) ++ timeBytes (timeOf (the-time i)))
           ∙ (λ i. big-endian-value (a ∷ b ∷ []) (bytes .0, (bytes .1 .0, tt)) i ++ same-time i),
-      ltb→lt start startLimit soon,
+      ltb→lt start windowSeconds soon,
     )
 
 -- ---- computed: 1993-10-13 12:45:00 is MJD 49,273 and C0 79 12 45 00; 01:45:30 is 01 45 30; 100 hours show as 99:59:59

@@ -8,7 +8,7 @@ use lib.ListN.{replicate}
 use Rattle.eit.specs.Sizes.{broadcast}
 use Rattle.eit.specs.Records.{EventList, lentList, recordsOf}
 use Rattle.eit.specs.Pools.{Pools, lentPools, poolOf}
-use Rattle.eit.specs.Find.{indexOf, placeOf}
+use Rattle.eit.specs.Find.{positionOf, placeOf}
 use Rattle.eit.specs.Sound.{idsOf, startsOf, sound, eventsOf}
 use Rattle.eit.specs.declared.Record.{Record}
 
@@ -50,7 +50,7 @@ pub record Examples : Type 0 where
       eventsOf pools two
       ≡ record { id = 1; start = 2; duration = 3; offAir = true; freeCa = true; chain = 0x4D ∷ 1 ∷ 9 ∷ [] }
       ∷ record { id = 4; start = 5; duration = 6; offAir = false; freeCa = true; chain = 0x4E ∷ 0 ∷ [] } ∷ []
-  pub index : (indexOf 4 records ≡ 1) × (indexOf 9 records ≡ 2)
+  pub position : (positionOf 4 records ≡ 1) × (positionOf 9 records ≡ 2)
   pub place : (placeOf 1 records ≡ 0) × (placeOf 2 records ≡ 1) × (placeOf 5 records ≡ 2)
   pub numbers : (idsOf records ≡ 1 ∷ 4 ∷ []) × (startsOf records ≡ 2 ∷ 5 ∷ [])
   -- what a call is lent: the day pool before the series pool, the buffer before the count

@@ -6,10 +6,10 @@ use mathlib.Core.List.{List, [], _∷_}
 use lib.Dec.{ltb, eqb}
 use Rattle.eit.specs.declared.Record.{Record}
 
--- the place of the first record that has the id; behind all records if none has it
-abbrev pub indexOf : ℕ → List Record → ℕ
-indexOf id [] = 0
-indexOf id (r ∷ rs) = elim (eqb id (r .id)) [ true ↦ 0 | false ↦ suc (indexOf id rs) ]
+-- the position of the first record that has the id; behind all records if none has it
+abbrev pub positionOf : ℕ → List Record → ℕ
+positionOf id [] = 0
+positionOf id (r ∷ rs) = elim (eqb id (r .id)) [ true ↦ 0 | false ↦ suc (positionOf id rs) ]
 
 -- the place before the first record that starts later; behind all records if none does
 abbrev pub placeOf : ℕ → List Record → ℕ

@@ -10,7 +10,7 @@ pub mod Chain  -- descriptor and chain
 pub mod Pools  -- the two pools, and the part that a record chooses
 pub mod Among  -- a number that is one of some, and numbers that all differ
 pub mod Records  -- records in the lent buffer
-pub mod Find  -- the place of an id and of a start
+pub mod Find  -- the position of an id and the place of a start
 pub mod Events  -- what a record stands for, and `follows`
 pub mod Sound  -- soundness, and the events of a list
 pub mod Examples  -- soundness and events computed from raw numbers

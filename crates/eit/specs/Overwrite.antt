@@ -1,4 +1,4 @@
--- Writing into a lent buffer: some numbers are written over those from a place on, and all others stay.
+-- Writing into a lent buffer: some numbers are written over those from an offset on, and all others stay.
 -- Laws, above all how writes compose: proofs/Overwrite.antt. Assumes nothing.
 use Prim.Native.Nat.{ℕ, _+_}
 use mathlib.Core.List.{List, _++_}

@@ -6,7 +6,7 @@ use mathlib.Core.List.{List, [], _∷_, map}
 use lib.Dec.{leb, ltb}
 use lib.ListN.{length}
 use Rattle.eit.specs.declared.Sizes.{Sizes}
-use Rattle.eit.specs.Limits.{idMost, startLimit, durationLeast, durationMost, marksMost}
+use Rattle.eit.specs.Limits.{idMax, windowSeconds, durationMin, durationMax, marksMax}
 use Rattle.eit.specs.Among.{allDiffer}
 use Rattle.eit.specs.Chain.{isChain}
 use Rattle.eit.specs.Pools.{Pools, poolOf, inPool, choose}
@@ -17,9 +17,9 @@ use Rattle.eit.specs.declared.Record.{Record}
 -- values are in range
 abbrev pub inRange : Record → Bool
 inRange r =
-    leb (r .id) idMost
-    && (ltb (r .start) startLimit
-    && (leb durationLeast (r .duration) && (leb (r .duration) durationMost && leb (r .marks) marksMost)))
+    leb (r .id) idMax
+    && (ltb (r .start) windowSeconds
+    && (leb durationMin (r .duration) && (leb (r .duration) durationMax && leb (r .marks) marksMax)))
 
 -- each part lies in its pool and is a chain
 abbrev pub hasChain : Pools → Record → Bool

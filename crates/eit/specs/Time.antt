@@ -6,16 +6,16 @@ use mathlib.Core.List.{List, [], _∷_, _++_}
 use lib.Dec.{leb, ltb}
 use lib.ListN.{getD, take, drop}
 use Rattle.eit.specs.Fields.{bigEndian, valueOf}
-use Rattle.eit.specs.Limits.{startLimit, durationLeast, durationMost}
-use Rattle.eit.specs.Limits.{startHoursMost, durationHoursMost, minutesMost, secondsMost}
+use Rattle.eit.specs.Limits.{windowSeconds, durationMin, durationMax}
+use Rattle.eit.specs.Limits.{startHoursMax, durationHoursMax, minutesMax, secondsMax}
 use Rattle.eit.specs.declared.Time.{Time}
 
 -- the time type makes itself from seconds; above 359,999 it is 99:59:59
 abbrev pub timeOf : ℕ → Time
 timeOf s =
-    elim (leb s durationMost) [
+    elim (leb s durationMax) [
       | true ↦ record { hours = s / 3600; minutes = s / 60 % 60; seconds = s % 60 }
-      | false ↦ record { hours = durationHoursMost; minutes = minutesMost; seconds = secondsMost }
+      | false ↦ record { hours = durationHoursMax; minutes = minutesMax; seconds = secondsMax }
     ]
 
 -- two BCD digits in a byte
@@ -51,10 +51,10 @@ ofBcd b = b / 16 * 10 + b % 16
 abbrev pub isBcdUpTo : ℕ → ℕ → Bool
 isBcdUpTo most b = isBcd b && leb (ofBcd b) most
 
--- six BCD digits hhmmss, with hours of at most `hoursMost`
+-- six BCD digits hhmmss, with hours of at most `hoursMax`
 abbrev pub isTime : ℕ → List ℕ → Bool
-isTime hoursMost bs =
-    isBcdUpTo hoursMost (getD bs 0 0) && (isBcdUpTo minutesMost (getD bs 1 0) && isBcdUpTo secondsMost (getD bs 2 0))
+isTime hoursMax bs =
+    isBcdUpTo hoursMax (getD bs 0 0) && (isBcdUpTo minutesMax (getD bs 1 0) && isBcdUpTo secondsMax (getD bs 2 0))
 
 -- the seconds of six BCD digits hhmmss
 abbrev pub secondsOf : List ℕ → ℕ
@@ -62,7 +62,7 @@ secondsOf bs = ofBcd (getD bs 0 0) * 3600 + ofBcd (getD bs 1 0) * 60 + ofBcd (ge
 
 -- a duration stays in a record's range: its digits show at most 99:59:59
 abbrev pub isDurationBytes : List ℕ → Bool
-isDurationBytes bs = isTime durationHoursMost bs && leb durationLeast (secondsOf bs)
+isDurationBytes bs = isTime durationHoursMax bs && leb durationMin (secondsOf bs)
 
 -- the seconds after t0 of a start's five bytes; the day comes from its MJD
 abbrev pub startOf : ℕ → List ℕ → ℕ
@@ -71,4 +71,4 @@ startOf base bs = (valueOf (take 2 bs) - base) * secondsOfDay + secondsOf (drop 
 -- a start stays in a record's range: not before t0, and below 5,529,600
 abbrev pub isStartBytes : ℕ → List ℕ → Bool
 isStartBytes base bs =
-    isTime startHoursMost (drop 2 bs) && (leb base (valueOf (take 2 bs)) && ltb (startOf base bs) startLimit)
+    isTime startHoursMax (drop 2 bs) && (leb base (valueOf (take 2 bs)) && ltb (startOf base bs) windowSeconds)

@@ -5,10 +5,10 @@ ghost use mathlib.Core.Path.{_≡_};
 ghost use mathlib.Core.Bool.{_&&_};
 ghost use mathlib.Core.List.{[]};
 ghost use lib.Dec.{ltb, leb};
-ghost use Rattle.eit.specs.Limits.{startLimit, durationLeast, durationMost};
+ghost use Rattle.eit.specs.Limits.{windowSeconds, durationMin, durationMax};
 ghost use Rattle.eit.specs.Time.{timeOf};
 ghost use Rattle.eit.specs.Events.{eventWith, leastBehind};
-ghost use Rattle.eit.specs.Identity.{noIdentity};
+ghost use Rattle.eit.specs.Identity.{zeroIdentity};
 
 pub mod limits;
 
@@ -47,8 +47,8 @@ pub struct Identity {
 }
 
 // Ids and version 0: what a refusal of Read returns.
-pub fn no_identity() -> Identity
-    ensures { λ r. ⌜ r ≡ noIdentity ⌝ }
+pub fn zero_identity() -> Identity
+    ensures { λ r. ⌜ r ≡ zeroIdentity ⌝ }
 {
     let triplet = Triplet {
         service_id: 0,
@@ -85,43 +85,43 @@ pub struct Time {
 
 impl Time {
     // A start is fewer seconds after t0 than this: 64 days.
-    pub const START_LIMIT: u32 = 5_529_600;
+    pub const WINDOW_SECONDS: u32 = 5_529_600;
     // A duration is at least a second.
-    pub const DURATION_LEAST: u32 = 1;
+    pub const DURATION_MIN: u32 = 1;
     // And at most 99:59:59.
-    pub const DURATION_MOST: u32 = 359_999;
+    pub const DURATION_MAX: u32 = 359_999;
     // The most hours of a start.
-    pub const START_HOURS_MOST: u8 = 23;
+    pub const START_HOURS_MAX: u8 = 23;
     // The most hours of a duration.
-    pub const DURATION_HOURS_MOST: u8 = 99;
+    pub const DURATION_HOURS_MAX: u8 = 99;
     // The most minutes of either.
-    pub const MINUTES_MOST: u8 = 59;
+    pub const MINUTES_MAX: u8 = 59;
     // And the most seconds.
-    pub const SECONDS_MOST: u8 = 59;
+    pub const SECONDS_MAX: u8 = 59;
 
     // A start in a record's range: seconds after t0.
     pub fn is_start(seconds: u32) -> bool
-        ensures { λ r. ⌜ r ≡ ltb seconds startLimit ⌝ }
+        ensures { λ r. ⌜ r ≡ ltb seconds windowSeconds ⌝ }
     {
-        seconds < Self::START_LIMIT
+        seconds < Self::WINDOW_SECONDS
     }
 
     // A duration in a record's range.
     pub fn is_duration(seconds: u32) -> bool
-        ensures { λ r. ⌜ r ≡ (leb durationLeast seconds && leb seconds durationMost) ⌝ }
+        ensures { λ r. ⌜ r ≡ (leb durationMin seconds && leb seconds durationMax) ⌝ }
     {
-        Self::DURATION_LEAST <= seconds && seconds <= Self::DURATION_MOST
+        Self::DURATION_MIN <= seconds && seconds <= Self::DURATION_MAX
     }
 
     // So many seconds; above DURATION_MOST it is 99:59:59.
     pub fn from_seconds(seconds: u32) -> Self
         ensures { λ r. ⌜ r ≡ timeOf seconds ⌝ }
     {
-        if Self::DURATION_MOST < seconds {
+        if Self::DURATION_MAX < seconds {
             return Time {
-                hours: Self::DURATION_HOURS_MOST,
-                minutes: Self::MINUTES_MOST,
-                seconds: Self::SECONDS_MOST,
+                hours: Self::DURATION_HOURS_MAX,
+                minutes: Self::MINUTES_MAX,
+                seconds: Self::SECONDS_MAX,
             };
         }
         Time {

@@ -4,7 +4,7 @@
 pub const EVENT_LIMIT: usize = 2_048;
 
 // The most that a base day may be ("Event record and sound list").
-pub const BASE_DAY_MOST: u32 = 65_472;
+pub const BASE_DAY_MAX: u32 = 65_472;
 
 // Words of a set that has a bit for each id, 0 to 65,535.
 pub const ID_WORDS: usize = 1_024;

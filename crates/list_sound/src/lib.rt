@@ -13,18 +13,18 @@ ghost use Rattle.eit.specs.Records.{lentList};
 ghost use Rattle.eit.specs.Sound.{inRange, sound};
 
 // The most that an id and marks may be.
-const ID_MOST: u32 = 65_535;
+const ID_MAX: u32 = 65_535;
 
-const MARKS_MOST: u32 = 7;
+const MARKS_MAX: u32 = 7;
 
 // Values are in range.
 pub fn is_in_range(event: Record) -> bool
     ensures { λ r. ⌜ r ≡ inRange event ⌝ }
 {
-    event.id <= ID_MOST
+    event.id <= ID_MAX
         && Time::is_start(event.start)
         && Time::is_duration(event.duration)
-        && event.marks <= MARKS_MOST
+        && event.marks <= MARKS_MAX
 }
 
 // Whether the list is sound, in one pass: starts rise from `least` on, and ids are kept in a set.

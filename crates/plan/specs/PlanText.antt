@@ -5,7 +5,7 @@ use mathlib.Core.List.{List, []}
 use lib.Dec.{eqb, leb}
 use lib.ListN.{length, replicate}
 use Rattle.eit.specs.Sizes.{broadcast}
-use Rattle.eit.specs.Identity.{noIdentity}
+use Rattle.eit.specs.Identity.{zeroIdentity}
 use Rattle.eit.specs.Pools.{Pools, lentPools}
 use Rattle.eit.specs.Records.{EventList, lentList}
 use Rattle.script.specs.Edit.{Edited, edit}
@@ -14,8 +14,8 @@ use Rattle.plan_listing.specs.Fill.{Fills}
 use Rattle.plan_listing.specs.Listing.{listing, refusedText, tooLong}
 
 -- "over 65,536 bytes it prints `too long`"; "output 65,536 bytes"
-abbrev pub scriptMost : ℕ
-scriptMost = 65_536
+abbrev pub scriptMax : ℕ
+scriptMax = 65_536
 
 abbrev pub outputSize : ℕ
 outputSize = 65_536
@@ -28,7 +28,7 @@ bufferSize = 12_288
 abbrev pub noPools : Pools
 noPools = lentPools [] []
 
--- "base day 49,273, ids and version 0" (`noIdentity`)
+-- "base day 49,273, ids and version 0" (`zeroIdentity`)
 abbrev pub baseDay : ℕ
 baseDay = 49_273
 
@@ -39,7 +39,7 @@ builtText built = elim (eqb (built .number) 0) [ true ↦ listing (fileOf built)
 
 unfoldable pub listText : List ℕ → EventList → List ℕ
 unfolding build builtText
-listText output list = builtText (build broadcast noPools list baseDay noIdentity output)
+listText output list = builtText (build broadcast noPools list baseDay zeroIdentity output)
 
 -- the text for a script, with this buffer for the list and this output: that of the edited list, or Edit's refusal
 unfoldable pub editedText : List ℕ → Edited → List ℕ
@@ -50,7 +50,7 @@ editedText output edited =
 unfoldable pub textWithin : List ℕ → List ℕ → List ℕ → List ℕ
 unfolding edit editedText
 textWithin buffer output script =
-    elim (leb (length script) scriptMost) [
+    elim (leb (length script) scriptMax) [
       | true ↦ editedText output (edit broadcast noPools (lentList buffer 0) script)
       | false ↦ tooLong
     ]
@@ -61,8 +61,8 @@ unfolding textWithin
 planText script = textWithin (replicate bufferSize 0) (replicate outputSize 0) script
 
 -- bytes in which every text has room: four for each byte of the output, and some more
-abbrev pub textMost : ℕ
-textMost = 262_208
+abbrev pub textMax : ℕ
+textMax = 262_208
 
 -- a text is written at the front of a buffer, as far as there is room, and has at most so many bytes
 pub record Written (before text after : List ℕ) (end most : ℕ) : Type 0 where

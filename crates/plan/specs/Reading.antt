@@ -6,6 +6,6 @@ use Rattle.plan.specs.declared.Input.{Input}
 use Rattle.plan.specs.declared.Input.the-variants.{Bytes, Failed}
 
 -- bytes that were read stand in the buffer
-abbrev pub isInside : Input → List ℕ → Type 0
-isInside (Bytes n) buffer = Counts n buffer
-isInside Failed buffer = Unit {0}
+abbrev pub isReadInto : Input → List ℕ → Type 0
+isReadInto (Bytes n) buffer = Counts n buffer
+isReadInto Failed buffer = Unit {0}

@@ -7,11 +7,11 @@ ghost use Prim.Native.Nat.{_+_, _*_, _≤_};
 ghost use lib.ListN.{length};
 ghost use Rattle.eit.specs.Records.{lentList};
 ghost use Rattle.eit.specs.Overwrite.{overwrite};
-ghost use Rattle.plan.specs.PlanText.{listText, textWithin, planText, textMost, Written};
-ghost use Rattle.plan.specs.Reading.{isInside};
+ghost use Rattle.plan.specs.PlanText.{listText, textWithin, planText, textMax, Written};
+ghost use Rattle.plan.specs.Reading.{isReadInto};
 
 // Bytes of a script at most, numbers of the list's buffer, and bytes of the output and of the text.
-const SCRIPT_MOST: usize = 65_536;
+const SCRIPT_MAX: usize = 65_536;
 
 const BUFFER_SIZE: usize = 12_288;
 
@@ -28,7 +28,7 @@ fn write_built(list: &[u32], count: usize, output: &mut [u8], text: &mut [u8]) -
         Written (now (text .entry)) (listText (now (output .entry)) (lentList (now (list .entry)) count)) (now (text .exit)) r
         (4 * length (now (output .entry)) + 64) ⌝ }
 {
-    let identity = eit::no_identity();
+    let identity = eit::zero_identity();
     let built = build::build(list, count, b"", b"", BASE_DAY, identity, output);
     let number = build_answer::number_of(built);
     if number != 0 {
@@ -44,13 +44,13 @@ fn write_within(script: &[u8], list: &mut [u32], output: &mut [u8], text: &mut [
         Written (now (text .entry)) (textWithin (now (list .entry)) (now (output .entry)) (now (script .entry)))
         (now (text .exit)) r (4 * length (now (output .entry)) + 64) ⌝ }
 {
-    if SCRIPT_MOST < script.len() {
+    if SCRIPT_MAX < script.len() {
         return plan_listing::write_too_long(text);
     }
     let edited = edit::edit(list, 0, b"", b"", script);
-    let said = edited.answer;
+    let answer = edited.answer;
     let count = edited.count;
-    let number = edit_answer::number_of(said);
+    let number = edit_answer::number_of(answer);
     if number != 0 {
         return plan_listing::write_refused(text, number);
     }
@@ -59,11 +59,11 @@ fn write_within(script: &[u8], list: &mut [u32], output: &mut [u8], text: &mut [
 
 // The text for a script, whole: the buffer has room for every text. Returns the text's length.
 fn plan_text(script: &[u8], text: &mut [u8]) -> usize
-    requires { ⌜ textMost ≤ length (now text) ⌝ }
+    requires { ⌜ textMax ≤ length (now text) ⌝ }
     ensures { λ r. ⌜
         (now (text .exit) ≡ overwrite (now (text .entry)) 0 (planText (now (script .entry))))
         × (r ≡ length (planText (now (script .entry))))
-        × (r ≤ textMost) ⌝ }
+        × (r ≤ textMax) ⌝ }
 {
     let mut list = [0u32; BUFFER_SIZE];
     let mut output = [0u8; OUTPUT_SIZE];
@@ -78,7 +78,7 @@ enum Input {
 
 // Reads on until the input ends or the buffer is full.
 fn read_input(buffer: &mut [u8]) -> Input
-    ensures { λ r. ⌜ isInside r (now (buffer .exit)) ⌝ }
+    ensures { λ r. ⌜ isReadInto r (now (buffer .exit)) ⌝ }
 {
     let mut n = 0;
     while n < buffer.len() {
@@ -96,7 +96,7 @@ fn read_input(buffer: &mut [u8]) -> Input
 }
 
 fn main() {
-    let mut script = [0u8; SCRIPT_MOST + 1];
+    let mut script = [0u8; SCRIPT_MAX + 1];
     let Input::Bytes(size) = read_input(&mut script) else {
         io::write_all(STDERR_FILENO, b"plan: standard input cannot be read\n");
         return;

@@ -56,70 +56,70 @@ module _ (d : List ℕ) (at : ℕ) (xs ys : List ℕ) where
   abbrev between : List ℕ
   between = filled d at xs
 
-  abbrev place : ℕ
-  place = filledTo d at xs
+  abbrev to : ℕ
+  to = filledTo d at xs
 
   -- what is left of the room
-  room-left : length between - place ≡ length d - at - length xs
+  room-left : length between - to ≡ length d - at - length xs
   room-left = rw (filled-length d at xs) (simp length-take (omega arith))
 
-  both-fit : fitting d at (xs ++ ys) ≡ fitting d at xs ++ fitting between place ys
+  both-fit : fitting d at (xs ++ ys) ≡ fitting d at xs ++ fitting between to ys
   both-fit = rw room-left (take-append (length d - at) xs ys)
 
-  filled-both : filled between place ys ≡ filled d at (xs ++ ys)
+  filled-both : filled between to ys ≡ filled d at (xs ++ ys)
   filled-both =
       ⊎-elim
       (λ (inside : at ≤ length d).
-      over-over d at (fitting d at xs) (fitting between place ys) inside ∙ ap (overwrite d at) (sym both-fit))
+      over-over d at (fitting d at xs) (fitting between to ys) inside ∙ ap (overwrite d at) (sym both-fit))
       (λ (outside : length d < at).
-      sym (filled-full between place ys (omega (arith, filled-length d at xs)) .0)
+      sym (filled-full between to ys (omega (arith, filled-length d at xs)) .0)
       ∙ sym (filled-full d at xs (omega arith) .0)
       ∙ filled-full d at (xs ++ ys) (omega arith) .0)
       (le-or-lt at (length d))
 
-  filled-both-to : filledTo between place ys ≡ filledTo d at (xs ++ ys)
-  filled-both-to = omega (arith, ap length both-fit ∙ length-append (fitting d at xs) (fitting between place ys))
+  filled-both-to : filledTo between to ys ≡ filledTo d at (xs ++ ys)
+  filled-both-to = omega (arith, ap length both-fit ∙ length-append (fitting d at xs) (fitting between to ys))
 
 -- ---- text after text
 
--- of the text that d gets from `at` on, what stands before `rest` is written in `out`; the rest goes there from `place` on
-pub record Unwritten (d : List ℕ) (at : ℕ) (all out : List ℕ) (place : ℕ) (rest : List ℕ) : Type 0 where
-  pub bytes : filled d at all ≡ filled out place rest
-  pub ends : filledTo d at all ≡ filledTo out place rest
+-- of the text that d gets from `at` on, what stands before `rest` is written in `out`; the rest goes there from `to` on
+pub record Unwritten (d : List ℕ) (at : ℕ) (all out : List ℕ) (to : ℕ) (rest : List ℕ) : Type 0 where
+  pub bytes : filled d at all ≡ filled out to rest
+  pub ends : filledTo d at all ≡ filledTo out to rest
   pub size : length out ≡ length d
 
 pub unwritten-all : (d : List ℕ) (at : ℕ) (all : List ℕ) → Unwritten d at all d at all
 unwritten-all d at all = record { bytes = refl; ends = refl; size = refl }
 
-module _ {d : List ℕ} {at : ℕ} {all out : List ℕ} {place : ℕ} {rest : List ℕ} (left : Unwritten d at all out place rest) where
+module _ {d : List ℕ} {at : ℕ} {all out : List ℕ} {to : ℕ} {rest : List ℕ} (left : Unwritten d at all out to rest) where
   -- once the next text is written, `more` is left
-  pub unwritten-more : (text more : List ℕ) → rest ≡ text ++ more → {out′ : List ℕ} {place′ : ℕ}
-      → Fills out place text out′ place′ → Unwritten d at all out′ place′ more
+  pub unwritten-more : (text more : List ℕ) → rest ≡ text ++ more → {out′ : List ℕ} {to′ : ℕ}
+      → Fills out to text out′ to′ → Unwritten d at all out′ to′ more
   unwritten-more text more parts (written, behind) = record {
     bytes =
         left .bytes
-        ∙ ap (filled out place) parts
-        ∙ sym (filled-both out place text more)
+        ∙ ap (filled out to) parts
+        ∙ sym (filled-both out to text more)
         ∙ ap₂ (λ (l : List ℕ) (k : ℕ). filled l k more) (sym written) (sym behind);
     ends =
         left .ends
-        ∙ ap (filledTo out place) parts
-        ∙ sym (filled-both-to out place text more)
+        ∙ ap (filledTo out to) parts
+        ∙ sym (filled-both-to out to text more)
         ∙ ap₂ (λ (l : List ℕ) (k : ℕ). filledTo l k more) (sym written) (sym behind);
-    size = ap length written ∙ filled-length out place text ∙ left .size;
+    size = ap length written ∙ filled-length out to text ∙ left .size;
   }
 
   -- the last text
-  pub unwritten-last : {out′ : List ℕ} {place′ : ℕ} → Fills out place rest out′ place′ → Fills d at all out′ place′
+  pub unwritten-last : {out′ : List ℕ} {to′ : ℕ} → Fills out to rest out′ to′ → Fills d at all out′ to′
   unwritten-last (written, behind) = (written ∙ sym (left .bytes), behind ∙ sym (left .ends))
 
   -- nothing is left, or there is no room for it
-  pub unwritten-none : rest ≡ [] → Fills d at all out place
+  pub unwritten-none : rest ≡ [] → Fills d at all out to
   unwritten-none none =
-      unwritten-last (filled-nothing out place rest (ap (fitting out place) none ∙ take-nil (length out - place)))
+      unwritten-last (filled-nothing out to rest (ap (fitting out to) none ∙ take-nil (length out - to)))
 
-  pub unwritten-full : length out ≤ place → Fills d at all out place
-  unwritten-full full = unwritten-last (filled-full out place rest full)
+  pub unwritten-full : length out ≤ to → Fills d at all out to
+  unwritten-full full = unwritten-last (filled-full out to rest full)
 
 -- two texts, one behind the other
 pub filled-two : (d : List ℕ) (at : ℕ) (xs ys : List ℕ) {e f : List ℕ} {p q : ℕ}

@@ -10,8 +10,8 @@ use lib.ListN.{length, take, drop, length-append, length-take, length-drop}
 use Rattle.eit.specs.Fields.{Bytes}
 use Rattle.eit.proofs.Fields.{bytes-take}
 use Rattle.eit.proofs.Test.{le-or-lt}
-use Rattle.sections.specs.Cut.{cutFrom, cut}
-use Rattle.sections.specs.Decode.{headerIn, eventLoop, statedEventSize, statedSectionSize, cutEvents, cutFile}
+use Rattle.sections.specs.Split.{splitFrom, splitBy}
+use Rattle.sections.specs.Decode.{headerIn, eventLoop, statedEventSize, statedSectionSize, splitEvents, splitFile}
 use Rattle.codec.proofs.FieldLaws.{field-small}
 use Rattle.plan_listing.specs.Listing.{space, newline, decimalUpTo, decimalOf, numberThen}
 use Rattle.plan_listing.specs.Listing.{sectionLine, sectionLines, bytesWord, listing, refusedText}
@@ -47,13 +47,13 @@ none-below k zero below = omega arith
 none-below k (suc n) below = absurd (omega (arith, mul-suc (suc k) n))
 
 module _ (size : List ℕ → ℕ) (k : ℕ) (least : (bs : List ℕ) → suc k ≤ size bs) where
-  few-from : (skip : ℕ) (bs : List ℕ) → suc k * length (cutFrom size skip bs) ≤ length (drop skip bs) + k
+  few-from : (skip : ℕ) (bs : List ℕ) → suc k * length (splitFrom size skip bs) ≤ length (drop skip bs) + k
   few-from zero [] = omega arith
   few-from (suc skip) [] = omega arith
   few-from (suc skip) (b ∷ bs) = few-from skip bs
   few-from zero (b ∷ bs) =
       let n : ℕ = pred (size (b ∷ bs)) in
-      let pieces : ℕ = length (cutFrom size n bs) in
+      let pieces : ℕ = length (splitFrom size n bs) in
       let more : suc k * suc pieces ≡ suc k * pieces + suc k = mul-suc (suc k) pieces in
       let rest : length (drop n bs) ≡ length bs - n = length-drop n bs in
       let left : suc k * pieces ≤ length (drop n bs) + k = few-from n bs in
@@ -63,15 +63,15 @@ module _ (size : List ℕ → ℕ) (k : ℕ) (least : (bs : List ℕ) → suc k 
       (λ (short : length bs < n). omega (arith, none-below k pieces (omega arith)))
       (le-or-lt n (length bs))
 
-  few-pieces : (bs : List ℕ) → suc k * length (cut size bs) ≤ length bs + k
-  unfolding cut
+  few-pieces : (bs : List ℕ) → suc k * length (splitBy size bs) ≤ length bs + k
+  unfolding splitBy
   few-pieces bs = few-from 0 bs
 
 -- ---- a line
 
 module _ (bs : List ℕ) (bytes : Bytes bs) (short : length bs ≤ 4_098) where
-  few-events : length (cutEvents bs) < 10 ^ 3
-  unfolding cutEvents
+  few-events : length (splitEvents bs) < 10 ^ 3
+  unfolding splitEvents
   few-events =
       let size : length (eventLoop bs) ≤ 4_098 = simp (length-take, length-drop) (omega arith) in
       omega (arith, few-pieces statedEventSize 11 (λ (rest : List ℕ). omega arith) (eventLoop bs))
@@ -81,20 +81,20 @@ module _ (bs : List ℕ) (bytes : Bytes bs) (short : length bs ≤ 4_098) where
   line-length =
       let table : List ℕ = numberThen (headerIn bs .tableId) space in
       let number : List ℕ = numberThen (headerIn bs .sectionNumber) space in
-      let events : List ℕ = numberThen (length (cutEvents bs)) newline in
+      let events : List ℕ = numberThen (length (splitEvents bs)) newline in
       omega (
         arith,
         length-append (table ++ number) events,
         length-append table number,
         number-length 2 (headerIn bs .tableId) space (omega (arith, field-small bs 0 1 bytes)),
         number-length 2 (headerIn bs .sectionNumber) space (omega (arith, field-small bs 6 1 bytes)),
-        number-length 2 (length (cutEvents bs)) newline few-events,
+        number-length 2 (length (splitEvents bs)) newline few-events,
       )
 
 -- ---- a file
 
 lines-from : (skip : ℕ) (bs : List ℕ) → Bytes bs
-    → length (sectionLines (cutFrom statedSectionSize skip bs)) ≤ 12 * length (cutFrom statedSectionSize skip bs)
+    → length (sectionLines (splitFrom statedSectionSize skip bs)) ≤ 12 * length (splitFrom statedSectionSize skip bs)
 unfolding sectionLines flatten
 lines-from zero [] bytes = omega arith
 lines-from (suc skip) [] bytes = omega arith
@@ -102,7 +102,7 @@ lines-from (suc skip) (b ∷ bs) bytes = lines-from skip bs (bytes .1)
 lines-from zero (b ∷ bs) bytes =
     let size : ℕ = statedSectionSize (b ∷ bs) in
     let piece : List ℕ = take size (b ∷ bs) in
-    let rest : List (List ℕ) = cutFrom statedSectionSize (pred size) bs in
+    let rest : List (List ℕ) = splitFrom statedSectionSize (pred size) bs in
     let short : length piece ≤ 4_098 = simp length-take (omega arith) in
     omega (
       arith,
@@ -113,9 +113,9 @@ lines-from zero (b ∷ bs) bytes =
 
 -- a listing has at most four bytes for each byte of the file, and some more
 pub listing-length : (file : List ℕ) → Bytes file → length file < 10 ^ 20 → length (listing file) ≤ 4 * length file + 64
-unfolding listing cutFile cut
+unfolding listing splitFile splitBy
 listing-length file bytes small =
-    let lines : List ℕ = sectionLines (cutFrom statedSectionSize 0 file) in
+    let lines : List ℕ = sectionLines (splitFrom statedSectionSize 0 file) in
     omega (
       arith,
       length-append lines (bytesWord ++ numberThen (length file) newline),

@@ -5,7 +5,7 @@ use mathlib.Core.Bool.{true, false}
 use mathlib.Core.List.{List, [], _∷_, _++_, map, flatten}
 use lib.Dec.{ltb}
 use lib.ListN.{length}
-use Rattle.sections.specs.Decode.{headerIn, cutEvents, cutFile}
+use Rattle.sections.specs.Decode.{headerIn, splitEvents, splitFile}
 
 abbrev pub space : ℕ
 space = 32
@@ -42,11 +42,11 @@ titleLine =
 
 -- "then a line for each section with table, section number and number of events, in decimal and with single spaces"
 unfoldable pub sectionLine : List ℕ → List ℕ
-unfolding numberThen cutEvents
+unfolding numberThen splitEvents
 sectionLine bs =
     numberThen (headerIn bs .tableId) space
     ++ numberThen (headerIn bs .sectionNumber) space
-    ++ numberThen (length (cutEvents bs)) newline
+    ++ numberThen (length (splitEvents bs)) newline
 
 unfoldable pub sectionLines : List (List ℕ) → List ℕ
 unfolding sectionLine flatten
@@ -57,8 +57,8 @@ abbrev pub bytesWord : List ℕ
 bytesWord = 98 ∷ 121 ∷ 116 ∷ 101 ∷ 115 ∷ space ∷ []
 
 unfoldable pub listing : List ℕ → List ℕ
-unfolding sectionLines cutFile numberThen
-listing file = titleLine ++ (sectionLines (cutFile file) ++ (bytesWord ++ numberThen (length file) newline))
+unfolding sectionLines splitFile numberThen
+listing file = titleLine ++ (sectionLines (splitFile file) ++ (bytesWord ++ numberThen (length file) newline))
 
 -- ---- no file
 

@@ -1,9 +1,9 @@
-// How many events a section has (01, "The file of sections"): its event loop, cut by the chain lengths.
+// How many events a section has (01, "The file of sections"): its event loop, split by the chain lengths.
 use codec::fields;
 use eit::limits::EVENT_OVERHEAD;
 ghost use mathlib.Core.Path.{_≡_};
 ghost use lib.ListN.{length};
-ghost use Rattle.sections.specs.Decode.{statedEventSize, cutEvents};
+ghost use Rattle.sections.specs.Decode.{statedEventSize, splitEvents};
 
 // How many bytes the event at the front of the bytes has, by its chain length.
 fn stated_event_size(bytes: &[u8]) -> usize
@@ -13,7 +13,7 @@ fn stated_event_size(bytes: &[u8]) -> usize
 }
 
 pub fn count_events(section: &[u8]) -> usize
-    ensures { λ r. ⌜ r ≡ length (cutEvents (now (section .entry))) ⌝ }
+    ensures { λ r. ⌜ r ≡ length (splitEvents (now (section .entry))) ⌝ }
 {
     let events = read_walk::event_loop(section);
     let mut at = 0;

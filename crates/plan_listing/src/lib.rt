@@ -8,7 +8,7 @@ ghost use Rattle.plan_listing.specs.Listing.{sectionLine, listing, refus
 pub mod events;
 mod text;
 
-// The line of a section: table, section number and number of events. Returns the place behind it.
+// The line of a section: table, section number and number of events. Returns the offset behind it.
 fn write_line(out: &mut [u8], at: usize, section: &[u8]) -> usize
     ensures { λ r. ⌜ Fills (now (out .entry)) at (sectionLine (now (section .entry))) (now (out .exit)) r ⌝ }
 {
@@ -23,14 +23,14 @@ fn write_line(out: &mut [u8], at: usize, section: &[u8]) -> usize
 pub fn write_listing(out: &mut [u8], file: &[u8]) -> usize
     ensures { λ r. ⌜ Fills (now (out .entry)) 0 (listing (now (file .entry))) (now (out .exit)) r ⌝ }
 {
-    let mut place = write_text(out, 0, b"table section events\n");
+    let mut to = write_text(out, 0, b"table section events\n");
     let mut offset = 0;
     while offset < file.len() {
         let section = read_walk::read_section(file, offset);
-        place = write_line(out, place, section);
+        to = write_line(out, to, section);
         offset = read_walk::next_offset(file, offset);
     }
-    let end = write_text(out, place, b"bytes ");
+    let end = write_text(out, to, b"bytes ");
     write_number(out, end, file.len(), b'\n')
 }
 

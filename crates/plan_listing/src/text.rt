@@ -1,18 +1,18 @@
-// Text into a lent buffer: what has no room is left out. Each function returns the place behind what it wrote.
+// Text into a lent buffer: what has no room is left out. Each function returns the offset behind what it wrote.
 ghost use Rattle.plan_listing.specs.Fill.{Fills};
 ghost use Rattle.plan_listing.specs.Listing.{numberThen};
 
 pub fn write_text(out: &mut [u8], at: usize, text: &[u8]) -> usize
     ensures { λ r. ⌜ Fills (now (out .entry)) at (now (text .entry)) (now (out .exit)) r ⌝ }
 {
-    let mut place = at;
+    let mut to = at;
     let mut i = 0;
-    while i < text.len() && place < out.len() {
-        out[place] = text[i];
-        place += 1;
+    while i < text.len() && to < out.len() {
+        out[to] = text[i];
+        to += 1;
         i += 1;
     }
-    place
+    to
 }
 
 // A number in decimal, and one byte behind it.

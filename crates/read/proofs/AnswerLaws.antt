@@ -6,18 +6,18 @@ use Prim.Native.Nat.{ℕ, _*_, _/_, _≤_, _<_}
 use native.Mathlib.Omega.{arith}
 use lib.ListN.{length}
 use Rattle.eit.specs.Sizes.{broadcast}
-use Rattle.eit.specs.Identity.{noIdentity}
+use Rattle.eit.specs.Identity.{zeroIdentity}
 use Rattle.eit.specs.Overwrite.{overwrite}
 use Rattle.eit.specs.Records.{recordSize, numbersOfAll}
 use Rattle.sections.specs.Read.{Answer, refusal, checkFile, fileRecords, read}
 use Rattle.sections.proofs.Read.{read-refused, read-short, read-succeeds}
 use Rattle.sections.proofs.Exact.{accepted-answer}
-use Rattle.read_answer.specs.Told.{answerNumber, answerCount, told}
+use Rattle.read_answer.specs.Outcome.{answerNumber, answerCount, outcomeOf}
 use Rattle.read_answer.specs.declared.CheckedFile.{CheckedFile}
 use Rattle.read_answer.specs.declared.ReadAnswer.the-variants.{RecordsShort}
-use Rattle.read.specs.ReadTold.{readTold}
+use Rattle.read.specs.ReadOutcome.{readOutcome}
 
-module _ (base : ℕ) (file buffer : List ℕ) (checked : CheckedFile) (is : checkFile broadcast base file ≡ told checked) where
+module _ (base : ℕ) (file buffer : List ℕ) (checked : CheckedFile) (is : checkFile broadcast base file ≡ outcomeOf checked) where
   number-is : checkFile broadcast base file .number ≡ answerNumber (checked .answer)
   number-is = ap (λ (a : Answer). a .number) is
 
@@ -25,7 +25,7 @@ module _ (base : ℕ) (file buffer : List ℕ) (checked : CheckedFile) (is : che
   count-is = ap (λ (a : Answer). a .count) is
 
   pub read-stops : {number : ℕ} → number ≡ answerNumber (checked .answer) → (number ≡ 0 → ⊥)
-      → read broadcast base file buffer ≡ readTold checked buffer
+      → read broadcast base file buffer ≡ readOutcome checked buffer
   read-stops made refused =
       read-refused broadcast base file buffer (λ zero. refused (made ∙ sym number-is ∙ zero))
       ∙ ap (λ (a : Answer). record { answer = a; buffer = buffer }) is
@@ -39,7 +39,7 @@ module _ (base : ℕ) (file buffer : List ℕ) (checked : CheckedFile) (is : che
     same-count = count-is ∙ sym count-made
 
     pub read-27 : length buffer / recordSize < count
-        → read broadcast base file buffer ≡ readTold (record { answer = RecordsShort count; identity = noIdentity }) buffer
+        → read broadcast base file buffer ≡ readOutcome (record { answer = RecordsShort count; identity = zeroIdentity }) buffer
     read-27 short =
         read-short broadcast base file buffer accepted (omega (arith, same-count))
         ∙ ap (λ (n : ℕ). record { answer = refusal 27 n; buffer = buffer }) same-count
@@ -51,7 +51,7 @@ module _ (base : ℕ) (file buffer : List ℕ) (checked : CheckedFile) (is : che
         omega (arith, events, same-count)
 
     pub read-fills : count ≤ length buffer / recordSize → {out : List ℕ}
-        → out ≡ overwrite buffer 0 (numbersOfAll (fileRecords base file)) → read broadcast base file buffer ≡ readTold checked out
+        → out ≡ overwrite buffer 0 (numbersOfAll (fileRecords base file)) → read broadcast base file buffer ≡ readOutcome checked out
     read-fills enough {out} filled =
         read-succeeds broadcast base file buffer accepted (omega (arith, same-count))
         ∙ (λ i. record { answer = is i; buffer = sym filled i })

@@ -10,10 +10,10 @@ use Rattle.eit.specs.Records.{recordSize, numbersOfAll}
 use Rattle.eit.specs.declared.Record.{Record}
 use Rattle.eit.proofs.Records.{numbers-length, numbers-append}
 use Rattle.sections.specs.Section.{headerSize}
-use Rattle.sections.specs.Decode.{statedEventSize, eventLoop, cutEvents, sectionIn, cutFile}
-use Rattle.sections.specs.Cut.{cut}
+use Rattle.sections.specs.Decode.{statedEventSize, eventLoop, splitEvents, sectionIn, splitFile}
+use Rattle.sections.specs.Split.{splitBy}
 use Rattle.sections.specs.Every.{Every}
-use Rattle.sections.specs.Places.{recordsFrom}
+use Rattle.sections.specs.Offsets.{recordsFrom}
 use Rattle.sections.specs.Read.{fileRecords}
 use Rattle.sections.proofs.Exact.{sections-are, records-are}
 use Rattle.codec.proofs.LeftLaws.{Left, left-all, left-fits, left-more, left-end}
@@ -26,18 +26,18 @@ use Rattle.read.proofs.FillLaws.{pieceRecords, piece-count}
 abbrev shownRecords : ℕ → ℕ → List (List ℕ) → List Record
 shownRecords base offset pieces = recordsFrom offset (map (sectionIn base) pieces)
 
-records-shown : (base : ℕ) (file : List ℕ) → fileRecords base file ≡ shownRecords base 0 (cutFile file)
+records-shown : (base : ℕ) (file : List ℕ) → fileRecords base file ≡ shownRecords base 0 (splitFile file)
 records-shown base file = records-are base file ∙ ap (recordsFrom 0) (sections-are base file)
 
 -- a section's records, then those behind it
 shown-next : (base offset : ℕ) (bs : List ℕ) (rest : List (List ℕ)) → Fillable base bs
     → shownRecords base offset (bs ∷ rest)
-    ≡ pieceRecords base (offset + headerSize) (cut statedEventSize (eventLoop bs)) ++ shownRecords base (offset + length bs) rest
-unfolding sectionIn cutEvents
+    ≡ pieceRecords base (offset + headerSize) (splitBy statedEventSize (eventLoop bs)) ++ shownRecords base (offset + length bs) rest
+unfolding sectionIn splitEvents
 shown-next base offset bs rest fillable =
     ap
     (λ (size : ℕ).
-    pieceRecords base (offset + headerSize) (cut statedEventSize (eventLoop bs)) ++ shownRecords base (offset + size) rest)
+    pieceRecords base (offset + headerSize) (splitBy statedEventSize (eventLoop bs)) ++ shownRecords base (offset + size) rest)
     (fillable .size)
 
 -- a section has room for its header and CRC_32
@@ -47,11 +47,11 @@ section-size base bs fillable = omega (arith, fillable .size)
 -- before a turn: the section at the offset is the next one, and its first record the record n
 pub record FileSoFar (base : ℕ) (file d out : List ℕ) (n offset : ℕ) : Type 0 where
   pub left : Left d 0 (numbersOfAll (fileRecords base file)) out (n * recordSize)
-      (numbersOfAll (recordsFrom offset (map (sectionIn base) (cutFile (drop offset file)))))
-  pub all : Every (Fillable base) (cutFile (drop offset file))
+      (numbersOfAll (recordsFrom offset (map (sectionIn base) (splitFile (drop offset file)))))
+  pub all : Every (Fillable base) (splitFile (drop offset file))
   pub inside : offset ≤ length file
 
-pub file-start : (base : ℕ) (file d : List ℕ) → Every (Fillable base) (cutFile file)
+pub file-start : (base : ℕ) (file d : List ℕ) → Every (Fillable base) (splitFile file)
     → length (fileRecords base file) * recordSize ≤ length d → FileSoFar base file d d 0 0
 file-start base file d all room =
     record {
@@ -65,12 +65,12 @@ file-start base file d all room =
 module _ {base : ℕ} {file d out : List ℕ} {n offset : ℕ} (so-far : FileSoFar base file d out n offset) where
   module _ (here : offset < length file) {section : List ℕ} (is : section ≡ sectionAt file offset) where
     abbrev behind : List (List ℕ)
-    behind = cutFile (drop (offset + length section) file)
+    behind = splitFile (drop (offset + length section) file)
 
     ends : offset + length section ≡ sectionEnd file offset
     ends = sym (end-is file offset refl is)
 
-    next-piece : cutFile (drop offset file) ≡ section ∷ behind
+    next-piece : splitFile (drop offset file) ≡ section ∷ behind
     next-piece = walk-next file offset ends is here
 
     each : Every (Fillable base) (section ∷ behind)
@@ -78,14 +78,14 @@ module _ {base : ℕ} {file d out : List ℕ} {n offset : ℕ} (so-far : FileSoF
 
     module _ {events : List ℕ} (loop : events ≡ eventLoop section) where
       abbrev pieces : List (List ℕ)
-      pieces = cut statedEventSize events
+      pieces = splitBy statedEventSize events
 
       abbrev records : List Record
       records = pieceRecords base (offset + headerSize) pieces
 
       pub events-are : AreEvents base pieces
-      unfolding cutEvents
-      events-are = subst (λ (bs : List ℕ). AreEvents base (cut statedEventSize bs)) (sym loop) (each .0 .events)
+      unfolding splitEvents
+      events-are = subst (λ (bs : List ℕ). AreEvents base (splitBy statedEventSize bs)) (sym loop) (each .0 .events)
 
       pub events-inside : offset + headerSize + length events ≤ length file
       events-inside =
@@ -97,16 +97,16 @@ module _ {base : ℕ} {file d out : List ℕ} {n offset : ℕ} (so-far : FileSoF
             end-inside file offset ends here,
           )
 
-      parts : numbersOfAll (recordsFrom offset (map (sectionIn base) (cutFile (drop offset file))))
+      parts : numbersOfAll (recordsFrom offset (map (sectionIn base) (splitFile (drop offset file))))
           ≡ numbersOfAll records ++ numbersOfAll (shownRecords base (offset + length section) behind)
       parts =
           ap (λ (xs : List (List ℕ)). numbersOfAll (shownRecords base offset xs)) next-piece
           ∙ ap numbersOfAll (shown-next base offset section behind (each .0))
-          ∙ numbers-append (pieceRecords base (offset + headerSize) (cut statedEventSize (eventLoop section)))
+          ∙ numbers-append (pieceRecords base (offset + headerSize) (splitBy statedEventSize (eventLoop section)))
           (shownRecords base (offset + length section) behind)
           ∙ ap
           (λ (bs : List ℕ).
-          numbersOfAll (pieceRecords base (offset + headerSize) (cut statedEventSize bs))
+          numbersOfAll (pieceRecords base (offset + headerSize) (splitBy statedEventSize bs))
           ++ numbersOfAll (shownRecords base (offset + length section) behind))
           (sym loop)
 

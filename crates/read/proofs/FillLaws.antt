@@ -16,10 +16,10 @@ use Rattle.eit.proofs.Test.{and-left, and-right}
 use Rattle.eit.proofs.Records.{numbers-length}
 use Rattle.sections.specs.Section.{eventOverhead, eventSize}
 use Rattle.sections.specs.Decode.{statedEventSize, eventIn}
-use Rattle.sections.specs.Cut.{cut}
-use Rattle.sections.specs.Places.{recordAt, recordsAt}
-use Rattle.sections.specs.JudgeEvents.{isEvent, areEvents}
-use Rattle.sections.proofs.Cut.{cut-nil, cut-next}
+use Rattle.sections.specs.Split.{splitBy}
+use Rattle.sections.specs.Offsets.{recordAt, recordsAt}
+use Rattle.sections.specs.EventTests.{isEvent, areEvents}
+use Rattle.sections.proofs.Split.{split-nil, split-next}
 use Rattle.codec.proofs.LeftLaws.{Left, left-all, left-fits, left-more, left-end}
 use Rattle.codec_section.specs.EventRead.{frontEvent, eventRead}
 use Rattle.codec_section.specs.declared.event.EventRead.the-variants.{Whole, Broken}
@@ -39,17 +39,17 @@ piece-count base from (bs ∷ rest) = ap suc (piece-count base (from + eventSize
 
 -- before a turn: the event at `at` of the loop is the next one, and its record the record n
 pub record FillSoFar (base from place : ℕ) (events d out : List ℕ) (n at : ℕ) : Type 0 where
-  pub left : Left d (place * recordSize) (numbersOfAll (pieceRecords base from (cut statedEventSize events))) out (n * recordSize)
-      (numbersOfAll (pieceRecords base (from + at) (cut statedEventSize (drop at events))))
-  pub are : AreEvents base (cut statedEventSize (drop at events))
+  pub left : Left d (place * recordSize) (numbersOfAll (pieceRecords base from (splitBy statedEventSize events))) out (n * recordSize)
+      (numbersOfAll (pieceRecords base (from + at) (splitBy statedEventSize (drop at events))))
+  pub are : AreEvents base (splitBy statedEventSize (drop at events))
   pub inside : at ≤ length events
 
 pub fill-start : (base from place : ℕ) (events d : List ℕ)
-    → AreEvents base (cut statedEventSize events)
-    → (place + length (cut statedEventSize events)) * recordSize ≤ length d
+    → AreEvents base (splitBy statedEventSize events)
+    → (place + length (splitBy statedEventSize events)) * recordSize ≤ length d
     → FillSoFar base from place events d d place 0
 fill-start base from place events d are room =
-    let all : List (List ℕ) = cut statedEventSize events in
+    let all : List (List ℕ) = splitBy statedEventSize events in
     let start : from + 0 ≡ from = omega arith in
     record {
       left =
@@ -73,7 +73,7 @@ module _ {base from place : ℕ} {events d out : List ℕ} {n at : ℕ} (so-far 
     never-broken broken =
         let no-event : isEvent base (so-far .are .header) (frontEvent rest) ≡ false =
         event-whole base (so-far .are .header) (frontEvent rest) ∙ rw (broken-only base rest broken) in
-        let pieces = cut-next statedEventSize rest some-rest (omega arith) in
+        let pieces = split-next statedEventSize rest some-rest (omega arith) in
         let first : T (isEvent base (so-far .are .header) (frontEvent rest)) =
         and-left (isEvent base (so-far .are .header) (frontEvent rest)) _
         (subst (λ (xs : List (List ℕ)). T (areEvents base (so-far .are .header) xs)) pieces (so-far .are .are)) in
@@ -112,18 +112,18 @@ module _ {base from place : ℕ} {events d out : List ℕ} {n at : ℕ} (so-far 
           }
 
       behind : List Record
-      behind = pieceRecords base (from + (at + size)) (cut statedEventSize (drop (at + size) events))
+      behind = pieceRecords base (from + (at + size)) (splitBy statedEventSize (drop (at + size) events))
 
-      next-records : pieceRecords base (from + at) (cut statedEventSize rest) ≡ recordAt (from + at) event ∷ behind
+      next-records : pieceRecords base (from + at) (splitBy statedEventSize rest) ≡ recordAt (from + at) event ∷ behind
       unfolding behind
       next-records =
           let chain : eventSize event ≡ size = ap (λ (q : Record). eventOverhead + q .«chain_length») (sym (whole-record base rest read)) in
           let far : from + at + eventSize event ≡ from + (at + size) = omega (arith, chain) in
           ap (pieceRecords base (from + at)) (whole-next base rest read)
-          ∙ ap₂ (λ (place : ℕ) (bs : List ℕ). recordAt (from + at) event ∷ pieceRecords base place (cut statedEventSize bs)) far
+          ∙ ap₂ (λ (place : ℕ) (bs : List ℕ). recordAt (from + at) event ∷ pieceRecords base place (splitBy statedEventSize bs)) far
           (drop-drop size at events)
 
-      parts : numbersOfAll (pieceRecords base (from + at) (cut statedEventSize rest))
+      parts : numbersOfAll (pieceRecords base (from + at) (splitBy statedEventSize rest))
           ≡ numbersOf (recordAt (from + at) event) ++ numbersOfAll behind
       parts = ap numbersOfAll next-records
 
@@ -144,8 +144,8 @@ module _ {base from place : ℕ} {events d out : List ℕ} {n at : ℕ} (so-far 
           → FillSoFar base from place events d out′ (n + 1) (at + size)
       unfolding behind
       fill-more place-is put =
-          let pieces : cut statedEventSize rest ≡ frontEvent rest ∷ cut statedEventSize (drop (at + size) events) =
-          whole-next base rest read ∙ ap (λ (bs : List ℕ). frontEvent rest ∷ cut statedEventSize bs) (drop-drop size at events) in
+          let pieces : splitBy statedEventSize rest ≡ frontEvent rest ∷ splitBy statedEventSize (drop (at + size) events) =
+          whole-next base rest read ∙ ap (λ (bs : List ℕ). frontEvent rest ∷ splitBy statedEventSize bs) (drop-drop size at events) in
           record {
             left =
                 left-more (so-far .left) (numbersOf (recordAt (from + at) event)) (numbersOfAll behind) parts
@@ -162,12 +162,12 @@ module _ {base from place : ℕ} {events d out : List ℕ} {n at : ℕ} (so-far 
           }
 
   pub fill-end : length events ≤ at
-      → (out ≡ overwrite d (place * recordSize) (numbersOfAll (pieceRecords base from (cut statedEventSize events))))
-      × (n ≡ place + length (cut statedEventSize events))
+      → (out ≡ overwrite d (place * recordSize) (numbersOfAll (pieceRecords base from (splitBy statedEventSize events))))
+      × (n ≡ place + length (splitBy statedEventSize events))
   fill-end end =
-      let all : List (List ℕ) = cut statedEventSize events in
-      let none : numbersOfAll (pieceRecords base (from + at) (cut statedEventSize rest)) ≡ [] =
-      ap (λ (bs : List ℕ). numbersOfAll (pieceRecords base (from + at) (cut statedEventSize bs))) (drop-of-length-le events end)
-      ∙ ap (λ (pieces : List (List ℕ)). numbersOfAll (pieceRecords base (from + at) pieces)) (cut-nil statedEventSize) in
+      let all : List (List ℕ) = splitBy statedEventSize events in
+      let none : numbersOfAll (pieceRecords base (from + at) (splitBy statedEventSize rest)) ≡ [] =
+      ap (λ (bs : List ℕ). numbersOfAll (pieceRecords base (from + at) (splitBy statedEventSize bs))) (drop-of-length-le events end)
+      ∙ ap (λ (pieces : List (List ℕ)). numbersOfAll (pieceRecords base (from + at) pieces)) (split-nil statedEventSize) in
       let (written, ends) = left-end (so-far .left) none in
       (written, omega (arith, numbers-length (pieceRecords base from all), piece-count base from all))

@@ -10,9 +10,9 @@ use Rattle.eit.specs.declared.Sizes.{Sizes}
 use Rattle.eit.specs.Fields.{Bytes}
 use Rattle.eit.proofs.Fields.{bytes-parts}
 use Rattle.eit.proofs.Test.{and-left}
-use Rattle.sections.specs.Decode.{headerIn, cutEvents, sectionIn, cutFile}
+use Rattle.sections.specs.Decode.{headerIn, splitEvents, sectionIn, splitFile}
 use Rattle.sections.specs.Every.{Every}
-use Rattle.sections.specs.JudgeEvents.{areEvents, isEventLoop}
+use Rattle.sections.specs.EventTests.{areEvents, isEventLoop}
 use Rattle.sections.specs.Walk.{Progress, atStart, behind}
 use Rattle.sections.specs.Read.{checkFile}
 use Rattle.sections.proofs.Lengths.{section-length}
@@ -27,7 +27,7 @@ module _ (sizes : Sizes) (base : ℕ) where
   passed-fills : (p : Progress) (bs : List ℕ) → Bytes bs → Passes sizes base p bs → Fillable base bs
   unfolding isEventLoop
   passed-fills p bs bytes passes = record {
-    events = record { header = headerIn bs; are = and-left (areEvents base (headerIn bs) (cutEvents bs)) _ (passes .loop) };
+    events = record { header = headerIn bs; are = and-left (areEvents base (headerIn bs) (splitEvents bs)) _ (passes .loop) };
     size = sym (section-length base (sectionIn base bs)) ∙ ap length (section-forth sizes base p bs bytes passes .bytes);
   }
 
@@ -39,10 +39,10 @@ module _ (sizes : Sizes) (base : ℕ) where
       (passed-fills p bs front (all .0), all-fill (behind base p bs) rest others (all .1))
 
 module _ (base : ℕ) (file : List ℕ) (bytes : Bytes file) (accepted : checkFile broadcast base file .number ≡ 0) where
-  pub accepted-fills : Every (Fillable base) (cutFile file)
+  pub accepted-fills : Every (Fillable base) (splitFile file)
   accepted-fills =
       let (legal, all, complete) = check-succeeded broadcast base file accepted in
-      all-fill broadcast base atStart (cutFile file) (subst Bytes (sym (file-joined file)) bytes) all
+      all-fill broadcast base atStart (splitFile file) (subst Bytes (sym (file-joined file)) bytes) all
 
   pub accepted-below : length file < 2 ^ 32
   accepted-below = omega (arith, accepted-size broadcast base file (omega arith) bytes accepted)

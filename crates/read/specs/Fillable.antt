@@ -6,8 +6,8 @@ use Prim.Native.Nat.{ℕ}
 use lib.Dec.{T}
 use lib.ListN.{length}
 use Rattle.sections.specs.Section.{Header, sectionSize}
-use Rattle.sections.specs.Decode.{cutEvents, sectionIn}
-use Rattle.sections.specs.JudgeEvents.{areEvents}
+use Rattle.sections.specs.Decode.{splitEvents, sectionIn}
+use Rattle.sections.specs.EventTests.{areEvents}
 
 -- the pieces of an event loop are events of a section
 pub record AreEvents (base : ℕ) (pieces : List (List ℕ)) : Type 0 where
@@ -16,5 +16,5 @@ pub record AreEvents (base : ℕ) (pieces : List (List ℕ)) : Type 0 where
 
 -- a section's pieces are events, and it has the bytes of the section that it shows
 pub record Fillable (base : ℕ) (bs : List ℕ) : Type 0 where
-  pub events : AreEvents base (cutEvents bs)
+  pub events : AreEvents base (splitEvents bs)
   pub size : sectionSize (sectionIn base bs) ≡ length bs

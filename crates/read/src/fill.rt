@@ -11,10 +11,10 @@ ghost use Prim.Native.Nat.{_+_, _*_, _^_, _≤_, _<_};
 ghost use lib.ListN.{length};
 ghost use Rattle.eit.specs.Overwrite.{overwrite};
 ghost use Rattle.eit.specs.Records.{recordSize, numbersOfAll};
-ghost use Rattle.sections.specs.Decode.{statedEventSize, eventIn, cutFile};
-ghost use Rattle.sections.specs.Cut.{cut};
+ghost use Rattle.sections.specs.Decode.{statedEventSize, eventIn, splitFile};
+ghost use Rattle.sections.specs.Split.{splitBy};
 ghost use Rattle.sections.specs.Every.{Every};
-ghost use Rattle.sections.specs.Places.{recordsAt};
+ghost use Rattle.sections.specs.Offsets.{recordsAt};
 ghost use Rattle.sections.specs.Read.{fileRecords};
 ghost use Rattle.read.specs.Fillable.{AreEvents, Fillable};
 
@@ -27,14 +27,14 @@ fn fill_events(
     base_day: u32,
 ) -> usize
     requires { ⌜
-        AreEvents «base_day» (cut statedEventSize (now events))
-        × ((place + length (cut statedEventSize (now events))) * recordSize ≤ length (now records))
+        AreEvents «base_day» (splitBy statedEventSize (now events))
+        × ((place + length (splitBy statedEventSize (now events))) * recordSize ≤ length (now records))
         × (from + length (now events) < 2 ^ 32) ⌝ }
     ensures { λ r. ⌜
         now (records .exit)
         ≡ overwrite (now (records .entry)) (place * recordSize)
-        (numbersOfAll (recordsAt from (map (eventIn «base_day») (cut statedEventSize (now (events .entry))))))
-        × (r ≡ place + length (cut statedEventSize (now (events .entry)))) ⌝ }
+        (numbersOfAll (recordsAt from (map (eventIn «base_day») (splitBy statedEventSize (now (events .entry))))))
+        × (r ≡ place + length (splitBy statedEventSize (now (events .entry)))) ⌝ }
 {
     let mut n = place;
     let mut at = 0;
@@ -60,7 +60,7 @@ fn fill_events(
 // All records of the file, section after section.
 pub fn fill_file(records: &mut [u32], file: &[u8], base_day: u32)
     requires { ⌜
-        Every (Fillable «base_day») (cutFile (now file))
+        Every (Fillable «base_day») (splitFile (now file))
         × (length (fileRecords «base_day» (now file)) * recordSize ≤ length (now records))
         × (length (now file) < 2 ^ 32) ⌝ }
     ensures { λ _. ⌜

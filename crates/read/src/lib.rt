@@ -5,21 +5,21 @@ use read_answer::ReadAnswer;
 ghost use mathlib.Core.Path.{_≡_};
 ghost use Rattle.eit.specs.Sizes.{broadcast};
 ghost use Rattle.sections.specs.Read.{read};
-ghost use Rattle.read.specs.ReadTold.{readTold};
+ghost use Rattle.read.specs.ReadOutcome.{readOutcome};
 
 mod fill;
 
 // 01's Read: answer, identity, count and every number of the record buffer are those of the definition.
 pub fn read(file: &[u8], base_day: u32, records: &mut [u32]) -> CheckedFile
     ensures { λ r. ⌜
-        read broadcast «base_day» (now (file .entry)) (now (records .entry)) ≡ readTold r (now (records .exit)) ⌝ }
+        read broadcast «base_day» (now (file .entry)) (now (records .entry)) ≡ readOutcome r (now (records .exit)) ⌝ }
 {
     let checked = read_check::check(file, base_day);
-    let said = checked.answer;
-    if read_answer::number_of(said) != 0 {
+    let answer = checked.answer;
+    if read_answer::number_of(answer) != 0 {
         return checked;
     }
-    let count = read_answer::count_of(said);
+    let count = read_answer::count_of(answer);
     if records.len() / RECORD_SIZE < count {
         return read_answer::refused(ReadAnswer::RecordsShort(count));
     }

@@ -1,2 +1,2 @@
 -- What the contracts of this crate say beyond the model's definitions.
-pub mod Told  -- the paper's number and values for each case of Read's answer
+pub mod Outcome  -- the paper's number and values for each case of Read's answer

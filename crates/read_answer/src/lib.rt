@@ -1,8 +1,8 @@
 // What Read says: a case for each cause of 01's table ("When a call says no").
 use eit::Identity;
 ghost use mathlib.Core.Path.{_≡_};
-ghost use Rattle.eit.specs.Identity.{noIdentity};
-ghost use Rattle.read_answer.specs.Told.{answerNumber, answerValue, answerCount};
+ghost use Rattle.eit.specs.Identity.{zeroIdentity};
+ghost use Rattle.read_answer.specs.Outcome.{answerNumber, answerValue, answerCount};
 
 pub enum ReadAnswer {
     // The file is accepted; the number of its events.
@@ -35,11 +35,11 @@ pub struct CheckedFile {
 
 // A refusal.
 pub fn refused(answer: ReadAnswer) -> CheckedFile
-    ensures { λ r. ⌜ r ≡ record { answer = answer; identity = noIdentity } ⌝ }
+    ensures { λ r. ⌜ r ≡ record { answer = answer; identity = zeroIdentity } ⌝ }
 {
     CheckedFile {
         answer,
-        identity: eit::no_identity(),
+        identity: eit::zero_identity(),
     }
 }
 

@@ -9,8 +9,8 @@ use Rattle.sections.specs.Walk.{Progress, passed}
 use Rattle.sections.specs.Read.{refusal, success, isComplete, identityOf, atEnd}
 use Rattle.codec_section.specs.HeaderRead.{heldHeader}
 use Rattle.codec_section.specs.declared.header.SectionHeader.{SectionHeader}
-use Rattle.read_checks.specs.Kept.{keptHeader}
-use Rattle.read_checks.specs.declared.header.Kept.the-variants.{Header as Behind, Nothing}
+use Rattle.read_checks.specs.HeaderBefore.{headerBefore}
+use Rattle.read_checks.specs.declared.header.HeaderBefore.the-variants.{Header as Behind, Nothing}
 use Rattle.read_check.specs.Tracks.{Tracks}
 use Rattle.read_check.specs.declared.section.WalkState.{WalkState}
 
@@ -23,7 +23,7 @@ module _ {offset : ℕ} {state : WalkState} {words : List ℕ} {p : Progress} (t
     complete : {b : Bool}
         → (eqb (last .«section_number») (last .«last_section_number») && eqb (last .«table_id») (last .«last_table_id»)) ≡ b
         → isComplete (p .before) ≡ b
-    complete test = ap isComplete (tracks .before-is ∙ ap keptHeader is) ∙ test
+    complete test = ap isComplete (tracks .before-is ∙ ap headerBefore is) ∙ test
 
     pub ends-early :
         (eqb (last .«section_number») (last .«last_section_number») && eqb (last .«table_id») (last .«last_table_id»)) ≡ false
@@ -34,4 +34,4 @@ module _ {offset : ℕ} {state : WalkState} {words : List ℕ} {p : Progress} (t
         (eqb (last .«section_number») (last .«last_section_number») && eqb (last .«table_id») (last .«last_table_id»)) ≡ true
         → atEnd size (passed p) ≡ success (headerIdentity (heldHeader last)) (state .count)
     ends-whole holds =
-        rw (atEnd, complete holds) (ap₂ success (ap identityOf (tracks .before-is ∙ ap keptHeader is)) (tracks .count-is))
+        rw (atEnd, complete holds) (ap₂ success (ap identityOf (tracks .before-is ∙ ap headerBefore is)) (tracks .count-is))

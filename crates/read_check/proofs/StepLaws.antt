@@ -15,10 +15,10 @@ use Rattle.eit.specs.Fields.{Bytes}
 use Rattle.eit.specs.Events.{Event}
 use Rattle.eit.proofs.Test.{true-is, false-is, test-or}
 use Rattle.sections.specs.Section.{Header}
-use Rattle.sections.specs.Decode.{statedEventSize, eventIn, headerIn, eventLoop, cutEvents}
-use Rattle.sections.specs.Cut.{cut}
-use Rattle.sections.specs.JudgeHeader.{isFramed, isClosed, isHeader, isInPlace}
-use Rattle.sections.specs.JudgeEvents.{isEventLoop, isWithinLimit}
+use Rattle.sections.specs.Decode.{statedEventSize, eventIn, headerIn, eventLoop, splitEvents}
+use Rattle.sections.specs.Split.{splitBy}
+use Rattle.sections.specs.HeaderTests.{isFramed, hasRightCrc, isHeader, hasRightNumbering}
+use Rattle.sections.specs.EventTests.{isEventLoop, isWithinLimit}
 use Rattle.sections.specs.Walk.{Progress, behind, refused, step}
 use Rattle.sections.proofs.Walk.{step-passes}
 use Rattle.sections.proofs.Answers.{step-20, step-21, step-22, step-23, step-24, step-26}
@@ -26,15 +26,15 @@ use Rattle.sections.proofs.Order.{seen-length}
 use Rattle.codec_crc.specs.CrcTables.{crcTables}
 use Rattle.codec_section.specs.HeaderRead.{heldHeader}
 use Rattle.codec_section.specs.declared.header.SectionHeader.{SectionHeader}
-use Rattle.read_checks.specs.Closed.{isClosedBy}
-use Rattle.read_checks.specs.Kept.{keptHeader, checkedHeader}
+use Rattle.read_checks.specs.RightCrc.{hasRightCrcBy}
+use Rattle.read_checks.specs.HeaderBefore.{headerBefore, checkedHeader}
 use Rattle.read_events.specs.EventPass.{EventPass, checkedEvents, passOf}
-use Rattle.read_events.specs.EventsKept.{KeptOf}
-use Rattle.read_checks.specs.declared.header.Kept.the-variants.{Header as Behind, Nothing}
+use Rattle.read_events.specs.EventsSoFar.{EventsSoFar}
+use Rattle.read_checks.specs.declared.header.HeaderBefore.the-variants.{Header as Behind, Nothing}
 use Rattle.read_events.specs.declared.EventCheck.{EventCheck}
-use Rattle.read_checks.proofs.ClosedLaws.{closed-by-tables}
-use Rattle.read_events.proofs.EventKeptLaws.{loop-checked, loop-kept}
-use Rattle.read_check.specs.Tracks.{Tracks, Said}
+use Rattle.read_checks.proofs.RightCrcLaws.{right-crc-by-tables}
+use Rattle.read_events.proofs.EventsSoFarLaws.{loop-checked, loop-so-far}
+use Rattle.read_check.specs.Tracks.{Tracks, SameVerdict}
 use Rattle.read_check.specs.declared.section.WalkState.{WalkState}
 use Rattle.read_check.specs.declared.section.SectionVerdict.the-variants.{Passed}
 
@@ -75,95 +75,95 @@ module _ {offset : ℕ} {state : WalkState} {words : List ℕ} {p : Progress} (t
   at-offset : {number : ℕ} → step sizes base p bs ≡ refused number (p .offset) → step sizes base p bs ≡ refused number offset
   at-offset {number} is = is ∙ ap (refused number) (tracks .offset-is)
 
-  pub says-20 : {framed : Bool} → framed ≡ isFramed sizes bs → framed ≡ false → step sizes base p bs ≡ refused 20 offset
-  says-20 made is = at-offset (step-20 sizes base p bs (fails made is))
+  pub refuses-20 : {framed : Bool} → framed ≡ isFramed sizes bs → framed ≡ false → step sizes base p bs ≡ refused 20 offset
+  refuses-20 made is = at-offset (step-20 sizes base p bs (fails made is))
 
   module _ (bytes : Bytes bs) {framed : Bool} (frame : framed ≡ isFramed sizes bs) (frame-holds : framed ≡ true)
       {tables : List ℕ} (right : tables ≡ crcTables) where
     is-framed : T (isFramed sizes bs)
     is-framed = holds frame frame-holds
 
-    same-crc : isClosedBy tables bs ≡ isClosed bs
-    same-crc = ap (λ (t : List ℕ). isClosedBy t bs) right ∙ closed-by-tables bs bytes
+    same-crc : hasRightCrcBy tables bs ≡ hasRightCrc bs
+    same-crc = ap (λ (t : List ℕ). hasRightCrcBy t bs) right ∙ right-crc-by-tables bs bytes
 
-    pub says-21 : {closed : Bool} → closed ≡ isClosedBy tables bs → closed ≡ false → step sizes base p bs ≡ refused 21 offset
-    says-21 made is = at-offset (step-21 sizes base p bs is-framed (fails (made ∙ same-crc) is))
+    pub refuses-21 : {crc-right : Bool} → crc-right ≡ hasRightCrcBy tables bs → crc-right ≡ false → step sizes base p bs ≡ refused 21 offset
+    refuses-21 made is = at-offset (step-21 sizes base p bs is-framed (fails (made ∙ same-crc) is))
 
-    module _ {closed : Bool} (crc : closed ≡ isClosedBy tables bs) (crc-holds : closed ≡ true) where
-      is-closed : T (isClosed bs)
-      is-closed = holds (crc ∙ same-crc) crc-holds
+    module _ {crc-right : Bool} (crc : crc-right ≡ hasRightCrcBy tables bs) (crc-holds : crc-right ≡ true) where
+      has-right-crc : T (hasRightCrc bs)
+      has-right-crc = holds (crc ∙ same-crc) crc-holds
 
-      pub says-22 : keptHeader Nothing ≡ checkedHeader (keptHeader (state .before)) bs → step sizes base p bs ≡ refused 22 offset
-      says-22 kept =
-          at-offset (step-22 sizes base p bs is-framed is-closed
+      pub refuses-22 : headerBefore Nothing ≡ checkedHeader (headerBefore (state .before)) bs → step sizes base p bs ≡ refused 22 offset
+      refuses-22 kept =
+          at-offset (step-22 sizes base p bs is-framed has-right-crc
           (nothing-only (p .before) bs (kept ∙ ap (λ (o : Option Header). checkedHeader o bs) (sym (tracks .before-is)))))
 
-      module _ {h : SectionHeader} (kept : keptHeader (Behind h) ≡ checkedHeader (keptHeader (state .before)) bs) where
+      module _ {h : SectionHeader} (kept : headerBefore (Behind h) ≡ checkedHeader (headerBefore (state .before)) bs) where
         shown : T (isHeader (p .before) bs) × (heldHeader h ≡ headerIn bs)
         shown = kept-only (p .before) bs (kept ∙ ap (λ (o : Option Header). checkedHeader o bs) (sym (tracks .before-is)))
 
-        same-place : isInPlace (keptHeader (state .before)) (heldHeader h) ≡ isInPlace (p .before) (headerIn bs)
-        same-place = ap₂ isInPlace (sym (tracks .before-is)) (shown .1)
+        same-numbering : hasRightNumbering (headerBefore (state .before)) (heldHeader h) ≡ hasRightNumbering (p .before) (headerIn bs)
+        same-numbering = ap₂ hasRightNumbering (sym (tracks .before-is)) (shown .1)
 
-        pub says-23 : {placed : Bool} → placed ≡ isInPlace (keptHeader (state .before)) (heldHeader h) → placed ≡ false
+        pub refuses-23 : {numbered : Bool} → numbered ≡ hasRightNumbering (headerBefore (state .before)) (heldHeader h) → numbered ≡ false
             → step sizes base p bs ≡ refused 23 offset
-        says-23 made is = at-offset (step-23 sizes base p bs is-framed is-closed (shown .0) (fails (made ∙ same-place) is))
+        refuses-23 made is = at-offset (step-23 sizes base p bs is-framed has-right-crc (shown .0) (fails (made ∙ same-numbering) is))
 
-        module _ {placed : Bool} (place : placed ≡ isInPlace (keptHeader (state .before)) (heldHeader h)) (place-holds : placed ≡ true)
+        module _ {numbered : Bool} (numbering : numbered ≡ hasRightNumbering (headerBefore (state .before)) (heldHeader h)) (numbering-holds : numbered ≡ true)
             {check : EventCheck} {words′ : List ℕ}
-            (checked : passOf check words′ ≡ checkedEvents base (heldHeader h) (state .least) words (cut statedEventSize (eventLoop bs))) where
-          is-placed : T (isInPlace (p .before) (headerIn bs))
-          is-placed = holds (place ∙ same-place) place-holds
+            (checked : passOf check words′ ≡ checkedEvents base (heldHeader h) (state .least) words (splitBy statedEventSize (eventLoop bs))) where
+          has-right-numbering : T (hasRightNumbering (p .before) (headerIn bs))
+          has-right-numbering = holds (numbering ∙ same-numbering) numbering-holds
 
-          passes : passOf check words′ ≡ checkedEvents base (headerIn bs) (state .least) words (cut statedEventSize (eventLoop bs))
+          passes : passOf check words′ ≡ checkedEvents base (headerIn bs) (state .least) words (splitBy statedEventSize (eventLoop bs))
           passes =
               checked
-              ∙ ap (λ (g : Header). checkedEvents base g (state .least) words (cut statedEventSize (eventLoop bs))) (shown .1)
+              ∙ ap (λ (g : Header). checkedEvents base g (state .least) words (splitBy statedEventSize (eventLoop bs))) (shown .1)
 
           same-loop : check .«is_whole» ≡ isEventLoop base (p .seen) bs
           same-loop = ap (λ (e : EventPass). e .isWhole) passes ∙ loop-checked base bs bytes (p .seen) (tracks .kept)
 
-          pub says-24 : check .«is_whole» ≡ false → step sizes base p bs ≡ refused 24 offset
-          says-24 is = at-offset (step-24 sizes base p bs is-framed is-closed (shown .0) is-placed (fails same-loop is))
+          pub refuses-24 : check .«is_whole» ≡ false → step sizes base p bs ≡ refused 24 offset
+          refuses-24 is = at-offset (step-24 sizes base p bs is-framed has-right-crc (shown .0) has-right-numbering (fails same-loop is))
 
           module _ (whole : check .«is_whole» ≡ true) where
             is-loop : T (isEventLoop base (p .seen) bs)
             is-loop = holds same-loop whole
 
-            kept-events : (check .events ≡ length (cutEvents bs))
-                × KeptOf (check .least) words′ (reverse (map (eventIn base) (cutEvents bs)) ++ p .seen)
+            kept-events : (check .events ≡ length (splitEvents bs))
+                × EventsSoFar (check .least) words′ (reverse (map (eventIn base) (splitEvents bs)) ++ p .seen)
             kept-events =
                 subst
                 (λ (e : EventPass).
-                (e .events ≡ length (cutEvents bs))
-                × KeptOf (e .least) (e .words) (reverse (map (eventIn base) (cutEvents bs)) ++ p .seen))
+                (e .events ≡ length (splitEvents bs))
+                × EventsSoFar (e .least) (e .words) (reverse (map (eventIn base) (splitEvents bs)) ++ p .seen))
                 (sym passes)
-                (loop-kept base bs bytes (p .seen) (tracks .kept)
+                (loop-so-far base bs bytes (p .seen) (tracks .kept)
                 (subst T (sym (loop-checked base bs bytes (p .seen) (tracks .kept))) is-loop))
 
             abbrev events : List Event
-            events = map (eventIn base) (cutEvents bs)
+            events = map (eventIn base) (splitEvents bs)
 
-            events-count : length events ≡ length (cutEvents bs)
-            events-count = length-map (cutEvents bs) (eventIn base)
+            events-count : length events ≡ length (splitEvents bs)
+            events-count = length-map (splitEvents bs) (eventIn base)
 
             above : sizes .«event_limit» < check .events + state .count → T (not (isWithinLimit sizes (p .seen) bs))
             unfolding isWithinLimit
             above many =
-                let many′ : sizes .«event_limit» < length (p .seen) + length (cutEvents bs) =
+                let many′ : sizes .«event_limit» < length (p .seen) + length (splitEvents bs) =
                 omega (arith, kept-events .0, tracks .count-is) in
-                rw (lt-leb (length (p .seen) + length (cutEvents bs)) (sizes .«event_limit») many′) tt
+                rw (lt-leb (length (p .seen) + length (splitEvents bs)) (sizes .«event_limit») many′) tt
 
             within : check .events + state .count ≤ sizes .«event_limit» → T (isWithinLimit sizes (p .seen) bs)
             unfolding isWithinLimit
             within few = le→leb _ (sizes .«event_limit») (omega (arith, kept-events .0, tracks .count-is))
 
-            pub says-26 : sizes .«event_limit» < check .events + state .count → step sizes base p bs ≡ refused 26 offset
-            says-26 many =
-                at-offset (step-26 sizes base p bs is-framed is-closed (shown .0) is-placed is-loop (above many))
+            pub refuses-26 : sizes .«event_limit» < check .events + state .count → step sizes base p bs ≡ refused 26 offset
+            refuses-26 many =
+                at-offset (step-26 sizes base p bs is-framed has-right-crc (shown .0) has-right-numbering is-loop (above many))
 
             pub goes-on : check .events + state .count ≤ sizes .«event_limit»
-                → Said (offset + length bs)
+                → SameVerdict (offset + length bs)
                 (Passed (record { before = Behind h; least = check .least; count = state .count + check .events })) words′
                 (step sizes base p bs)
             goes-on few = (
@@ -171,9 +171,9 @@ module _ {offset : ℕ} {state : WalkState} {words : List ℕ} {p : Progress} (t
               step-passes sizes base p bs
                   (record {
                     framed = is-framed;
-                    closed = is-closed;
+                    crc-right = has-right-crc;
                     header = shown .0;
-                    place = is-placed;
+                    numbering = has-right-numbering;
                     loop = is-loop;
                     limit = within few;
                   }),

@@ -7,17 +7,17 @@ use borrow.Author.Tests.{le-leb}
 use native.Mathlib.Omega.{arith}
 use lib.ListN.{length, drop, replicate}
 use Rattle.eit.specs.declared.Sizes.{Sizes}
-use Rattle.eit.specs.Limits.{baseMost}
-use Rattle.eit.specs.Identity.{noIdentity}
-use Rattle.sections.specs.Decode.{cutFile}
+use Rattle.eit.specs.Limits.{baseDayMax}
+use Rattle.eit.specs.Identity.{zeroIdentity}
+use Rattle.sections.specs.Decode.{splitFile}
 use Rattle.sections.specs.Walk.{Progress, atStart, passed, refused, step, walk}
 use Rattle.sections.specs.Read.{atEnd, checkFile}
 use Rattle.read_walk.specs.SectionAt.{sectionAt, sectionEnd}
 use Rattle.read_walk.proofs.SectionAtLaws.{walk-end, walk-next, end-inside, end-is}
-use Rattle.read_checks.specs.declared.header.Kept.the-variants.{Nothing}
-use Rattle.read_events.proofs.EventKeptLaws.{kept-start}
-use Rattle.read_answer.specs.Told.{answerNumber, answerValue, told}
-use Rattle.read_check.specs.Tracks.{Tracks, Said}
+use Rattle.read_checks.specs.declared.header.HeaderBefore.the-variants.{Nothing}
+use Rattle.read_events.proofs.EventsSoFarLaws.{so-far-start}
+use Rattle.read_answer.specs.Outcome.{answerNumber, answerValue, outcomeOf}
+use Rattle.read_check.specs.Tracks.{Tracks, SameVerdict}
 use Rattle.read_answer.specs.declared.ReadAnswer.{ReadAnswer}
 use Rattle.read_answer.specs.declared.CheckedFile.{CheckedFile}
 use Rattle.read_check.specs.declared.section.WalkState.{WalkState}
@@ -41,24 +41,24 @@ module _ (sizes : Sizes) (base : ℕ) (p : Progress) where
     unfolding walk
     walk-refused is = rw (walk, is)
 
-check-legal : (sizes : Sizes) (base : ℕ) (file : List ℕ) → base ≤ baseMost
-    → checkFile sizes base file ≡ atEnd (length file) (walk sizes base atStart (cutFile file))
+check-legal : (sizes : Sizes) (base : ℕ) (file : List ℕ) → base ≤ baseDayMax
+    → checkFile sizes base file ≡ atEnd (length file) (walk sizes base atStart (splitFile file))
 unfolding checkFile
-check-legal sizes base file legal = rw (checkFile, le-leb base baseMost legal)
+check-legal sizes base file legal = rw (checkFile, le-leb base baseDayMax legal)
 
 -- ---- before a turn
 
 pub record WalkSoFar (sizes : Sizes) (base : ℕ) (file words : List ℕ) (state : WalkState) (offset : ℕ) : Type 0 where
   pub progress : Progress
   pub tracks : Tracks offset state words progress
-  pub walked : walk sizes base atStart (cutFile file) ≡ walk sizes base progress (cutFile (drop offset file))
+  pub walked : walk sizes base atStart (splitFile file) ≡ walk sizes base progress (splitFile (drop offset file))
   pub inside : offset ≤ length file
 
 pub walk-start : (sizes : Sizes) (base : ℕ) (file : List ℕ)
     → WalkSoFar sizes base file (replicate 1024 0) (record { before = Nothing; least = 0; count = 0 }) 0
 walk-start sizes base file = record {
   progress = atStart;
-  tracks = record { offset-is = refl; before-is = refl; kept = kept-start; count-is = refl };
+  tracks = record { offset-is = refl; before-is = refl; kept = so-far-start; count-is = refl };
   walked = refl;
   inside = omega arith;
 }
@@ -67,23 +67,23 @@ module _ {sizes : Sizes} {base : ℕ} {file words : List ℕ} {state : WalkState
     (so-far : WalkSoFar sizes base file words state offset) where
   module _ (here : offset < length file) {section : List ℕ} (is : section ≡ sectionAt file offset)
       (verdict : SectionVerdict) (words′ : List ℕ)
-      (said : Said (offset + length section) verdict words′ (step sizes base (so-far .progress) section)) where
+      (verdict-is : SameVerdict (offset + length section) verdict words′ (step sizes base (so-far .progress) section)) where
     -- the section is the next piece
     next-piece : {end : ℕ} → end ≡ sectionEnd file offset
-        → cutFile (drop offset file) ≡ section ∷ cutFile (drop end file)
+        → splitFile (drop offset file) ≡ section ∷ splitFile (drop end file)
     next-piece ends = walk-next file offset ends is here
 
-    said-of : {v : SectionVerdict} → verdict ≡ v
-        → Said (offset + length section) v words′ (step sizes base (so-far .progress) section)
-    said-of e =
+    same-verdict : {v : SectionVerdict} → verdict ≡ v
+        → SameVerdict (offset + length section) v words′ (step sizes base (so-far .progress) section)
+    same-verdict e =
         subst
-        (λ (v : SectionVerdict). Said (offset + length section) v words′ (step sizes base (so-far .progress) section))
-        e said
+        (λ (v : SectionVerdict). SameVerdict (offset + length section) v words′ (step sizes base (so-far .progress) section))
+        e verdict-is
 
-    pub walk-stops : {answer : ReadAnswer} → verdict ≡ Refused answer → base ≤ baseMost
-        → checkFile sizes base file ≡ told (record { answer = answer; identity = noIdentity })
+    pub walk-stops : {answer : ReadAnswer} → verdict ≡ Refused answer → base ≤ baseDayMax
+        → checkFile sizes base file ≡ outcomeOf (record { answer = answer; identity = zeroIdentity })
     walk-stops {answer} refuses legal =
-        let (stepped, none) = said-of refuses in
+        let (stepped, none) = same-verdict refuses in
         check-legal sizes base file legal
         ∙ ap (atEnd (length file))
         (so-far .walked
@@ -91,14 +91,14 @@ module _ {sizes : Sizes} {base : ℕ} {file words : List ℕ} {state : WalkState
         ∙ walk-refused sizes base (so-far .progress) section _ stepped)
         ∙ ap
         (λ (n : ℕ).
-        record { number = answerNumber answer; value = answerValue answer; identity = noIdentity; count = n })
+        record { number = answerNumber answer; value = answerValue answer; identity = zeroIdentity; count = n })
         (sym none)
 
     -- the walk goes on at the offset behind the section
     pub walk-more : {next : WalkState} {end : ℕ} → verdict ≡ Passed next → end ≡ sectionEnd file offset
         → WalkSoFar sizes base file words′ next end
     walk-more {next} passes ends =
-        let (q, stepped, tracks) = said-of passes in
+        let (q, stepped, tracks) = same-verdict passes in
         record {
           progress = q;
           tracks = subst (λ (at : ℕ). Tracks at next words′ q) (sym (end-is file offset ends is)) tracks;
@@ -109,8 +109,8 @@ module _ {sizes : Sizes} {base : ℕ} {file words : List ℕ} {state : WalkState
           inside = end-inside file offset ends here;
         }
 
-  pub walk-done : length file ≤ offset → base ≤ baseMost → (r : CheckedFile)
-      → atEnd (length file) (passed (so-far .progress)) ≡ told r → checkFile sizes base file ≡ told r
+  pub walk-done : length file ≤ offset → base ≤ baseDayMax → (r : CheckedFile)
+      → atEnd (length file) (passed (so-far .progress)) ≡ outcomeOf r → checkFile sizes base file ≡ outcomeOf r
   walk-done end legal r ended =
       check-legal sizes base file legal
       ∙ ap (atEnd (length file))

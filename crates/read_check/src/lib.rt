@@ -4,18 +4,18 @@ use crate::section::SectionVerdict;
 use crate::section::WalkState;
 use eit::Identity;
 use eit::Sizes;
-use eit::limits::BASE_DAY_MOST;
+use eit::limits::BASE_DAY_MAX;
 use eit::limits::ID_WORDS;
 use read_answer::CheckedFile;
 use read_answer::ReadAnswer;
-use read_checks::header::Kept;
+use read_checks::header::HeaderBefore;
 ghost use mathlib.Core.Path.{_≡_};
 ghost use mathlib.Core.List.{List};
 ghost use Prim.Native.Nat.{ℕ};
 ghost use Rattle.eit.specs.Sizes.{broadcast};
 ghost use Rattle.sections.specs.Read.{atEnd, checkFile};
 ghost use Rattle.sections.specs.Walk.{Progress, passed};
-ghost use Rattle.read_answer.specs.Told.{told};
+ghost use Rattle.read_answer.specs.Outcome.{outcomeOf};
 ghost use Rattle.read_check.specs.Tracks.{Tracks};
 
 mod section;
@@ -23,10 +23,10 @@ mod section;
 // At the end of a file of `size` bytes: it ends after last_table_id, or early.
 fn at_end(state: WalkState, size: usize) -> CheckedFile
     ensures { λ r. ⌜
-        ((p : Progress) (offset : ℕ) (words : List ℕ) → Tracks offset state words p → atEnd size (passed p) ≡ told r) ⌝ }
+        ((p : Progress) (offset : ℕ) (words : List ℕ) → Tracks offset state words p → atEnd size (passed p) ≡ outcomeOf r) ⌝ }
 {
     let before = state.before;
-    let Kept::Header(last) = before else {
+    let HeaderBefore::Header(last) = before else {
         return read_answer::refused(ReadAnswer::EarlyEnd(size));
     };
     if last.section_number != last.last_section_number || last.table_id != last.last_table_id {
@@ -45,15 +45,15 @@ fn at_end(state: WalkState, size: usize) -> CheckedFile
 
 // Section after section, until one is refused or the file ends.
 fn check_within(file: &[u8], base_day: u32, sizes: Sizes) -> CheckedFile
-    ensures { λ r. ⌜ checkFile sizes «base_day» (now (file .entry)) ≡ told r ⌝ }
+    ensures { λ r. ⌜ checkFile sizes «base_day» (now (file .entry)) ≡ outcomeOf r ⌝ }
 {
-    if BASE_DAY_MOST < base_day {
+    if BASE_DAY_MAX < base_day {
         return read_answer::refused(ReadAnswer::BaseDay);
     }
     let crc_tables = codec_crc::tables();
     let mut seen = [0u64; ID_WORDS];
     let mut state = WalkState {
-        before: Kept::Nothing,
+        before: HeaderBefore::Nothing,
         least: 0,
         count: 0,
     };
@@ -69,7 +69,7 @@ fn check_within(file: &[u8], base_day: u32, sizes: Sizes) -> CheckedFile
             &crc_tables,
             &mut seen,
         ) {
-            SectionVerdict::Refused(said) => return read_answer::refused(said),
+            SectionVerdict::Refused(answer) => return read_answer::refused(answer),
             SectionVerdict::Passed(next) => state = next,
         }
         offset = read_walk::next_offset(file, offset);
@@ -79,7 +79,7 @@ fn check_within(file: &[u8], base_day: u32, sizes: Sizes) -> CheckedFile
 
 // Answer, identity and number of events are those of the definition. It never says 27.
 pub fn check(file: &[u8], base_day: u32) -> CheckedFile
-    ensures { λ r. ⌜ checkFile broadcast «base_day» (now (file .entry)) ≡ told r ⌝ }
+    ensures { λ r. ⌜ checkFile broadcast «base_day» (now (file .entry)) ≡ outcomeOf r ⌝ }
 {
     check_within(file, base_day, Sizes::BROADCAST)
 }

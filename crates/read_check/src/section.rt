@@ -3,18 +3,18 @@ use eit::Sizes;
 use read_answer::ReadAnswer;
 use read_checks::frame;
 use read_checks::header;
-use read_checks::header::Kept;
-use read_checks::place;
+use read_checks::header::HeaderBefore;
+use read_checks::numbering;
 ghost use mathlib.Core.Path.{_≡_};
 ghost use Prim.Native.Nat.{_+_};
 ghost use lib.ListN.{length};
 ghost use Rattle.codec_crc.specs.CrcTables.{crcTables};
 ghost use Rattle.sections.specs.Walk.{Progress, step};
-ghost use Rattle.read_check.specs.Tracks.{Tracks, Said};
+ghost use Rattle.read_check.specs.Tracks.{Tracks, SameVerdict};
 
 // What is known before a section: the header before it, the least start of the next event, and the events so far.
 pub struct WalkState {
-    pub before: Kept,
+    pub before: HeaderBefore,
     pub least: u64,
     pub count: usize,
 }
@@ -38,20 +38,20 @@ pub fn check_section(
     requires { ⌜ now «crc_tables» ≡ crcTables ⌝ }
     ensures { λ r. ⌜
         ((p : Progress) → Tracks offset state (now (seen .entry)) p
-        → Said (offset + length (now (section .entry))) r (now (seen .exit))
+        → SameVerdict (offset + length (now (section .entry))) r (now (seen .exit))
         (step sizes «base_day» p (now (section .entry)))) ⌝ }
 {
     if !frame::is_framed(section, sizes) {
         return SectionVerdict::Refused(ReadAnswer::Frame(offset));
     }
-    if !frame::is_closed(crc_tables, section) {
+    if !frame::has_right_crc(crc_tables, section) {
         return SectionVerdict::Refused(ReadAnswer::Crc(offset));
     }
     let before = state.before;
-    let Kept::Header(shown) = header::check_header(before, section) else {
+    let HeaderBefore::Header(shown) = header::check_header(before, section) else {
         return SectionVerdict::Refused(ReadAnswer::Header(offset));
     };
-    if !place::is_in_place(before, shown) {
+    if !numbering::has_right_numbering(before, shown) {
         return SectionVerdict::Refused(ReadAnswer::Numbering(offset));
     }
     let checked = read_events::check_events(
@@ -69,7 +69,7 @@ pub fn check_section(
         return SectionVerdict::Refused(ReadAnswer::EventLimit(offset));
     }
     SectionVerdict::Passed(WalkState {
-        before: Kept::Header(shown),
+        before: HeaderBefore::Header(shown),
         least: checked.least,
         count: state.count + found,
     })

@@ -9,12 +9,12 @@ use Rattle.eit.specs.Sizes.{sectionOverhead}
 use Rattle.eit.specs.declared.Sizes.{Sizes}
 use Rattle.eit.specs.Fields.{field}
 use Rattle.sections.specs.Decode.{statedSectionSize}
-use Rattle.sections.specs.JudgeHeader.{isTable, isFramed}
+use Rattle.sections.specs.HeaderTests.{isTable, isFramed}
 
 module _ (sizes : Sizes) (bs : List ℕ) {stated : ℕ} (states : stated ≡ statedSectionSize bs) where
-  pub framed-cut : (length bs ≡ stated → ⊥) → isFramed sizes bs ≡ false
+  pub framed-truncated : (length bs ≡ stated → ⊥) → isFramed sizes bs ≡ false
   unfolding isFramed
-  framed-cut other = rw (ne-eqb (length bs) (statedSectionSize bs) (λ e. other (e ∙ sym states)))
+  framed-truncated other = rw (ne-eqb (length bs) (statedSectionSize bs) (λ e. other (e ∙ sym states)))
 
   module _ (whole : length bs ≡ stated) where
     pub framed-short : length bs < sectionOverhead → isFramed sizes bs ≡ false

@@ -10,9 +10,9 @@ use lib.ListN.{length}
 use Rattle.eit.specs.Fields.{field}
 use Rattle.sections.specs.Section.{Header, headerSize}
 use Rattle.sections.specs.Decode.{headerIn}
-use Rattle.sections.specs.JudgeHeader.{isTable, hasFixedBits, isSameFile, isHeader}
+use Rattle.sections.specs.HeaderTests.{isTable, hasFixedBits, isSameFile, isHeader}
 use Rattle.codec.proofs.FieldLaws.{field-none}
-use Rattle.read_checks.specs.Kept.{checkedHeader}
+use Rattle.read_checks.specs.HeaderBefore.{checkedHeader}
 
 module _ (before : Option Header) (bs : List ℕ) where
   refused : isHeader before bs ≡ false → checkedHeader before bs ≡ none
@@ -40,7 +40,7 @@ module _ (before : Option Header) (bs : List ℕ) where
       pub header-other : isSameFile before h ≡ false → checkedHeader before bs ≡ none
       header-other fails = refused (header-tests ∙ rw (table, fails))
 
-      pub header-kept : isSameFile before h ≡ true → checkedHeader before bs ≡ some h
-      header-kept same =
+      pub header-passes : isSameFile before h ≡ true → checkedHeader before bs ≡ some h
+      header-passes same =
           let passes : isHeader before bs ≡ true = header-tests ∙ rw (table, same) in
           rw (checkedHeader, passes) (ap some (sym shows))

@@ -4,19 +4,19 @@ use codec_crc::CRC_FIRST;
 use eit::Sizes;
 use eit::limits::SECTION_OVERHEAD;
 ghost use mathlib.Core.Path.{_≡_};
-ghost use Rattle.sections.specs.JudgeHeader.{isTable, isFramed};
-ghost use Rattle.read_checks.specs.Closed.{isClosedBy};
+ghost use Rattle.sections.specs.HeaderTests.{isTable, isFramed};
+ghost use Rattle.read_checks.specs.RightCrc.{hasRightCrcBy};
 
 // table_id, 0x50 to 0x5F.
-pub const TABLE_LEAST: u32 = 0x50;
+pub const TABLE_FIRST: u32 = 0x50;
 
-const TABLE_MOST: u32 = 0x5F;
+const TABLE_MAX: u32 = 0x5F;
 
 // Whether a number is a table_id of an EIT schedule of this work.
 pub fn is_table(table_id: u32) -> bool
     ensures { λ r. ⌜ r ≡ isTable «table_id» ⌝ }
 {
-    TABLE_LEAST <= table_id && table_id <= TABLE_MOST
+    TABLE_FIRST <= table_id && table_id <= TABLE_MAX
 }
 
 // 20: the section is not cut, and its table_id and its length are in range.
@@ -34,8 +34,8 @@ pub fn is_framed(section: &[u8], sizes: Sizes) -> bool
 }
 
 // 21: over the whole section CRC_32 leaves 0, by the lent tables.
-pub fn is_closed(crc_tables: &[u32; 2048], section: &[u8]) -> bool
-    ensures { λ r. ⌜ r ≡ isClosedBy (now («crc_tables» .entry)) (now (section .entry)) ⌝ }
+pub fn has_right_crc(crc_tables: &[u32; 2048], section: &[u8]) -> bool
+    ensures { λ r. ⌜ r ≡ hasRightCrcBy (now («crc_tables» .entry)) (now (section .entry)) ⌝ }
 {
     codec_crc::crc_by(crc_tables, CRC_FIRST, section) == 0
 }

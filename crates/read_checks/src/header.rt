@@ -7,11 +7,11 @@ use codec_section::header::SectionHeader;
 use eit::Triplet;
 ghost use mathlib.Core.Path.{_≡_};
 ghost use Rattle.codec_section.specs.HeaderRead.{heldHeader};
-ghost use Rattle.sections.specs.JudgeHeader.{hasFixedBits, isTriplet, isSameFile};
-ghost use Rattle.read_checks.specs.Kept.{keptHeader, checkedHeader};
+ghost use Rattle.sections.specs.HeaderTests.{hasFixedBits, isTriplet, isSameFile};
+ghost use Rattle.read_checks.specs.HeaderBefore.{headerBefore, checkedHeader};
 
 // The header of the section before, or of a section that passes.
-pub enum Kept {
+pub enum HeaderBefore {
     Header(SectionHeader),
     // No section stands before the first one; a section that is refused has none to keep.
     Nothing,
@@ -35,12 +35,12 @@ fn is_triplet(shown: Triplet, triplet: Triplet) -> bool
 }
 
 // Triplet, version and last_table_id are those of the section before.
-fn is_same_file(before: Kept, header: SectionHeader) -> bool
-    ensures { λ r. ⌜ r ≡ isSameFile (keptHeader before) (heldHeader header) ⌝ }
+fn is_same_file(before: HeaderBefore, header: SectionHeader) -> bool
+    ensures { λ r. ⌜ r ≡ isSameFile (headerBefore before) (heldHeader header) ⌝ }
 {
     match before {
-        Kept::Nothing => true,
-        Kept::Header(last) => {
+        HeaderBefore::Nothing => true,
+        HeaderBefore::Header(last) => {
             is_triplet(header.triplet, last.triplet)
                 && header.version == last.version
                 && header.last_table_id == last.last_table_id
@@ -49,17 +49,17 @@ fn is_same_file(before: Kept, header: SectionHeader) -> bool
 }
 
 // 22: the header of a section whose fixed bits, identity and last_table_id pass.
-pub fn check_header(before: Kept, section: &[u8]) -> Kept
-    ensures { λ r. ⌜ keptHeader r ≡ checkedHeader (keptHeader before) (now (section .entry)) ⌝ }
+pub fn check_header(before: HeaderBefore, section: &[u8]) -> HeaderBefore
+    ensures { λ r. ⌜ headerBefore r ≡ checkedHeader (headerBefore before) (now (section .entry)) ⌝ }
 {
     let HeaderRead::Header(shown) = header::read_header(section) else {
-        return Kept::Nothing;
+        return HeaderBefore::Nothing;
     };
     if !has_fixed_bits(section) || !frame::is_table(shown.last_table_id as u32) {
-        return Kept::Nothing;
+        return HeaderBefore::Nothing;
     }
     if !is_same_file(before, shown) {
-        return Kept::Nothing;
+        return HeaderBefore::Nothing;
     }
-    Kept::Header(shown)
+    HeaderBefore::Header(shown)
 }

@@ -2,4 +2,4 @@
 // 22, 23). Every function is total: it takes any bytes, and what is known of the section before.
 pub mod frame;
 pub mod header;
-pub mod place;
+pub mod numbering;

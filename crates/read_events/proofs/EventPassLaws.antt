@@ -13,9 +13,9 @@ use Rattle.eit.specs.Events.{eventWith, leastBehind}
 use Rattle.eit.proofs.Events.{least-same}
 use Rattle.sections.specs.Section.{Header, eventOverhead}
 use Rattle.sections.specs.Decode.{statedEventSize, eventIn}
-use Rattle.sections.specs.Cut.{cut}
-use Rattle.sections.specs.JudgeEvents.{isInSegment, isEvent, isFilledOrAlone}
-use Rattle.sections.proofs.Cut.{cut-nil, cut-next}
+use Rattle.sections.specs.Split.{splitBy}
+use Rattle.sections.specs.EventTests.{isInSegment, isEvent, isFilledOrAlone}
+use Rattle.sections.proofs.Split.{split-nil, split-next}
 use Rattle.codec.specs.Seen.{isSeen, withSeen}
 use Rattle.codec.proofs.SeenLaws.{seen-length}
 use Rattle.codec_section.specs.EventRead.{frontEvent, eventRead}
@@ -47,8 +47,8 @@ module _ (base : ℕ) (h : Header) (n least : ℕ) (words : List ℕ) where
 
 -- n events are behind the place `at` of the loop, `next` is the least start of the next, and the set has become `words`
 pub record PassSoFar (base : ℕ) (h : Header) (events : List ℕ) (least : ℕ) (words₀ words : List ℕ) (n next at : ℕ) : Type 0 where
-  pub pass : takeEvents base h 0 least words₀ (cut statedEventSize events)
-      ≡ takeEvents base h n next words (cut statedEventSize (drop at events))
+  pub pass : takeEvents base h 0 least words₀ (splitBy statedEventSize events)
+      ≡ takeEvents base h n next words (splitBy statedEventSize (drop at events))
   pub few : n ≤ at
   pub none : n ≡ 0 → at ≡ 0
   pub inside : at ≤ length events
@@ -63,13 +63,13 @@ module _ {base : ℕ} {h : Header} {events : List ℕ} {least : ℕ} {words₀ w
   rest = drop at events
 
   -- the loop breaks: all pieces are looked at for S = G = s0, but a test has failed
-  stops : takeEvents base h n next words (cut statedEventSize rest) ≡ record { isWhole = false; events = n; least = next; words = words }
-      → checkedEvents base h least words₀ (cut statedEventSize events) ≡ record { isWhole = false; events = n; least = next; words = words }
+  stops : takeEvents base h n next words (splitBy statedEventSize rest) ≡ record { isWhole = false; events = n; least = next; words = words }
+      → checkedEvents base h least words₀ (splitBy statedEventSize events) ≡ record { isWhole = false; events = n; least = next; words = words }
   stops stopped =
-      let is : takeEvents base h 0 least words₀ (cut statedEventSize events) ≡ record { isWhole = false; events = n; least = next; words = words } =
+      let is : takeEvents base h 0 least words₀ (splitBy statedEventSize events) ≡ record { isWhole = false; events = n; least = next; words = words } =
       so-far .pass ∙ stopped in
       ap (λ (p : EventPass). record {
-        isWhole = p .isWhole && isFilledOrAlone h (cut statedEventSize events);
+        isWhole = p .isWhole && isFilledOrAlone h (splitBy statedEventSize events);
         events = p .events;
         least = p .least;
         words = p .words;
@@ -80,13 +80,13 @@ module _ {base : ℕ} {h : Header} {events : List ℕ} {least : ℕ} {words₀ w
     some-rest = omega (arith, length-drop at events)
 
     pub pass-broken : eventRead base rest ≡ Broken
-        → checkedEvents base h least words₀ (cut statedEventSize events)
+        → checkedEvents base h least words₀ (splitBy statedEventSize events)
         ≡ record { isWhole = false; events = n; least = next; words = words }
     pass-broken broken =
         let no-event : isEvent base h (frontEvent rest) ≡ false =
         event-whole base h (frontEvent rest) ∙ rw (broken-only base rest broken) in
         stops
-        (ap (takeEvents base h n next words) (cut-next statedEventSize rest some-rest (omega arith))
+        (ap (takeEvents base h n next words) (split-next statedEventSize rest some-rest (omega arith))
         ∙ take-stops base h n next words (frontEvent rest) _ (rw no-event))
 
     module _ {r : Record} (read : eventRead base rest ≡ Whole r) where
@@ -99,7 +99,7 @@ module _ {base : ℕ} {h : Header} {events : List ℕ} {least : ℕ} {words₀ w
           (ap₂ (λ (s i : ℕ). isInSegment h s && (leb next s && not (isSeen words i))) (sym start) (sym id) ∙ test)
 
       pub pass-stop : (isInSegment h (r .start) && (leb next (r .start) && not (isSeen words (r .id)))) ≡ false
-          → checkedEvents base h least words₀ (cut statedEventSize events)
+          → checkedEvents base h least words₀ (splitBy statedEventSize events)
           ≡ record { isWhole = false; events = n; least = next; words = words }
       pass-stop fails =
           stops
@@ -124,7 +124,7 @@ module _ {base : ℕ} {h : Header} {events : List ℕ} {least : ℕ} {words₀ w
                 so-far .pass
                 ∙ ap (takeEvents base h n next words) (whole-next base rest read)
                 ∙ take-more base h n next words (frontEvent rest) _ (event-is holds)
-                ∙ (λ i. takeEvents base h (n + 1) (later i) (held i) (cut statedEventSize (drop-drop size at events i)));
+                ∙ (λ i. takeEvents base h (n + 1) (later i) (held i) (splitBy statedEventSize (drop-drop size at events i)));
             few = omega (arith, so-far .few);
             none = λ never. omega arith;
             inside = omega (arith, room, length-drop at events);
@@ -133,31 +133,31 @@ module _ {base : ℕ} {h : Header} {events : List ℕ} {least : ℕ} {words₀ w
 
   -- at the end of the loop
   module _ (end : length events ≤ at) where
-    ends : takeEvents base h 0 least words₀ (cut statedEventSize events) ≡ record { isWhole = true; events = n; least = next; words = words }
-    ends = so-far .pass ∙ ap (λ (bs : List ℕ). takeEvents base h n next words (cut statedEventSize bs)) (drop-of-length-le events end)
-        ∙ ap (takeEvents base h n next words) (cut-nil statedEventSize) ∙ take-none base h n next words
+    ends : takeEvents base h 0 least words₀ (splitBy statedEventSize events) ≡ record { isWhole = true; events = n; least = next; words = words }
+    ends = so-far .pass ∙ ap (λ (bs : List ℕ). takeEvents base h n next words (splitBy statedEventSize bs)) (drop-of-length-le events end)
+        ∙ ap (takeEvents base h n next words) (split-nil statedEventSize) ∙ take-none base h n next words
 
-    pub pass-end : {b : Bool} → isFilledOrAlone h (cut statedEventSize events) ≡ b
-        → checkedEvents base h least words₀ (cut statedEventSize events) ≡ record { isWhole = b; events = n; least = next; words = words }
+    pub pass-end : {b : Bool} → isFilledOrAlone h (splitBy statedEventSize events) ≡ b
+        → checkedEvents base h least words₀ (splitBy statedEventSize events) ≡ record { isWhole = b; events = n; least = next; words = words }
     pass-end {b} filled =
         ap (λ (p : EventPass). record {
-          isWhole = p .isWhole && isFilledOrAlone h (cut statedEventSize events);
+          isWhole = p .isWhole && isFilledOrAlone h (splitBy statedEventSize events);
           events = p .events;
           least = p .least;
           words = p .words;
         }) ends
         ∙ ap (λ (whole : Bool). record { isWhole = whole; events = n; least = next; words = words }) filled
 
-    pub filled-some : 0 < n → isFilledOrAlone h (cut statedEventSize events) ≡ true
+    pub filled-some : 0 < n → isFilledOrAlone h (splitBy statedEventSize events) ≡ true
     filled-some some =
-        ap (isFilledOrAlone h) (cut-next statedEventSize events (omega (arith, so-far .few, so-far .inside)) (omega arith))
+        ap (isFilledOrAlone h) (split-next statedEventSize events (omega (arith, so-far .few, so-far .inside)) (omega arith))
 
     empty : length events ≤ 0 → events ≡ []
     empty none = drop-of-length-le events none
 
-    pub filled-none : n ≤ 0 → isFilledOrAlone h (cut statedEventSize events) ≡ isFilledOrAlone h []
+    pub filled-none : n ≤ 0 → isFilledOrAlone h (splitBy statedEventSize events) ≡ isFilledOrAlone h []
     filled-none none =
         let zero-is : n ≡ 0 = omega arith in
         let first = so-far .none zero-is in
-        ap (λ (bs : List ℕ). isFilledOrAlone h (cut statedEventSize bs)) (empty (omega (arith, first)))
-        ∙ ap (isFilledOrAlone h) (cut-nil statedEventSize)
+        ap (λ (bs : List ℕ). isFilledOrAlone h (splitBy statedEventSize bs)) (empty (omega (arith, first)))
+        ∙ ap (isFilledOrAlone h) (split-nil statedEventSize)

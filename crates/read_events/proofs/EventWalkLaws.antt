@@ -16,9 +16,9 @@ use Rattle.eit.specs.declared.Record.{Record}
 use Rattle.eit.proofs.Test.{and-left, le-or-lt}
 use Rattle.sections.specs.Section.{eventOverhead}
 use Rattle.sections.specs.Decode.{statusField, statedEventSize, eventIn}
-use Rattle.sections.specs.Cut.{cut}
-use Rattle.sections.specs.Places.{recordAt}
-use Rattle.sections.proofs.Cut.{cut-next}
+use Rattle.sections.specs.Split.{splitBy}
+use Rattle.sections.specs.Offsets.{recordAt}
+use Rattle.sections.proofs.Split.{split-next}
 use Rattle.codec_section.specs.EventRead.{isWholeEvent, frontEvent, eventRead}
 use Rattle.codec_section.specs.declared.event.EventRead.the-variants.{Whole}
 use Rattle.codec_section.proofs.EventReadLaws.{whole-only}
@@ -48,7 +48,7 @@ module _ (base : ℕ) (bs : List ℕ) {r : Record} (read : eventRead base bs ≡
   front-size =
       ⊎-elim
       (λ (enough : statedEventSize bs ≤ length bs). length-take-le (statedEventSize bs) bs enough)
-      (λ (cut-short : length bs < statedEventSize bs).
+      (λ (truncated : length bs < statedEventSize bs).
       let all : frontEvent bs ≡ bs = take-all (statedEventSize bs) bs (omega arith) in
       let states : length bs ≡ statedEventSize bs =
       subst (λ (xs : List ℕ). length xs ≡ statedEventSize xs) all (whole-stated base (frontEvent bs) holds) in
@@ -63,7 +63,7 @@ module _ (base : ℕ) (bs : List ℕ) {r : Record} (read : eventRead base bs ≡
   pub whole-inside : eventOverhead + r .«chain_length» ≤ length bs
   whole-inside = omega (arith, chain-size, front-size, length-take (statedEventSize bs) bs)
 
-  pub whole-next : cut statedEventSize bs ≡ frontEvent bs ∷ cut statedEventSize (drop (eventOverhead + r .«chain_length») bs)
+  pub whole-next : splitBy statedEventSize bs ≡ frontEvent bs ∷ splitBy statedEventSize (drop (eventOverhead + r .«chain_length») bs)
   whole-next =
-      cut-next statedEventSize bs (omega (arith, whole-inside)) (omega arith)
-      ∙ ap (λ (n : ℕ). frontEvent bs ∷ cut statedEventSize (drop n bs)) (sym chain-size)
+      split-next statedEventSize bs (omega (arith, whole-inside)) (omega arith)
+      ∙ ap (λ (n : ℕ). frontEvent bs ∷ splitBy statedEventSize (drop n bs)) (sym chain-size)

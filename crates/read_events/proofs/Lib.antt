@@ -3,4 +3,4 @@ pub mod EventWalkLaws
 -- the pass over an event loop, piece by piece
 pub mod EventPassLaws
 -- its least start and its set of ids are those of the events so far
-pub mod EventKeptLaws
+pub mod EventsSoFarLaws

@@ -1,6 +1,6 @@
 -- A pass over a section's events that keeps the least start that the next event may have, and the ids so far as a set (01, "The
 -- file of sections": over the file starts rise strictly, ids differ). Laws: proofs/EventPassLaws.antt,
--- proofs/EventKeptLaws.antt. Assumes nothing.
+-- proofs/EventsSoFarLaws.antt. Assumes nothing.
 use Prim.Native.Nat.{ℕ, _+_}
 use mathlib.Core.Bool.{Bool, true, false, not, _&&_}
 use mathlib.Core.List.{List, [], _∷_}
@@ -8,7 +8,7 @@ use lib.Dec.{leb}
 use Rattle.eit.specs.Events.{leastBehind}
 use Rattle.sections.specs.Section.{Header}
 use Rattle.sections.specs.Decode.{eventIn}
-use Rattle.sections.specs.JudgeEvents.{isEvent, isFilledOrAlone}
+use Rattle.sections.specs.EventTests.{isEvent, isFilledOrAlone}
 use Rattle.codec.specs.Seen.{isSeen, withSeen}
 use Rattle.read_events.specs.declared.EventCheck.{EventCheck}
 

@@ -1,3 +1,3 @@
 -- What the contracts of this crate say beyond the model's definitions.
 pub mod EventPass  -- a pass over a section's events that keeps the ids so far as a set
-pub mod EventsKept  -- what is kept of the events so far
+pub mod EventsSoFar  -- what is kept of the events so far

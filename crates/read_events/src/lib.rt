@@ -6,15 +6,15 @@ use codec_section::header::SectionHeader;
 use eit::Record;
 use eit::limits::EVENT_OVERHEAD;
 use eit::limits::SEGMENT_SECONDS;
-use read_checks::frame::TABLE_LEAST;
-use read_checks::place;
+use read_checks::frame::TABLE_FIRST;
+use read_checks::numbering;
 ghost use mathlib.Core.Path.{_≡_};
 ghost use mathlib.Core.Bool.{_&&_, not};
 ghost use mathlib.Core.List.{[]};
 ghost use lib.Dec.{leb};
 ghost use Rattle.sections.specs.Decode.{statedEventSize};
-ghost use Rattle.sections.specs.Cut.{cut};
-ghost use Rattle.sections.specs.JudgeEvents.{isInSegment, isFilledOrAlone};
+ghost use Rattle.sections.specs.Split.{splitBy};
+ghost use Rattle.sections.specs.EventTests.{isInSegment, isFilledOrAlone};
 ghost use Rattle.codec.specs.Seen.{isSeen};
 ghost use Rattle.codec_section.specs.HeaderRead.{heldHeader};
 ghost use Rattle.read_events.specs.EventPass.{checkedEvents, passOf};
@@ -33,15 +33,15 @@ fn is_in_segment(header: SectionHeader, start: u32) -> bool
     ensures { λ r. ⌜ r ≡ isInSegment (heldHeader header) start ⌝ }
 {
     let index = start / SEGMENT_SECONDS;
-    TABLE_LEAST + index / 32 == header.table_id as u32
-        && 8 * (index % 32) == place::first_of(header.section_number)
+    TABLE_FIRST + index / 32 == header.table_id as u32
+        && 8 * (index % 32) == numbering::first_of(header.section_number)
 }
 
 // A section without events is alone in its segment: S = G = s0.
 fn is_alone(header: SectionHeader) -> bool
     ensures { λ r. ⌜ r ≡ isFilledOrAlone (heldHeader header) [] ⌝ }
 {
-    let first = place::first_of(header.section_number);
+    let first = numbering::first_of(header.section_number);
     header.section_number as u32 == first && header.segment_last_section_number as u32 == first
 }
 
@@ -63,7 +63,7 @@ pub fn check_events(
 ) -> EventCheck
     ensures { λ r. ⌜
         passOf r (now (seen .exit))
-        ≡ checkedEvents «base_day» (heldHeader header) least (now (seen .entry)) (cut statedEventSize (now (events .entry))) ⌝ }
+        ≡ checkedEvents «base_day» (heldHeader header) least (now (seen .entry)) (splitBy statedEventSize (now (events .entry))) ⌝ }
 {
     let mut n = 0;
     let mut next = least;

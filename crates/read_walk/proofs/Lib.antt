@@ -1,2 +1,2 @@
--- the walk meets the pieces into which a file is cut, and ends
+-- the walk meets the pieces into which a file is split, and ends
 pub mod SectionAtLaws

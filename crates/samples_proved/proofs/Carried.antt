@@ -9,8 +9,8 @@ use Rattle.eit.specs.Sound.{sound, eventsOf}
 use Rattle.sections.specs.Section.{versionOf}
 use Rattle.schedule.specs.Build.{build}
 use Rattle.schedule.specs.Given.{Given, Carries}
-use Rattle.schedule.specs.ExampleLists.{row, bare}
-use Rattle.schedule.specs.ExampleCalls.{versioned}
+use Rattle.schedule.specs.ExampleLists.{row, plainEvents}
+use Rattle.schedule.specs.ExampleCalls.{identityWith}
 use Rattle.schedule.proofs.Demands.{demands}
 use Rattle.samples_proved.specs.SampleLists.{emptyFile}
 
@@ -18,10 +18,10 @@ pub nothing : Given broadcast
 unfolding sound recordsOf row
 nothing =
     record {
-      pools = bare 0 0 .pools;
-      list = bare 0 0 .list;
+      pools = plainEvents 0 0 .pools;
+      list = plainEvents 0 0 .list;
       base = 49_273;
-      identity = versioned 0;
+      identity = identityWith 0;
       dayBytes = tt;
       seriesBytes = tt;
       isSound = tt;

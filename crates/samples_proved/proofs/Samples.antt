@@ -15,19 +15,19 @@ use Rattle.script.specs.Edit.{edit}
 use Rattle.sections.specs.Section.{versionOf, eventOverhead}
 use Rattle.schedule.specs.Plan.{plan}
 use Rattle.schedule.specs.Build.{build}
-use Rattle.schedule.specs.ExampleLists.{row, bare}
+use Rattle.schedule.specs.ExampleLists.{row, plainEvents}
 use Rattle.calendar.specs.Date.{dateOf}
 use Rattle.samples_proved.specs.SampleLists.{chainOf}
 use Rattle.samples_proved.specs.SampleCalls.{answer}
 use Rattle.samples_proved.specs.Samples.{Samples}
 
-bare-339 : answer (bare 0 339) ≡ record { number = 11; value = sectionOverhead + 339 * eventOverhead; output = [] }
+plain-339 : answer (plainEvents 0 339) ≡ record { number = 11; value = sectionOverhead + 339 * eventOverhead; output = [] }
 unfolding build sound eventsOf recordsOf follows choose isChain row
-bare-339 = refl
+plain-339 = refl
 
-bare-340 : answer (bare 0 340) ≡ record { number = 11; value = 2 * sectionOverhead + 340 * eventOverhead; output = [] }
+plain-340 : answer (plainEvents 0 340) ≡ record { number = 11; value = 2 * sectionOverhead + 340 * eventOverhead; output = [] }
 unfolding build sound eventsOf recordsOf follows choose isChain row
-bare-340 = refl
+plain-340 = refl
 
 pub samples : Samples
 unfolding build plan edit formOf unstruckIn sound eventsOf recordsOf follows choose isChain crc32 versionOf chainOf row
@@ -80,10 +80,10 @@ samples =
       two-apart-build = refl;
       many-fit = refl;
       many-fit-plan = refl;
-      many-fit-build = bare-339;
+      many-fit-build = plain-339;
       one-more = refl;
       one-more-plan = refl;
-      one-more-build = bare-340;
+      one-more-build = plain-340;
       eight = refl;
       eight-plan = refl;
       eight-build = refl;

@@ -43,8 +43,8 @@ numbers c =
     let h = s .header in (h .sectionNumber, h .segmentLastSectionNumber, h .lastSectionNumber, h .lastTableId)) broadcast c
 
 -- cuts of n segments without events, from section 0 of a table on; and of n tables without events
-abbrev pub emptySegments : ℕ → ℕ → List (ℕ × ℕ × ℕ)
-emptySegments table n = map (λ (segment : ℕ). (table, 8 * segment, 0)) (row 0 n)
+abbrev pub emptySegmentCuts : ℕ → ℕ → List (ℕ × ℕ × ℕ)
+emptySegmentCuts table n = map (λ (segment : ℕ). (table, 8 * segment, 0)) (row 0 n)
 
-abbrev pub emptyTables : ℕ → ℕ → List (ℕ × ℕ × ℕ)
-emptyTables table n = map (λ (t : ℕ). (t, 0, 0)) (row table n)
+abbrev pub emptyTableCuts : ℕ → ℕ → List (ℕ × ℕ × ℕ)
+emptyTableCuts table n = map (λ (t : ℕ). (t, 0, 0)) (row table n)

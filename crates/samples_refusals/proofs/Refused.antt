@@ -3,20 +3,20 @@ use mathlib.Core.Path.{refl}
 use Rattle.eit.specs.Crc.{crc32}
 use Rattle.eit.specs.Chain.{isChain}
 use Rattle.eit.specs.Events.{follows}
-use Rattle.sections.specs.JudgeHeader.{isFramed, isClosed, isHeader, isInPlace}
-use Rattle.sections.specs.JudgeEvents.{isEvent, isEventLoop, isWithinLimit}
+use Rattle.sections.specs.HeaderTests.{isFramed, hasRightCrc, isHeader, hasRightNumbering}
+use Rattle.sections.specs.EventTests.{isEvent, isEventLoop, isWithinLimit}
 use Rattle.sections.specs.Read.{read}
 use Rattle.samples_refusals.specs.Refusals.{Refusals}
 use Rattle.samples_refusals.specs.EventRefusals.{EventRefusals}
 
 pub refusals : Refusals
-unfolding read isFramed isClosed isHeader isInPlace isEvent isEventLoop isWithinLimit crc32 isChain follows
+unfolding read isFramed hasRightCrc isHeader hasRightNumbering isEvent isEventLoop isWithinLimit crc32 isChain follows
 refusals =
     record {
       base = refl;
       base-most = refl;
       one-byte = refl;
-      cut = refl;
+      truncated = refl;
       byte-behind = refl;
       table-below = refl;
       table-above = refl;
@@ -54,7 +54,7 @@ refusals =
     }
 
 pub event-refusals : EventRefusals
-unfolding read isFramed isClosed isHeader isInPlace isEvent isEventLoop isWithinLimit crc32 isChain follows
+unfolding read isFramed hasRightCrc isHeader hasRightNumbering isEvent isEventLoop isWithinLimit crc32 isChain follows
 event-refusals =
     record {
       event-kept = refl;

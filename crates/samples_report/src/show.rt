@@ -28,7 +28,7 @@ fn identity() -> Identity {
 }
 
 // The number and the value of an answer.
-struct Said {
+struct Outcome {
     number: u32,
     value: usize,
 }
@@ -41,11 +41,11 @@ fn build_list<'a>(
     series: &'a [u8],
     identity: Identity,
     file: &mut [u8],
-) -> Said
+) -> Outcome
     ensures { λ r. ⌜ (r .number ≡ 0 → r .value ≤ length (now (file .exit))) ⌝ }
 {
     let built = build::build(list, count, day, series, BASE_DAY, identity, file);
-    Said {
+    Outcome {
         number: build_answer::number_of(built),
         value: build_answer::value_of(built),
     }
@@ -75,14 +75,14 @@ fn show_file(file: &[u8]) {
     );
     let mut records = [0u32; LIST_SIZE];
     let reading = read::read(file, BASE_DAY, &mut records);
-    let said = reading.answer;
+    let answer = reading.answer;
     let identity = reading.identity;
     lines::print_answer(
         b"read",
-        read_answer::number_of(said),
-        read_answer::value_of(said),
+        read_answer::number_of(answer),
+        read_answer::value_of(answer),
     );
-    show_again(&records, read_answer::count_of(said), identity, file);
+    show_again(&records, read_answer::count_of(answer), identity, file);
 }
 
 // Plan's counts.
@@ -112,10 +112,10 @@ fn show_list<'a>(list: &[u32], count: usize, day: &'a [u8], series: &'a [u8]) {
 pub fn show_script<'a>(script: &[u8], day: &'a [u8], series: &'a [u8]) {
     let mut list = [0u32; LIST_SIZE];
     let edited = edit::edit(&mut list, 0, day, series, script);
-    let said = edited.answer;
+    let answer = edited.answer;
     let count = edited.count;
-    let number = edit_answer::number_of(said);
-    lines::print_answer(b"edit", number, edit_answer::value_of(said, count));
+    let number = edit_answer::number_of(answer);
+    lines::print_answer(b"edit", number, edit_answer::value_of(answer, count));
     if number == 0 {
         show_list(&list, count, day, series);
     }

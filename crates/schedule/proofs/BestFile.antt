@@ -5,7 +5,7 @@ use mathlib.Core.List.{List}
 use Prim.Native.Nat.{ℕ, _≤_}
 use native.Mathlib.Omega.{arith}
 use Rattle.eit.specs.declared.Sizes.{Sizes}
-use Rattle.sections.specs.Decode.{cutSections}
+use Rattle.sections.specs.Decode.{sectionsIn}
 use Rattle.sections.specs.Count.{sectionsCounted, eventsCounted}
 use Rattle.sections.specs.Read.{checkFile}
 use Rattle.sections.proofs.Count.{counted-is, held-is}
@@ -24,7 +24,7 @@ module _ (sizes : Sizes) (legal : LegalSizes sizes) (g : Given sizes) (output : 
         ap (λ (f : List ℕ). sectionsCounted (g .base) f index) own,
         own-counted legal g fits index,
         counted-is (g .base) file index,
-        best-fewest sizes (events g) (facts g) (checkFile sizes (g .base) file .identity) (cutSections (g .base) file)
+        best-fewest sizes (events g) (facts g) (checkFile sizes (g .base) file .identity) (sectionsIn (g .base) file)
             (rival-rules g file c) (rival-events g file c) (g .identity) index,
       )
 
@@ -36,6 +36,6 @@ module _ (sizes : Sizes) (legal : LegalSizes sizes) (g : Given sizes) (output : 
         ap (λ (f : List ℕ). eventsCounted (g .base) f index k) own,
         own-held legal g fits index k,
         held-is (g .base) file index k,
-        best-most sizes (events g) (facts g) (checkFile sizes (g .base) file .identity) (cutSections (g .base) file)
+        best-most sizes (events g) (facts g) (checkFile sizes (g .base) file .identity) (sectionsIn (g .base) file)
             (rival-rules g file c) (rival-events g file c) (g .identity) index (legal .least) (g .legalIdentity) fits k few,
       )

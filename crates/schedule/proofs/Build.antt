@@ -11,7 +11,7 @@ use lib.Dec.{T}
 use lib.ListN.{length, take, drop}
 use lib.Seq.{take-append-seam}
 use Rattle.eit.specs.declared.Sizes.{Sizes}
-use Rattle.eit.specs.Limits.{baseMost, versionMost}
+use Rattle.eit.specs.Limits.{baseDayMax, versionMax}
 use Rattle.eit.specs.Overwrite.{overwrite}
 use Rattle.eit.specs.Pools.{Pools}
 use Rattle.eit.specs.Records.{EventList}
@@ -28,28 +28,28 @@ use Rattle.schedule.specs.Build.{Built, refusal, written, buildEvents, b
 -- ---- 1, 2, 12, and the rest
 
 module _ (sizes : Sizes) (pools : Pools) (list : EventList) (base : ℕ) (identity : Identity) (output : List ℕ) where
-  pub build-base : baseMost < base → build sizes pools list base identity output ≡ record { number = 1; value = 0; output = output }
+  pub build-base : baseDayMax < base → build sizes pools list base identity output ≡ record { number = 1; value = 0; output = output }
   unfolding build
-  build-base above = rw (build, lt-leb base baseMost above)
+  build-base above = rw (build, lt-leb base baseDayMax above)
 
-  module _ (day : base ≤ baseMost) where
-    pub build-version : versionMost < identity .version
+  module _ (day : base ≤ baseDayMax) where
+    pub build-version : versionMax < identity .version
         → build sizes pools list base identity output ≡ record { number = 2; value = 0; output = output }
     unfolding build
-    build-version above = rw (build, le-leb base baseMost day, lt-leb (identity .version) versionMost above)
+    build-version above = rw (build, le-leb base baseDayMax day, lt-leb (identity .version) versionMax above)
 
-    module _ (version : identity .version ≤ versionMost) where
+    module _ (version : identity .version ≤ versionMax) where
       pub build-unsound : T (not (sound sizes pools list))
           → build sizes pools list base identity output ≡ record { number = 12; value = 0; output = output }
       unfolding build
       build-unsound unsound =
-          rw (build, le-leb base baseMost day, le-leb (identity .version) versionMost version, false-is (sound sizes pools list) unsound)
+          rw (build, le-leb base baseDayMax day, le-leb (identity .version) versionMax version, false-is (sound sizes pools list) unsound)
 
       pub build-sound : T (sound sizes pools list)
           → build sizes pools list base identity output ≡ buildEvents sizes base identity (eventsOf pools list) output
       unfolding build
       build-sound is =
-          rw (build, le-leb base baseMost day, le-leb (identity .version) versionMost version, true-is (sound sizes pools list) is)
+          rw (build, le-leb base baseDayMax day, le-leb (identity .version) versionMax version, true-is (sound sizes pools list) is)
 
 -- ---- 10
 
@@ -119,9 +119,9 @@ module _ (P : Built → Type 0) (sizes : Sizes) (base : ℕ) (identity : Identit
       (λ unsound. subst P (sym (build-unsound sizes pools list base identity output day version unsound)) (refused 12 0 (λ e. omega arith)))
       (test-or (sound sizes pools list)))
       (λ above. subst P (sym (build-version sizes pools list base identity output day above)) (refused 2 0 (λ e. omega arith)))
-      (le-or-lt (identity .version) versionMost))
+      (le-or-lt (identity .version) versionMax))
       (λ above. subst P (sym (build-base sizes pools list base identity output above)) (refused 1 0 (λ e. omega arith)))
-      (le-or-lt base baseMost)
+      (le-or-lt base baseDayMax)
 
 -- ---- a sound list without an unpackable segment is answered with neither 12 nor 10
 
@@ -145,9 +145,9 @@ module _ (sizes : Sizes) (pools : Pools) (list : EventList) (base : ℕ) (identi
       ∙ events-written sizes base identity (eventsOf pools list) output ends))
       (written-packs (sectionsOf sizes identity (eventsOf pools list))))
       (λ above. subst Packs (sym (build-version sizes pools list base identity output day above)) (λ e. omega arith, λ e. omega arith))
-      (le-or-lt (identity .version) versionMost))
+      (le-or-lt (identity .version) versionMax))
       (λ above. subst Packs (sym (build-base sizes pools list base identity output above)) (λ e. omega arith, λ e. omega arith))
-      (le-or-lt base baseMost)
+      (le-or-lt base baseDayMax)
 
 -- ---- what Build leaves
 

@@ -10,7 +10,7 @@ use lib.Dec.{T}
 use lib.ListN.{length}
 use Rattle.eit.specs.Sizes.{sectionOverhead}
 use Rattle.eit.specs.declared.Sizes.{Sizes}
-use Rattle.eit.specs.Limits.{baseMost, versionMost}
+use Rattle.eit.specs.Limits.{baseDayMax, versionMax}
 use Rattle.eit.specs.Pools.{Pools}
 use Rattle.eit.specs.Records.{EventList}
 use Rattle.eit.specs.Events.{Event}
@@ -18,11 +18,11 @@ use Rattle.eit.specs.Sound.{sound, eventsOf}
 use Rattle.eit.specs.declared.Identity.{Identity}
 use Rattle.eit.proofs.Test.{le-or-lt}
 use Rattle.sections.specs.Section.{Section, eventSizes, sectionEvents, sectionSizes}
-use Rattle.sections.specs.Decode.{cutSections}
-use Rattle.sections.specs.Places.{filePools}
+use Rattle.sections.specs.Decode.{sectionsIn}
+use Rattle.sections.specs.Offsets.{filePools}
 use Rattle.sections.specs.Read.{Answer, Reading, read, listOf}
 use Rattle.sections.specs.Exact.{RecordBuffer}
-use Rattle.sections.proofs.Exact.{cut-sections-back}
+use Rattle.sections.proofs.Exact.{sections-in-back}
 use Rattle.sections.proofs.FileSound.{accepted-events}
 use Rattle.schedule.specs.Build.{Built, buildEvents, build, fileOf}
 use Rattle.schedule.specs.Given.{Given, built, events, Carries}
@@ -42,9 +42,9 @@ events-alone sizes p q list other base identity output is also same =
     ∙ ap (λ (es : List Event). buildEvents sizes base identity es output) same
     ∙ sym (build-sound sizes q other base identity output day version also))
     (λ above. build-version sizes p list base identity output day above ∙ sym (build-version sizes q other base identity output day above))
-    (le-or-lt (identity .version) versionMost))
+    (le-or-lt (identity .version) versionMax))
     (λ above. build-base sizes p list base identity output above ∙ sym (build-base sizes q other base identity output above))
-    (le-or-lt base baseMost)
+    (le-or-lt base baseDayMax)
 
 -- ---- length
 
@@ -60,13 +60,13 @@ sizes-split (s ∷ ss) = omega (arith, sizes-split ss, sizes-append (s .events) 
 module _ (sizes : Sizes) (legal : LegalSizes sizes) (g : Given sizes) (output : List ℕ) (zero : built g output .number ≡ 0) where
   -- the file's length is 18 × sections + the events' bytes
   pub built-bytes : built g output .value
-      ≡ 18 * length (cutSections (g .base) (fileOf (built g output))) + eventSizes (events g)
+      ≡ 18 * length (sectionsIn (g .base) (fileOf (built g output))) + eventSizes (events g)
   built-bytes =
       let (fits, is, enough, file) = writes g output zero in
       let ss : List Section = ownSections g in
-      let shown : cutSections (g .base) (fileOf (built g output)) ≡ ss =
-      ap (cutSections (g .base)) file
-      ∙ cut-sections-back sizes (g .base) (legal .most) (g .legalBase) (g .identity) ss (own-rules legal g fits) in
+      let shown : sectionsIn (g .base) (fileOf (built g output)) ≡ ss =
+      ap (sectionsIn (g .base)) file
+      ∙ sections-in-back sizes (g .base) (legal .most) (g .legalBase) (g .identity) ss (own-rules legal g fits) in
       omega (
         arith,
         ap (λ (b : Built). b .value) (is ∙ written-fits (g .base) ss output enough),

@@ -9,7 +9,7 @@ use Prim.Native.Nat.{ℕ, suc, _+_, _-_, _*_, _/_, _≤_, _<_}
 use native.Mathlib.Omega.{arith}
 use lib.Dec.{T, not-T}
 use Rattle.eit.specs.declared.Sizes.{Sizes}
-use Rattle.eit.specs.Limits.{startLimit}
+use Rattle.eit.specs.Limits.{windowSeconds}
 use Rattle.eit.specs.Events.{Event}
 use Rattle.eit.specs.declared.Identity.{Identity}
 use Rattle.eit.proofs.Test.{true-is, false-is}
@@ -85,7 +85,7 @@ module _ (sizes : Sizes) (identity : Identity) (es : List Event) where
       part-outside k (not-T (isInside es k) (λ inside. omega (arith, inside-is es k inside .0))))
 
   -- there are at most sixteen tables
-  pub file-by-index : Every (λ (e : Event). e .start < startLimit) es
+  pub file-by-index : Every (λ (e : Event). e .start < windowSeconds) es
       → sectionsOf sizes identity es ≡ flatten (each (insidePart sizes identity es) 0 512)
   file-by-index starts =
       let n : ℕ = suc (lastTable es) in

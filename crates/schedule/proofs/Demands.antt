@@ -10,7 +10,7 @@ use lib.Dec.{T, T-not}
 use lib.ListN.{length}
 use Rattle.eit.specs.Sizes.{broadcast}
 use Rattle.eit.specs.declared.Sizes.{Sizes}
-use Rattle.eit.specs.Limits.{baseMost}
+use Rattle.eit.specs.Limits.{baseDayMax}
 use Rattle.eit.specs.Fields.{Bytes}
 use Rattle.eit.specs.Pools.{Pools}
 use Rattle.eit.specs.Records.{EventList}
@@ -23,18 +23,18 @@ use Rattle.eit.proofs.Sound.{sound-list, events-length}
 use Rattle.script.specs.Edit.{Edited, Stopped}
 use Rattle.script.proofs.Edit.{edit-runs, edit-leaves, run-stops}
 use Rattle.sections.specs.Section.{Section, sectionSizes}
-use Rattle.sections.specs.Decode.{cutSections}
+use Rattle.sections.specs.Decode.{sectionsIn}
 use Rattle.sections.specs.Count.{sectionsCounted}
-use Rattle.sections.specs.Places.{recordsFrom, filePools}
+use Rattle.sections.specs.Offsets.{recordsFrom, filePools}
 use Rattle.sections.specs.Read.{Reading, success, checkFile, fileRecords, read, listOf}
 use Rattle.sections.specs.Exact.{RecordBuffer, Accepted, FollowsRules}
 use Rattle.sections.proofs.Lengths.{file-length}
 use Rattle.sections.proofs.Read.{read-agrees, check-below-27}
-use Rattle.sections.proofs.Exact.{accepted-follows, cut-sections-back, follows-read, read-exact}
+use Rattle.sections.proofs.Exact.{accepted-follows, sections-in-back, follows-read, read-exact}
 use Rattle.sections.proofs.Accepted.{accepted-check, accepted-exactly}
 use Rattle.sections.proofs.Frame.{read-leaves}
 use Rattle.sections.proofs.FileSize.{accepted-size}
-use Rattle.sections.proofs.Places.{records-count}
+use Rattle.sections.proofs.Offsets.{records-count}
 use Rattle.sections.proofs.FileSound.{accepted-sound, accepted-events}
 use Rattle.schedule.specs.Extent.{isInside}
 use Rattle.schedule.specs.SectionsOf.{isUnpackable}
@@ -73,7 +73,7 @@ module _ (sizes : Sizes) (legal : LegalSizes sizes) where
   -- ---- Demand 2: accepted files
 
   module _ (base : ℕ) (file : List ℕ) (bytes : Bytes file) where
-    accepts : base ≤ baseMost
+    accepts : base ≤ baseDayMax
         → Accepted sizes base file ↔ ((identity : Identity) × (rs : List Record) × FollowsRules sizes base file identity rs)
     accepts day = (
       λ accepted.
@@ -90,7 +90,7 @@ module _ (sizes : Sizes) (legal : LegalSizes sizes) where
     packs accepted series buffer size day identity output =
         let list : EventList = listOf (read sizes base file buffer) in
         let pools : Pools = filePools file series in
-        let ss : List Section = cutSections base file in
+        let ss : List Section = sectionsIn base file in
         let zero = accepted buffer size in
         let fits : (index : ℕ) → T (not (isUnpackable sizes (eventsOf pools list) index)) =
         λ index. held-packable sizes (eventsOf pools list) index
@@ -149,10 +149,10 @@ module _ (sizes : Sizes) (legal : LegalSizes sizes) where
       let is : planned (plan sizes (g .pools) (g .list)) index ≡ sectionCount sizes es index =
       ap (λ (counts : List (List ℕ)). planned counts index) (plan-sound sizes (g .pools) (g .list) (g .isSound))
       ∙ tabled-at (sectionCount sizes es) index few in (
-        λ says eight.
+        λ number-is eight.
             let fits = held-packable sizes es index eight in
-            ⊎-elim (λ inside. omega (arith, is, says, count-inside sizes es index inside fits, parts-few sizes es index))
-            (λ outside. omega (arith, is, says, count-outside sizes es index outside))
+            ⊎-elim (λ inside. omega (arith, is, number-is, count-inside sizes es index inside fits, parts-few sizes es index))
+            (λ outside. omega (arith, is, number-is, count-outside sizes es index outside))
             (test-or (isInside es index)),
         λ none. ⊎-elim (λ fails. is ∙ count-unpackable sizes es index (facts g .rises) fails)
             (λ fits. absurd (none (eight-hold sizes es index fits)))
@@ -227,7 +227,7 @@ module _ (sizes : Sizes) (legal : LegalSizes sizes) where
         read-exact = λ base file buffer identity rs day bytes. read-exact sizes base file buffer identity rs (legal .most) day bytes;
         accepted-size = λ base file bytes accepted. accepted-size sizes base file (legal .most) bytes (accepted-check sizes base file accepted);
         check-agrees = λ base file buffer not-27. read-agrees sizes base file buffer not-27;
-        check-never-27 = λ base file says. omega (arith, check-below-27 sizes base file);
+        check-never-27 = λ base file number-is. omega (arith, check-below-27 sizes base file);
         accepted-sound = λ base file series buffer bytes accepted size. accepted-sound sizes base file buffer series bytes (accepted buffer size);
         accepted-events = λ base file series buffer bytes accepted size. accepted-events sizes base file buffer series bytes (accepted buffer size);
         accepted-packable = λ base file series buffer bytes accepted size. packs base file bytes accepted series buffer size;
@@ -245,7 +245,7 @@ module _ (sizes : Sizes) (legal : LegalSizes sizes) where
         fewest-sections = fewest sizes legal;
         most-events = most sizes legal;
         built-only = built-only sizes legal;
-        cut-back = λ base identity ss day rules. cut-sections-back sizes base (legal .most) day identity ss rules;
+        cut-back = λ base identity ss day rules. sections-in-back sizes base (legal .most) day identity ss rules;
         refused = leaves sizes;
       }
 

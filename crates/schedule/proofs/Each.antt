@@ -51,15 +51,15 @@ module _ {A : Type 0} where
       (each-shift f first (suc least) n ∙ ap (λ (k : ℕ). each f k n) next)
 
   -- a row cut in two
-  pub each-cut : (f : ℕ → A) (least m n : ℕ) → each f least (m + n) ≡ each f least m ++ each f (least + m) n
+  pub each-split : (f : ℕ → A) (least m n : ℕ) → each f least (m + n) ≡ each f least m ++ each f (least + m) n
   unfolding each
-  each-cut f least zero n = rw (zero-add, add-zero)
-  each-cut f least (suc m) n =
+  each-split f least zero n = rw (zero-add, add-zero)
+  each-split f least (suc m) n =
       let more : suc m + n ≡ suc (m + n) = omega arith in
       let next : suc least + m ≡ least + suc m = omega arith in
       ap (each f least) more
       ∙ ap (λ (xs : List A). f least ∷ xs)
-      (each-cut f (suc least) m n ∙ ap (λ (k : ℕ). each f (suc least) m ++ each f k n) next)
+      (each-split f (suc least) m n ∙ ap (λ (k : ℕ). each f (suc least) m ++ each f k n) next)
 
   -- rows of m, one behind the other, are one row
   pub each-rows : (f : ℕ → A) (m first n : ℕ)
@@ -70,7 +70,7 @@ module _ {A : Type 0} where
       let more : suc n * m ≡ m + n * m = suc-mul n m ∙ add-comm (n * m) m in
       ap (λ (xs : List A). each f (first * m) m ++ xs)
       (each-rows f m (suc first) n ∙ ap (λ (k : ℕ). each f k (n * m)) (suc-mul first m))
-      ∙ sym (each-cut f (first * m) m (n * m))
+      ∙ sym (each-split f (first * m) m (n * m))
       ∙ ap (each f (first * m)) (sym more)
 
 module _ {A : Type 0} (f : ℕ → List A) where
@@ -132,9 +132,9 @@ flatten-append {A = A} (xs ∷ xss) yss =
     ap (λ (zs : List A). xs ++ zs) (flatten-append xss yss) ∙ sym (append-assoc xs (flatten xss) (flatten yss))
 
 -- a row cut in two, joined
-pub joined-cut : {A : Type 0} (f : ℕ → List A) (least m n : ℕ)
+pub joined-each-split : {A : Type 0} (f : ℕ → List A) (least m n : ℕ)
     → flatten (each f least (m + n)) ≡ flatten (each f least m) ++ flatten (each f (least + m) n)
-joined-cut f least m n = ap flatten (each-cut f least m n) ∙ flatten-append (each f least m) (each f (least + m) n)
+joined-each-split f least m n = ap flatten (each-split f least m n) ∙ flatten-append (each f least m) (each f (least + m) n)
 
 -- where all behind the first m are empty
 pub joined-front : {A : Type 0} (f : ℕ → List A) (least m n : ℕ) → m ≤ n
@@ -145,7 +145,7 @@ joined-front {A = A} f least m n few empty =
     sym (append-nil front)
     ∙ ap (λ (xs : List A). front ++ xs)
     (sym (joined-none f (least + m) (n - m) (λ k low high. empty k low (omega arith))))
-    ∙ sym (joined-cut f least m (n - m))
+    ∙ sym (joined-each-split f least m (n - m))
     ∙ ap (λ (k : ℕ). flatten (each f least k)) all
 
 -- rows of m, each joined, one behind the other

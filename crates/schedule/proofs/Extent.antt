@@ -8,7 +8,7 @@ use native.Mathlib.Omega.{arith}
 use borrow.Author.Tests.{eq-eqb, ne-eqb}
 use lib.Dec.{T, leb, leb→le, le→leb}
 use lib.ListN.{length}
-use Rattle.eit.specs.Limits.{startLimit}
+use Rattle.eit.specs.Limits.{windowSeconds}
 use Rattle.eit.specs.Events.{Event, rising}
 use Rattle.eit.proofs.Test.{and-both, and-parts, eq-or-not}
 use Rattle.eit.proofs.Events.{AllFollow, rising-rest, rising-after, rising-follow, follow-rising}
@@ -50,10 +50,10 @@ segment-in-table es table =
     last-has (λ (i : ℕ). i / 32 ≡ table) (table * 32) (tableEvents table es) (omega arith) (table-has table es)
 
 -- there are at most sixteen tables
-pub tables-few : (es : List Event) → Every (λ (e : Event). e .start < startLimit) es → lastTable es < 16
+pub tables-few : (es : List Event) → Every (λ (e : Event). e .start < windowSeconds) es → lastTable es < 16
 tables-few es starts =
     let few : lastIndex 0 es < 512 =
-    last-has (λ (i : ℕ). i < 512) 0 es (omega arith) (every-map (λ (e : Event) (h : e .start < startLimit). omega arith) es starts) in
+    last-has (λ (i : ℕ). i < 512) 0 es (omega arith) (every-map (λ (e : Event) (h : e .start < windowSeconds). omega arith) es starts) in
     omega arith
 
 -- ---- no event is behind the last one

@@ -18,12 +18,12 @@ use Rattle.eit.proofs.SameEvent.{same-lists}
 use Rattle.sections.specs.Section.{Section, sectionEvents, sectionSizes}
 use Rattle.sections.specs.Encode.{fileBytes}
 use Rattle.sections.specs.Rules.{Rules}
-use Rattle.sections.specs.Decode.{cutSections}
+use Rattle.sections.specs.Decode.{sectionsIn}
 use Rattle.sections.specs.Count.{firstSections, segmentSections, sectionsCounted, eventsCounted}
-use Rattle.sections.specs.Places.{filePools}
+use Rattle.sections.specs.Offsets.{filePools}
 use Rattle.sections.specs.Read.{Answer, checkFile, read, listOf}
 use Rattle.sections.specs.Exact.{acceptedNumbers, Accepted}
-use Rattle.sections.proofs.Exact.{accepted-rules, file-bytes, cut-sections-back, follows-accepted}
+use Rattle.sections.proofs.Exact.{accepted-rules, file-bytes, sections-in-back, follows-accepted}
 use Rattle.sections.proofs.Accepted.{some-buffer, accepted-check, check-accepted}
 use Rattle.sections.proofs.FileSound.{accepted-sound, accepted-events}
 use Rattle.sections.proofs.Count.{sections-counted, events-counted}
@@ -41,7 +41,7 @@ use Rattle.schedule.proofs.Packable.{packable-or}
 
 -- the sections that the bytes of an accepted file show keep the rules, and their joined bytes are the file
 pub shown-rules : (sizes : Sizes) (base : ℕ) (file : List ℕ) → Bytes file → Accepted sizes base file
-    → Rules sizes (checkFile sizes base file .identity) (cutSections base file) × (fileBytes base (cutSections base file) ≡ file)
+    → Rules sizes (checkFile sizes base file .identity) (sectionsIn base file) × (fileBytes base (sectionsIn base file) ≡ file)
 shown-rules sizes base file bytes accepted = accepted-rules sizes base file bytes (accepted-check sizes base file accepted)
 
 -- ---- Build of what it is given
@@ -123,7 +123,7 @@ module _ {sizes : Sizes} (legal : LegalSizes sizes) (g : Given sizes) where
             same-lists sizes (filePools (ownFile g) []) (g .pools) (listOf (read sizes (g .base) (ownFile g) buffer)) (g .list)
             (accepted-sound sizes (g .base) (ownFile g) buffer [] bytes (accepted buffer size)) (g .isSound) .0
             (accepted-events sizes (g .base) (ownFile g) buffer [] bytes (accepted buffer size)
-            ∙ ap sectionEvents (cut-sections-back sizes (g .base) (legal .most) (g .legalBase) (g .identity) (ownSections g) rules)
+            ∙ ap sectionEvents (sections-in-back sizes (g .base) (legal .most) (g .legalBase) (g .identity) (ownSections g) rules)
             ∙ own-events g fits);
       }
 
@@ -140,10 +140,10 @@ module _ {sizes : Sizes} (legal : LegalSizes sizes) (g : Given sizes) where
 -- ---- a file that carries the events
 
 module _ {sizes : Sizes} (g : Given sizes) (file : List ℕ) (c : Carries g file) where
-  pub rival-rules : Rules sizes (checkFile sizes (g .base) file .identity) (cutSections (g .base) file)
+  pub rival-rules : Rules sizes (checkFile sizes (g .base) file .identity) (sectionsIn (g .base) file)
   rival-rules = shown-rules sizes (g .base) file (c .bytes) (c .accepted) .0
 
-  pub rival-events : sectionEvents (cutSections (g .base) file) ≡ events g
+  pub rival-events : sectionEvents (sectionsIn (g .base) file) ≡ events g
   rival-events =
       let (buffer, size) = some-buffer acceptedNumbers in
       let reads : read sizes (g .base) file buffer .answer .number ≡ 0 = c .accepted buffer size in
@@ -154,4 +154,4 @@ module _ {sizes : Sizes} (g : Given sizes) (file : List ℕ) (c : Carries g file
   pub rival-eight : (index : ℕ) → EightHold sizes (events g) index
   rival-eight index =
       subst (λ (es : List Event). EightHold sizes es index) rival-events
-      (segment-eight-hold sizes (checkFile sizes (g .base) file .identity) (cutSections (g .base) file) rival-rules index)
+      (segment-eight-hold sizes (checkFile sizes (g .base) file .identity) (sectionsIn (g .base) file) rival-rules index)

@@ -12,7 +12,7 @@ use Rattle.packing.proofs.Joined.{parts-only}
 use Rattle.sections.specs.Section.{Section, eventsBySection, sectionEvents}
 use Rattle.sections.specs.Encode.{fileBytes}
 use Rattle.sections.specs.Rules.{Rules}
-use Rattle.sections.specs.Decode.{cutSections}
+use Rattle.sections.specs.Decode.{sectionsIn}
 use Rattle.sections.specs.Count.{segmentEvents, segmentSections, sectionsCounted, eventsCounted}
 use Rattle.sections.specs.Read.{checkFile}
 use Rattle.sections.proofs.Count.{counted-is, held-is}
@@ -54,7 +54,7 @@ module _ (sizes : Sizes) (legal : LegalSizes sizes) (g : Given sizes) (output : 
       → file ≡ fileOf (built g output)
   built-only identity few as-many =
       let (fits, is, enough, own) = writes g output zero in
-      let ss : List Section = cutSections (g .base) file in
+      let ss : List Section = sectionsIn (g .base) file in
       let ts : List Section = ownSections g in
       let ours : Rules sizes (g .identity) ss =
       subst (λ (i : Identity). Rules sizes i ss) identity (rival-rules g file c) in

@@ -7,7 +7,7 @@ use Prim.Native.Nat.{ℕ, _≤_, _<_}
 use lib.Dec.{T}
 use lib.ListN.{length}
 use Rattle.eit.specs.declared.Sizes.{Sizes}
-use Rattle.eit.specs.Limits.{idMost, startLimit, durationLeast, durationMost}
+use Rattle.eit.specs.Limits.{idMax, windowSeconds, durationMin, durationMax}
 use Rattle.eit.specs.Fields.{Bytes}
 use Rattle.eit.specs.Chain.{isChain}
 use Rattle.eit.specs.Pools.{Pools, choose, marksSeries, poolOf}
@@ -24,10 +24,10 @@ use Rattle.sections.specs.Every.{Every}
 
 -- an event in a record's range, with a chain of bytes
 pub record EventFacts (e : Event) : Type 0 where
-  pub id : e .id ≤ idMost
-  pub start : e .start < startLimit
-  pub durationLow : durationLeast ≤ e .duration
-  pub durationHigh : e .duration ≤ durationMost
+  pub id : e .id ≤ idMax
+  pub start : e .start < windowSeconds
+  pub durationLow : durationMin ≤ e .duration
+  pub durationHigh : e .duration ≤ durationMax
   pub bytes : Bytes (e .chain)
   pub chain : T (isChain (e .chain))
 

@@ -5,7 +5,7 @@ use mathlib.Core.Path.{_≡_}
 use mathlib.Core.List.{List, [], _∷_}
 use lib.ListN.{replicate}
 use Rattle.schedule.specs.Build.{Built}
-use Rattle.schedule.specs.ExampleLists.{Case, bare, described, unsound}
+use Rattle.schedule.specs.ExampleLists.{Case, plainEvents, described, unsound}
 use Rattle.schedule.specs.ExampleCalls.{buildWith, planWith}
 use Rattle.schedule.specs.Examples.{sectionsOfAtMost}
 
@@ -20,7 +20,7 @@ refusedWith number value output = record { number = number; value = value; outpu
 pub record Answers : Type 0 where
   -- an output that is just long enough, under version 5; and one that is a byte short
   pub version-written :
-      buildShort (bare 0 0) 49_273 5 (replicate 18 0xAA)
+      buildShort (plainEvents 0 0) 49_273 5 (replicate 18 0xAA)
       ≡ record {
         number = 0;
         value = 18;
@@ -28,10 +28,10 @@ pub record Answers : Type 0 where
             0x50 ∷ 0xF0 ∷ 0x0F ∷ 0x00 ∷ 0x01 ∷ 0xCB ∷ 0x00 ∷ 0x00 ∷ 0x00 ∷ 0x02 ∷ 0x00 ∷ 0x03 ∷ 0x00 ∷ 0x50
             ∷ 0x16 ∷ 0x2C ∷ 0x11 ∷ 0xBE ∷ [];
       }
-  pub byte-short : buildShort (bare 0 0) 49_273 0 (replicate 17 0xAA) ≡ refusedWith 11 18 (replicate 17 0xAA)
+  pub byte-short : buildShort (plainEvents 0 0) 49_273 0 (replicate 17 0xAA) ≡ refusedWith 11 18 (replicate 17 0xAA)
   -- 1, 2, 12 and 10, whatever the output
-  pub base : buildShort (bare 0 0) 65_473 0 (replicate 99 0xAA) ≡ refusedWith 1 0 (replicate 99 0xAA)
-  pub version : buildShort (bare 0 0) 49_273 32 (replicate 99 0xAA) ≡ refusedWith 2 0 (replicate 99 0xAA)
+  pub base : buildShort (plainEvents 0 0) 65_473 0 (replicate 99 0xAA) ≡ refusedWith 1 0 (replicate 99 0xAA)
+  pub version : buildShort (plainEvents 0 0) 49_273 32 (replicate 99 0xAA) ≡ refusedWith 2 0 (replicate 99 0xAA)
   pub unsound-list : buildShort unsound 65_472 31 (replicate 99 0xAA) ≡ refusedWith 12 0 (replicate 99 0xAA)
   pub unpackable : buildShort described 65_472 31 (replicate 99 0xAA) ≡ refusedWith 10 0 (replicate 99 0xAA)
   -- each before those that follow it

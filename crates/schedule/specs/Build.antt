@@ -7,7 +7,7 @@ use mathlib.Core.Option.{none, some}
 use lib.Dec.{leb}
 use lib.ListN.{length, take}
 use Rattle.eit.specs.declared.Sizes.{Sizes}
-use Rattle.eit.specs.Limits.{baseMost, versionMost}
+use Rattle.eit.specs.Limits.{baseDayMax, versionMax}
 use Rattle.eit.specs.Overwrite.{overwrite}
 use Rattle.eit.specs.Pools.{Pools}
 use Rattle.eit.specs.Records.{EventList}
@@ -52,9 +52,9 @@ buildEvents sizes base identity es output =
 unfoldable pub build : Sizes → Pools → EventList → ℕ → Identity → List ℕ → Built
 unfolding buildEvents
 build sizes pools list base identity output =
-    elim (leb base baseMost) [
+    elim (leb base baseDayMax) [
       | false ↦ refusal 1 0 output
-      | true ↦ elim (leb (identity .version) versionMost) [
+      | true ↦ elim (leb (identity .version) versionMax) [
         | false ↦ refusal 2 0 output
         | true ↦ elim (sound sizes pools list) [
           | false ↦ refusal 12 0 output

@@ -13,7 +13,7 @@ use lib.Dec.{T}
 use lib.ListN.{length}
 use Rattle.eit.specs.Sizes.{broadcast}
 use Rattle.eit.specs.declared.Sizes.{Sizes}
-use Rattle.eit.specs.Limits.{baseMost}
+use Rattle.eit.specs.Limits.{baseDayMax}
 use Rattle.eit.specs.Fields.{Bytes}
 use Rattle.eit.specs.Pools.{Pools}
 use Rattle.eit.specs.Records.{EventList, recordSize}
@@ -23,9 +23,9 @@ use Rattle.eit.specs.declared.Record.{Record}
 use Rattle.sections.specs.Section.{Section, sectionEvents}
 use Rattle.sections.specs.Encode.{fileBytes}
 use Rattle.sections.specs.Rules.{Rules}
-use Rattle.sections.specs.Decode.{cutSections}
+use Rattle.sections.specs.Decode.{sectionsIn}
 use Rattle.sections.specs.Count.{sectionsCounted, eventsCounted}
-use Rattle.sections.specs.Places.{filePools}
+use Rattle.sections.specs.Offsets.{filePools}
 use Rattle.sections.specs.Read.{checkFile, read, listOf}
 use Rattle.sections.specs.Exact.{RecordBuffer, Accepted, FollowsRules, readingOf}
 use Rattle.schedule.specs.Plan.{plan, planned}
@@ -36,9 +36,9 @@ use Rattle.schedule.specs.Refused.{RefusedFor}
 pub record DemandsFor (sizes : Sizes) : Type 0 where
   -- ---- Demand 2: "Read accepts exactly the files that follow their rules, packing aside, and returns the identity and events
   -- that the file's bytes carry"
-  pub accepted-exactly : (base : ℕ) (file : List ℕ) → base ≤ baseMost → Bytes file
+  pub accepted-exactly : (base : ℕ) (file : List ℕ) → base ≤ baseDayMax → Bytes file
       → Accepted sizes base file ↔ ((identity : Identity) × (rs : List Record) × FollowsRules sizes base file identity rs)
-  pub read-exact : (base : ℕ) (file buffer : List ℕ) (identity : Identity) (rs : List Record) → base ≤ baseMost → Bytes file
+  pub read-exact : (base : ℕ) (file buffer : List ℕ) (identity : Identity) (rs : List Record) → base ≤ baseDayMax → Bytes file
       → (read sizes base file buffer ≡ readingOf buffer identity rs)
       ↔ (FollowsRules sizes base file identity rs × (length rs * recordSize ≤ length buffer))
   -- 16 tables of 256 sections of 4,096 bytes: how long a buffer for any accepted file must be
@@ -53,7 +53,7 @@ pub record DemandsFor (sizes : Sizes) : Type 0 where
       → T (sound sizes (filePools file series) (listOf (read sizes base file buffer)))
   -- and they are the events of the sections that the file's bytes show
   pub accepted-events : (base : ℕ) (file series buffer : List ℕ) → Bytes file → Accepted sizes base file → RecordBuffer buffer
-      → eventsOf (filePools file series) (listOf (read sizes base file buffer)) ≡ sectionEvents (cutSections base file)
+      → eventsOf (filePools file series) (listOf (read sizes base file buffer)) ≡ sectionEvents (sectionsIn base file)
   -- Build of them says neither 12 nor 10, whatever else it is given
   pub accepted-packable : (base : ℕ) (file series buffer : List ℕ) → Bytes file → Accepted sizes base file → RecordBuffer buffer
       → (day : ℕ) (identity : Identity) (output : List ℕ)
@@ -106,8 +106,8 @@ pub record DemandsFor (sizes : Sizes) : Type 0 where
       → ((index k : ℕ) → k ≤ 8 → eventsCounted (g .base) (fileOf (built g output)) index k ≤ eventsCounted (g .base) file index k)
       → file ≡ fileOf (built g output)
   -- all count the sections that the file's bytes show: of joined sections that keep the rules, these sections
-  pub cut-back : (base : ℕ) (identity : Identity) (ss : List Section) → base ≤ baseMost → Rules sizes identity ss
-      → cutSections base (fileBytes base ss) ≡ ss
+  pub cut-back : (base : ℕ) (identity : Identity) (ss : List Section) → base ≤ baseDayMax → Rules sizes identity ss
+      → sectionsIn base (fileBytes base ss) ≡ ss
   -- ---- Demand 1: "A refusal leaves them untouched, except that a refused edit keeps the edits before it"
   pub refused : RefusedFor sizes
 

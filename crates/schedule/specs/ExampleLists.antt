@@ -13,13 +13,13 @@ row least zero = []
 row least (suc n) = least ∷ row (suc least) n
 
 -- an event with the first bytes of its pool: the day pool under marks 0, the series pool under marks 2
-abbrev pub event : ℕ → ℕ → ℕ → ℕ → Record
-event id start marks size = record { id = id; start = start; duration = 1; marks = marks; offset = 0; «chain_length» = size }
+abbrev pub eventRecord : ℕ → ℕ → ℕ → ℕ → Record
+eventRecord id start marks size = record { id = id; start = start; duration = 1; marks = marks; offset = 0; «chain_length» = size }
 
 -- events at these starts, with ids from `id` on and chains of `size` bytes in the day pool
 abbrev pub starting : ℕ → ℕ → List ℕ → List Record
 starting id size [] = []
-starting id size (start ∷ starts) = event id start 0 size ∷ starting (suc id) size starts
+starting id size (start ∷ starts) = eventRecord id start 0 size ∷ starting (suc id) size starts
 
 -- what Build and Plan are lent: pools and a list
 pub record Case : Type 0 where
@@ -36,8 +36,8 @@ abbrev pub chained : List ℕ → List ℕ → Case
 chained chain starts = caseOf chain [] (starting 1 (length chain) starts)
 
 -- n events without descriptors, a second apart from `start` on
-abbrev pub bare : ℕ → ℕ → Case
-bare start n = chained [] (row start n)
+abbrev pub plainEvents : ℕ → ℕ → Case
+plainEvents start n = chained [] (row start n)
 
 -- four events in segment 0 of table 0x50, none in segment 1, one in segment 2; none in table 0x51; one in segment 1
 -- of table 0x52
@@ -57,7 +57,7 @@ described = chained (0x4D ∷ 0x00 ∷ []) (0 ∷ [])
 
 -- and one without descriptors behind it: 26 bytes together
 abbrev pub uneven : Case
-uneven = caseOf (0x4D ∷ 0x00 ∷ []) [] (event 1 0 0 2 ∷ event 2 1 0 0 ∷ [])
+uneven = caseOf (0x4D ∷ 0x00 ∷ []) [] (eventRecord 1 0 0 2 ∷ eventRecord 2 1 0 0 ∷ [])
 
 -- an unsound list, two events with one start
 abbrev pub unsound : Case

@@ -7,8 +7,8 @@ use mathlib.Core.List.{List, [], _∷_, _++_}
 use lib.ListN.{replicate}
 use Rattle.eit.specs.declared.Sizes.{Sizes}
 use Rattle.schedule.specs.Build.{Built}
-use Rattle.schedule.specs.ExampleLists.{Case, bare, gap, crowded, described, uneven}
-use Rattle.schedule.specs.ExampleCalls.{buildWith, planWith, sectionsWith, sectionRow, filled}
+use Rattle.schedule.specs.ExampleLists.{Case, plainEvents, gap, crowded, described, uneven}
+use Rattle.schedule.specs.ExampleCalls.{buildWith, planWith, sectionsWith, sectionRow, padded}
 
 -- sections of at most so many bytes
 abbrev pub sectionsOfAtMost : ℕ → Sizes
@@ -56,7 +56,7 @@ pub record Examples : Type 0 where
       ∷ (0x52, (0, 0, 8, 0x52), [])
       ∷ (0x52, (8, 8, 8, 0x52), 6 ∷ [])
       ∷ []
-  pub gap-plan : planWith (sectionsOfAtMost 54) gap ≡ filled ((2 ∷ 1 ∷ 1 ∷ []) ∷ (1 ∷ []) ∷ (1 ∷ 1 ∷ []) ∷ [])
+  pub gap-plan : planWith (sectionsOfAtMost 54) gap ≡ padded ((2 ∷ 1 ∷ 1 ∷ []) ∷ (1 ∷ []) ∷ (1 ∷ 1 ∷ []) ∷ [])
   -- byte by byte; the byte beyond the file stays
   pub gap-file :
       buildWith (sectionsOfAtMost 54) gap 49_273 0 (replicate 199 0xAA)
@@ -65,19 +65,19 @@ pub record Examples : Type 0 where
   pub gap-short :
       buildWith (sectionsOfAtMost 54) gap 49_273 0 (replicate 5 0xAA) ≡ record { number = 11; value = 198; output = replicate 5 0xAA }
   -- one event fills a section of 30 bytes: eight of them are eight sections, and a ninth makes the segment unpackable
-  pub eight-packed : answer 30 (bare 0 8) ≡ record { number = 11; value = 240; output = [] }
-  pub eight-plan : planWith (sectionsOfAtMost 30) (bare 0 8) ≡ filled ((8 ∷ []) ∷ [])
+  pub eight-packed : answer 30 (plainEvents 0 8) ≡ record { number = 11; value = 240; output = [] }
+  pub eight-plan : planWith (sectionsOfAtMost 30) (plainEvents 0 8) ≡ padded ((8 ∷ []) ∷ [])
   -- the lowest such segment index; Plan has 255 at each
   pub nine-unpackable : answer 30 crowded ≡ record { number = 10; value = 1; output = [] }
-  pub nine-plan : planWith (sectionsOfAtMost 30) crowded ≡ filled ((1 ∷ 255 ∷ []) ∷ (1 ∷ 255 ∷ []) ∷ [])
+  pub nine-plan : planWith (sectionsOfAtMost 30) crowded ≡ padded ((1 ∷ 255 ∷ []) ∷ (1 ∷ 255 ∷ []) ∷ [])
   -- the same events, two to a section
   pub nine-packed : answer 42 crowded ≡ record { number = 11; value = 432; output = [] }
-  pub pairs-plan : planWith (sectionsOfAtMost 42) crowded ≡ filled ((1 ∷ 5 ∷ []) ∷ (1 ∷ 5 ∷ []) ∷ [])
+  pub pairs-plan : planWith (sectionsOfAtMost 42) crowded ≡ padded ((1 ∷ 5 ∷ []) ∷ (1 ∷ 5 ∷ []) ∷ [])
   -- nine in the last segment alone
-  pub nine-last : answer 30 (bare 356_400 9) ≡ record { number = 10; value = 33; output = [] }
+  pub nine-last : answer 30 (plainEvents 356_400 9) ≡ record { number = 10; value = 33; output = [] }
   -- two events that fill their section, and two that are a byte too long for one
-  pub two-together : planWith (sectionsOfAtMost 44) uneven ≡ filled ((1 ∷ []) ∷ [])
-  pub two-apart : planWith (sectionsOfAtMost 43) uneven ≡ filled ((2 ∷ []) ∷ [])
+  pub two-together : planWith (sectionsOfAtMost 44) uneven ≡ padded ((1 ∷ []) ∷ [])
+  pub two-apart : planWith (sectionsOfAtMost 43) uneven ≡ padded ((2 ∷ []) ∷ [])
   -- an event that fills its section, and one that is a byte too long
   pub chain-fits : answer 32 described ≡ record { number = 11; value = 32; output = [] }
   pub chain-too-long : answer 31 described ≡ record { number = 10; value = 0; output = [] }

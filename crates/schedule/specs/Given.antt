@@ -6,7 +6,7 @@ use lib.Dec.{T}
 use lib.ListN.{length}
 use Rattle.eit.specs.Sizes.{room}
 use Rattle.eit.specs.declared.Sizes.{Sizes}
-use Rattle.eit.specs.Limits.{baseMost}
+use Rattle.eit.specs.Limits.{baseDayMax}
 use Rattle.eit.specs.Fields.{Bytes}
 use Rattle.eit.specs.Pools.{Pools}
 use Rattle.eit.specs.Records.{EventList, recordsOf}
@@ -17,7 +17,7 @@ use Rattle.packing.specs.Greedy.{Packing}
 use Rattle.sections.specs.Section.{eventSize}
 use Rattle.sections.specs.Rules.{IdentityRules}
 use Rattle.sections.specs.Count.{segmentEvents}
-use Rattle.sections.specs.Places.{filePools}
+use Rattle.sections.specs.Offsets.{filePools}
 use Rattle.sections.specs.Read.{read, listOf}
 use Rattle.sections.specs.Exact.{RecordBuffer, Accepted}
 use Rattle.schedule.specs.Build.{Built, build}
@@ -32,7 +32,7 @@ pub record Given (sizes : Sizes) : Type 0 where
   pub dayBytes : Bytes (pools .day)
   pub seriesBytes : Bytes (pools .series)
   pub isSound : T (sound sizes pools list)
-  pub legalBase : base ≤ baseMost
+  pub legalBase : base ≤ baseDayMax
   pub legalIdentity : IdentityRules identity
 
 module _ {sizes : Sizes} where

@@ -17,13 +17,13 @@ use Rattle.schedule.specs.Each.{each, lowest}
 use Rattle.schedule.specs.Extent.{tableSegments, lastIndex, lastTable, lastTableIdOf, lastSegment}
 
 -- a segment has at most eight sections
-abbrev pub segmentMost : ℕ
-segmentMost = 8
+abbrev pub segmentSectionsMax : ℕ
+segmentSectionsMax = 8
 
 -- 01's term: unpackable. A segment that would need a ninth section, or that has an event with over 4,066 chain bytes
 unfoldable pub isUnpackable : Sizes → List Event → ℕ → Bool
 unfolding reach
-isUnpackable sizes es index = unpackable eventSize (room sizes) segmentMost (segmentEvents index es)
+isUnpackable sizes es index = unpackable eventSize (room sizes) segmentSectionsMax (segmentEvents index es)
 
 -- the lowest such segment index; past the last event's segment there is none
 unfoldable pub lowestUnpackable : Sizes → List Event → Option ℕ
@@ -35,7 +35,7 @@ lowestUnpackable sizes es = lowest (isUnpackable sizes es) 0 (suc (lastIndex 0 e
 unfoldable pub packed : ℕ → List Event → List (List Event)
 unfolding greedy
 packed bytes [] = [] ∷ []
-packed bytes (e ∷ es) = greedy eventSize bytes segmentMost (e ∷ es)
+packed bytes (e ∷ es) = greedy eventSize bytes segmentSectionsMax (e ∷ es)
 
 module _ (sizes : Sizes) (es : List Event) where
   -- the events of each section of a segment

@@ -9,7 +9,7 @@ use mathlib.Core.List.{List, [], _∷_, _++_}
 use lib.Dec.{T, ltb}
 use Rattle.eit.specs.declared.Sizes.{Sizes}
 use Rattle.eit.specs.Pools.{Pools}
-use Rattle.eit.specs.Limits.{startLimit}
+use Rattle.eit.specs.Limits.{windowSeconds}
 use Rattle.eit.specs.Records.{EventList, recordsOf}
 use Rattle.eit.specs.Among.{isAmong}
 use Rattle.eit.specs.Sound.{inRange, hasChain, idsOf, startsOf, sound}
@@ -51,7 +51,7 @@ step-number sizes pools list (withdraw id) =
     check-numbered (isAmong id (idsOf (recordsOf list))) 6 (omega arith) (done-numbered (afterWithdraw list id))
 step-number sizes pools list (move id start) =
     let rs = recordsOf list in
-    check-numbered (ltb start startLimit) 5 (omega arith)
+    check-numbered (ltb start windowSeconds) 5 (omega arith)
     (check-numbered (isAmong id (idsOf rs)) 6 (omega arith)
     (check-numbered (not (isAmong start (startsOf (without id rs)))) 7 (omega arith) (done-numbered (afterMove list id start))))
 
@@ -135,9 +135,9 @@ module _ (sizes : Sizes) (pools : Pools) where
         refuses = rest .refuses;
         offset = rest .offset;
       }))
-      (λ (number, says).
-      subst (λ (o : Edited). Stopped sizes pools list (e ∷ es) o) (sym (run-refused list e es number says))
-      (record { before = []; stop = e; behind = es; split = refl; carriedOut = refl; refuses = says; offset = refl }))
+      (λ (number, number-is).
+      subst (λ (o : Edited). Stopped sizes pools list (e ∷ es) o) (sym (run-refused list e es number number-is))
+      (record { before = []; stop = e; behind = es; split = refl; carriedOut = refl; refuses = number-is; offset = refl }))
       (step-or (step sizes pools list (e .act)))
 
   -- ---- the call, refusal by refusal

@@ -9,14 +9,14 @@ use mathlib.Core.List.{List, [], _∷_, _++_}
 use lib.Dec.{T, ltb→lt}
 use lib.ListN.{length, take, drop, length-append}
 use Rattle.eit.specs.declared.Sizes.{Sizes}
-use Rattle.eit.specs.Find.{indexOf, placeOf}
+use Rattle.eit.specs.Find.{positionOf, placeOf}
 use Rattle.eit.specs.Pools.{Pools}
 use Rattle.eit.specs.Records.{EventList, recordSize, recordsOf, numbersOfAll}
 use Rattle.eit.specs.Among.{isAmong}
 use Rattle.eit.specs.Sound.{idsOf, sound}
 use Rattle.eit.specs.declared.Record.{Record}
 use Rattle.eit.proofs.Test.{le-or-lt}
-use Rattle.eit.proofs.Find.{index-length}
+use Rattle.eit.proofs.Find.{position-length}
 use Rattle.eit.proofs.Overwrite.{over-length, over-after}
 use Rattle.eit.proofs.Records.{count-records, buffer-is, numbers-length, numbers-take, numbers-drop}
 use Rattle.eit.proofs.Sound.{sound-list}
@@ -59,18 +59,18 @@ module _ (list : EventList) (held : list .count * recordSize ≤ length (list .b
 
 module _ (list : EventList) (id start k : ℕ) (a : T (isAmong id (idsOf (recordsOf list)))) (held : list .count * recordSize ≤ length (list .buffer)) where
   -- records before both places, the old one and the new one, stay
-  pub move-before : k ≤ indexOf id (recordsOf list) → k ≤ placeOf start (without id (recordsOf list))
+  pub move-before : k ≤ positionOf id (recordsOf list) → k ≤ placeOf start (without id (recordsOf list))
       → take (k * recordSize) (afterMove list id start .buffer) ≡ take (k * recordSize) (list .buffer)
   move-before i p =
       let others : List Record = without id (recordsOf list) in
       let r : Record = withStart start (find id (recordsOf list)) in
       let whole : length (insert r others) ≡ list .count = move-length list id a r in
-      let few : k ≤ list .count = omega (arith, index-length id (recordsOf list) a, count-records list) in
+      let few : k ≤ list .count = omega (arith, position-length id (recordsOf list) a, count-records list) in
       written-before list held (insert r others) (list .count) k (omega arith) few
       (insert-before k r others p ∙ without-before k id (recordsOf list) a i)
 
   -- and so do records, and all other numbers, behind both
-  pub move-behind : indexOf id (recordsOf list) < k → placeOf start (without id (recordsOf list)) < k
+  pub move-behind : positionOf id (recordsOf list) < k → placeOf start (without id (recordsOf list)) < k
       → drop (k * recordSize) (afterMove list id start .buffer) ≡ drop (k * recordSize) (list .buffer)
   move-behind i p =
       let others : List Record = without id (recordsOf list) in

@@ -10,7 +10,7 @@ use lib.Dec.{T, ltb, ltb→lt}
 use lib.ListN.{length, take, drop, length-append}
 use lib.Seq.{take-all, take-at}
 use Rattle.eit.specs.declared.Sizes.{Sizes}
-use Rattle.eit.specs.Limits.{startLimit}
+use Rattle.eit.specs.Limits.{windowSeconds}
 use Rattle.eit.specs.Pools.{Pools}
 use Rattle.eit.specs.Records.{EventList, recordSize, recordsOf, numbersOfAll}
 use Rattle.eit.specs.Among.{isAmong}
@@ -109,7 +109,7 @@ module _ (sizes : Sizes) (pools : Pools) (list : EventList) where
         differ = without-differ id rs (f .records .differ);
       })
 
-  move-sound : (id start : ℕ) → ListFacts sizes pools list → T (ltb start startLimit) → T (isAmong id (idsOf (recordsOf list)))
+  move-sound : (id start : ℕ) → ListFacts sizes pools list → T (ltb start windowSeconds) → T (isAmong id (idsOf (recordsOf list)))
       → T (not (isAmong start (startsOf (without id (recordsOf list))))) → ListFacts sizes pools (afterMove list id start)
   move-sound id start f limit a other =
       let rs : List Record = recordsOf list in
@@ -149,7 +149,7 @@ module _ (sizes : Sizes) (pools : Pools) (list : EventList) where
     pub after : next ≡ afterWithdraw list id
 
   pub record MoveDone (id start : ℕ) (next : EventList) : Type 0 where
-    pub range : T (ltb start startLimit)
+    pub range : T (ltb start windowSeconds)
     pub oldId : T (isAmong id (idsOf (recordsOf list)))
     pub newStart : T (not (isAmong start (startsOf (without id (recordsOf list)))))
     pub after : next ≡ afterMove list id start
@@ -172,7 +172,7 @@ module _ (sizes : Sizes) (pools : Pools) (list : EventList) where
   pub move-done : (id start : ℕ) (next : EventList) → step sizes pools list (move id start) ≡ done next → MoveDone id start next
   unfolding step
   move-done id start next e =
-      let a = check-done (ltb start startLimit) 5 _ e in
+      let a = check-done (ltb start windowSeconds) 5 _ e in
       let b = check-done (isAmong id (idsOf (recordsOf list))) 6 _ (a .1) in
       let c = check-done (not (isAmong start (startsOf (without id (recordsOf list))))) 7 _ (b .1) in
       record { range = a .0; oldId = b .0; newStart = c .0; after = cc (c .1) }

@@ -10,7 +10,7 @@ use lib.Dec.{T, eqb, ltb, lt→ltb}
 use lib.Arith.{le→nltb}
 use lib.ListN.{take}
 use Rattle.eit.specs.declared.Sizes.{Sizes}
-use Rattle.eit.specs.Limits.{startLimit}
+use Rattle.eit.specs.Limits.{windowSeconds}
 use Rattle.eit.specs.Overwrite.{overwrite}
 use Rattle.eit.specs.Pools.{Pools}
 use Rattle.eit.specs.Records.{EventList, recordSize, recordsOf, numbersOfAll}
@@ -97,5 +97,5 @@ module _ (sizes : Sizes) (pools : Pools) (list : EventList) (id : ℕ) (t : T (s
       let rs : List Record = recordsOf list in
       let start : ℕ = find id rs .start in
       let was = find-valid pools id rs a (f .records .valid) in
-      let range : T (ltb start startLimit) = search (tests, was .0) in
+      let range : T (ltb start windowSeconds) = search (tests, was .0) in
       move-passes sizes pools list id start range a (start-other pools id rs a (f .records .rises)) ∙ ap done move-same

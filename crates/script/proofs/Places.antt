@@ -8,12 +8,12 @@ use mathlib.Core.List.{List, [], _∷_, _++_}
 use lib.Dec.{T, eqb, ltb}
 use lib.ListN.{length, take, drop, getD}
 use lib.Seq.{length-take-le, take-append-le, take-take, drop-append-add, drop-drop}
-use Rattle.eit.specs.Find.{indexOf, placeOf}
+use Rattle.eit.specs.Find.{positionOf, placeOf}
 use Rattle.eit.specs.Among.{isAmong}
 use Rattle.eit.specs.Sound.{idsOf}
 use Rattle.eit.specs.declared.Record.{Record}
 use Rattle.eit.proofs.Test.{test-or}
-use Rattle.eit.proofs.Find.{place-here, place-later, place-length, index-here, index-later, index-length}
+use Rattle.eit.proofs.Find.{place-here, place-later, place-length, position-here, position-later, position-length}
 use Rattle.script.specs.Machine.{insert, find, without}
 use Rattle.script.proofs.Placing.{insert-here, insert-later, without-here, without-later, find-here, find-later, among-later}
 
@@ -26,20 +26,20 @@ insert-place r (s ∷ rs) =
     (λ t. rw (place-later (r .start) s rs t, insert-later r s rs t) (ap (λ (ss : List Record). s ∷ ss) (insert-place r rs)))
     (test-or (ltb (r .start) (s .start)))
 
-pub without-index : (id : ℕ) (rs : List Record) → T (isAmong id (idsOf rs)) → without id rs ≡ take (indexOf id rs) rs ++ drop (suc (indexOf id rs)) rs
-without-index id [] a = absurd a
-without-index id (r ∷ rs) a =
-    ⊎-elim (λ t. rw (index-here id r rs t, without-here id r rs t))
+pub without-position : (id : ℕ) (rs : List Record) → T (isAmong id (idsOf rs)) → without id rs ≡ take (positionOf id rs) rs ++ drop (suc (positionOf id rs)) rs
+without-position id [] a = absurd a
+without-position id (r ∷ rs) a =
+    ⊎-elim (λ t. rw (position-here id r rs t, without-here id r rs t))
     (λ t.
-    rw (index-later id r rs t, without-later id r rs t)
-    (ap (λ (ss : List Record). r ∷ ss) (without-index id rs (among-later id r rs t a))))
+    rw (position-later id r rs t, without-later id r rs t)
+    (ap (λ (ss : List Record). r ∷ ss) (without-position id rs (among-later id r rs t a))))
     (test-or (eqb id (r .id)))
 
-pub find-at : (id : ℕ) (rs : List Record) (d : Record) → T (isAmong id (idsOf rs)) → find id rs ≡ getD rs (indexOf id rs) d
+pub find-at : (id : ℕ) (rs : List Record) (d : Record) → T (isAmong id (idsOf rs)) → find id rs ≡ getD rs (positionOf id rs) d
 find-at id [] d a = absurd a
 find-at id (r ∷ rs) d a =
-    ⊎-elim (λ t. rw (find-here id r rs t, index-here id r rs t))
-    (λ t. rw (find-later id r rs t, index-later id r rs t) (find-at id rs d (among-later id r rs t a)))
+    ⊎-elim (λ t. rw (find-here id r rs t, position-here id r rs t))
+    (λ t. rw (find-later id r rs t, position-later id r rs t) (find-at id rs d (among-later id r rs t a)))
     (test-or (eqb id (r .id)))
 
 -- lists around a place p: what stands before it, and what stands behind it
@@ -67,14 +67,14 @@ module _ (k : ℕ) (r : Record) (rs : List Record) where
       (drop-drop (k - p) p rs ∙ ap (λ (j : ℕ). drop j rs) f)
 
 module _ (k id : ℕ) (rs : List Record) (a : T (isAmong id (idsOf rs))) where
-  pub without-before : k ≤ indexOf id rs → take k (without id rs) ≡ take k rs
+  pub without-before : k ≤ positionOf id rs → take k (without id rs) ≡ take k rs
   without-before h =
-      let i : ℕ = indexOf id rs in
-      rw (without-index id rs a) (front-stays i k rs (drop (suc i) rs) (omega (arith, index-length id rs a)) h)
+      let i : ℕ = positionOf id rs in
+      rw (without-position id rs a) (front-stays i k rs (drop (suc i) rs) (omega (arith, position-length id rs a)) h)
 
-  pub without-behind : indexOf id rs ≤ k → drop k (without id rs) ≡ drop (suc k) rs
+  pub without-behind : positionOf id rs ≤ k → drop k (without id rs) ≡ drop (suc k) rs
   without-behind h =
-      let i : ℕ = indexOf id rs in
+      let i : ℕ = positionOf id rs in
       let f : suc i + (k - i) ≡ suc k = omega arith in
-      rw (without-index id rs a, back-moves i k rs (drop (suc i) rs) (omega (arith, index-length id rs a)) h)
+      rw (without-position id rs a, back-moves i k rs (drop (suc i) rs) (omega (arith, position-length id rs a)) h)
       (drop-drop (k - i) (suc i) rs ∙ ap (λ (j : ℕ). drop j rs) f)

@@ -5,7 +5,7 @@ use mathlib.Core.Bool.{Bool, true, false, not}
 use Prim.Native.Nat.{ℕ}
 use lib.Dec.{T, ltb}
 use Rattle.eit.specs.declared.Sizes.{Sizes}
-use Rattle.eit.specs.Limits.{startLimit}
+use Rattle.eit.specs.Limits.{windowSeconds}
 use Rattle.eit.specs.Pools.{Pools}
 use Rattle.eit.specs.Records.{EventList, recordsOf}
 use Rattle.eit.specs.Among.{isAmong}
@@ -77,25 +77,25 @@ module _ (sizes : Sizes) (pools : Pools) (list : EventList) (id : ℕ) where
   withdraw-passes a = check-passed (isAmong id (idsOf (recordsOf list))) 6 _ a
 
   module _ (start : ℕ) where
-    pub move-5 : T (not (ltb start startLimit)) → step sizes pools list (move id start) ≡ refused 5
+    pub move-5 : T (not (ltb start windowSeconds)) → step sizes pools list (move id start) ≡ refused 5
     unfolding step
-    move-5 a = check-failed (ltb start startLimit) 5 _ a
+    move-5 a = check-failed (ltb start windowSeconds) 5 _ a
 
-    module _ (range : T (ltb start startLimit)) where
+    module _ (range : T (ltb start windowSeconds)) where
       pub move-6 : T (not (isAmong id (idsOf (recordsOf list)))) → step sizes pools list (move id start) ≡ refused 6
       unfolding step
-      move-6 b = check-passed (ltb start startLimit) 5 _ range ∙ check-failed (isAmong id (idsOf (recordsOf list))) 6 _ b
+      move-6 b = check-passed (ltb start windowSeconds) 5 _ range ∙ check-failed (isAmong id (idsOf (recordsOf list))) 6 _ b
 
       module _ (old : T (isAmong id (idsOf (recordsOf list)))) where
         pub move-7 : T (isAmong start (startsOf (without id (recordsOf list)))) → step sizes pools list (move id start) ≡ refused 7
         unfolding step
         move-7 c =
-            check-passed (ltb start startLimit) 5 _ range ∙ check-passed (isAmong id (idsOf (recordsOf list))) 6 _ old
+            check-passed (ltb start windowSeconds) 5 _ range ∙ check-passed (isAmong id (idsOf (recordsOf list))) 6 _ old
             ∙ check-failed (not (isAmong start (startsOf (without id (recordsOf list))))) 7 _ (not-not (isAmong start (startsOf (without id (recordsOf list)))) c)
 
         pub move-passes : T (not (isAmong start (startsOf (without id (recordsOf list)))))
             → step sizes pools list (move id start) ≡ done (afterMove list id start)
         unfolding step
         move-passes c =
-            check-passed (ltb start startLimit) 5 _ range ∙ check-passed (isAmong id (idsOf (recordsOf list))) 6 _ old
+            check-passed (ltb start windowSeconds) 5 _ range ∙ check-passed (isAmong id (idsOf (recordsOf list))) 6 _ old
             ∙ check-passed (not (isAmong start (startsOf (without id (recordsOf list))))) 7 _ c

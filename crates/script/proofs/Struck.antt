@@ -9,7 +9,7 @@ use native.Mathlib.Omega.{arith}
 use lib.ListN.{length, drop}
 use lib.Seq.{drop-nil, append-snoc}
 use Rattle.script.specs.Form.{Edit, Command, doEdit, undo}
-use Rattle.script.specs.Struck.{unstruck, nothingAt, strike, unstruckIn, passed, unlessStruck, live}
+use Rattle.script.specs.Struck.{unstruck, nothingAt, strike, unstruckIn, pendingBefore, unlessStruck, live}
 
 -- ---- an UNDO strikes the nearest edit
 
@@ -71,20 +71,20 @@ refused-only cs at h = strike-refused-only [] cs at h
 
 -- ---- the same from the right
 
-pub passed-append : (p : ℕ) (xs ys : List Command) → passed p (xs ++ ys) ≡ passed (passed p ys) xs
-passed-append p [] ys = refl
-passed-append p (doEdit e ∷ xs) ys = ap pred (passed-append p xs ys)
-passed-append p (undo at ∷ xs) ys = ap suc (passed-append p xs ys)
+pub pending-append : (p : ℕ) (xs ys : List Command) → pendingBefore p (xs ++ ys) ≡ pendingBefore (pendingBefore p ys) xs
+pending-append p [] ys = refl
+pending-append p (doEdit e ∷ xs) ys = ap pred (pending-append p xs ys)
+pending-append p (undo at ∷ xs) ys = ap suc (pending-append p xs ys)
 
 unless-append : (p : ℕ) (e : Edit) (es fs : List Edit) → unlessStruck p e (es ++ fs) ≡ unlessStruck p e es ++ fs
 unless-append zero e es fs = refl
 unless-append (suc p) e es fs = refl
 
-pub live-append : (p : ℕ) (xs ys : List Command) → live p (xs ++ ys) ≡ live (passed p ys) xs ++ live p ys
+pub live-append : (p : ℕ) (xs ys : List Command) → live p (xs ++ ys) ≡ live (pendingBefore p ys) xs ++ live p ys
 live-append p [] ys = refl
 live-append p (doEdit e ∷ xs) ys =
-    ap₂ (λ (q : ℕ) (es : List Edit). unlessStruck q e es) (passed-append p xs ys) (live-append p xs ys)
-    ∙ unless-append (passed (passed p ys) xs) e (live (passed p ys) xs) (live p ys)
+    ap₂ (λ (q : ℕ) (es : List Edit). unlessStruck q e es) (pending-append p xs ys) (live-append p xs ys)
+    ∙ unless-append (pendingBefore (pendingBefore p ys) xs) e (live (pendingBefore p ys) xs) (live p ys)
 live-append p (undo at ∷ xs) ys = live-append p xs ys
 
 -- an edit stays, or the first UNDO pending behind it strikes it
@@ -95,41 +95,41 @@ live-step (suc p) e kept es = refl
 
 -- the UNDOs that pass all commands strike the nearest of the kept edits, if there are enough
 pub strike-enough : (kept : List Edit) (cs : List Command)
-    → passed 0 cs ≤ length kept
-    → strike kept cs ≡ unstruck (reverse (drop (passed 0 cs) kept) ++ live 0 cs)
+    → pendingBefore 0 cs ≤ length kept
+    → strike kept cs ≡ unstruck (reverse (drop (pendingBefore 0 cs) kept) ++ live 0 cs)
 strike-enough kept [] h = rw append-nil
 strike-enough kept (doEdit e ∷ cs) h =
-    let room : pred (passed 0 cs) ≤ length kept = h in
-    strike-enough (e ∷ kept) cs (omega arith) ∙ ap unstruck (live-step (passed 0 cs) e kept (live 0 cs))
+    let room : pred (pendingBefore 0 cs) ≤ length kept = h in
+    strike-enough (e ∷ kept) cs (omega arith) ∙ ap unstruck (live-step (pendingBefore 0 cs) e kept (live 0 cs))
 strike-enough [] (undo at ∷ cs) h = absurd (omega arith)
 strike-enough (e ∷ kept) (undo at ∷ cs) h = strike-enough kept cs (omega arith)
 
 -- and there are enough unless an UNDO has nothing to strike
-pub strike-passed : (kept : List Edit) (cs : List Command) (es : List Edit) → strike kept cs ≡ unstruck es → passed 0 cs ≤ length kept
-strike-passed kept [] es h = omega arith
-strike-passed kept (doEdit e ∷ cs) es h =
-    let room : pred (passed 0 cs) ≤ length kept = omega (arith, strike-passed (e ∷ kept) cs es h) in
+pub strike-pending : (kept : List Edit) (cs : List Command) (es : List Edit) → strike kept cs ≡ unstruck es → pendingBefore 0 cs ≤ length kept
+strike-pending kept [] es h = omega arith
+strike-pending kept (doEdit e ∷ cs) es h =
+    let room : pred (pendingBefore 0 cs) ≤ length kept = omega (arith, strike-pending (e ∷ kept) cs es h) in
     room
-strike-passed [] (undo at ∷ cs) es h = let never : _≡_ {A = ℕ} 0 1 = cc in omega arith
-strike-passed (e ∷ kept) (undo at ∷ cs) es h = omega (arith, strike-passed kept cs es h)
+strike-pending [] (undo at ∷ cs) es h = let never : _≡_ {A = ℕ} 0 1 = cc in omega arith
+strike-pending (e ∷ kept) (undo at ∷ cs) es h = omega (arith, strike-pending kept cs es h)
 
 pub strike-live : (kept : List Edit) (cs : List Command) (es : List Edit)
     → strike kept cs ≡ unstruck es
-    → es ≡ reverse (drop (passed 0 cs) kept) ++ live 0 cs
-strike-live kept cs es h = cc (strike-enough kept cs (strike-passed kept cs es h))
+    → es ≡ reverse (drop (pendingBefore 0 cs) kept) ++ live 0 cs
+strike-live kept cs es h = cc (strike-enough kept cs (strike-pending kept cs es h))
 
 -- of a whole script: the unstruck edits are the live ones, and each UNDO has something to strike exactly if none passes all
 pub struck-live : (cs : List Command) (es : List Edit) → unstruckIn cs ≡ unstruck es → es ≡ live 0 cs
 unfolding unstruckIn
 struck-live cs es h = strike-live [] cs es h ∙ rw drop-nil
 
-pub struck-enough : (cs : List Command) → passed 0 cs ≡ 0 → unstruckIn cs ≡ unstruck (live 0 cs)
+pub struck-enough : (cs : List Command) → pendingBefore 0 cs ≡ 0 → unstruckIn cs ≡ unstruck (live 0 cs)
 unfolding unstruckIn
 struck-enough cs h = strike-enough [] cs (omega arith) ∙ rw drop-nil
 
-pub struck-passed : (cs : List Command) (es : List Edit) → unstruckIn cs ≡ unstruck es → passed 0 cs ≡ 0
+pub struck-pending : (cs : List Command) (es : List Edit) → unstruckIn cs ≡ unstruck es → pendingBefore 0 cs ≡ 0
 unfolding unstruckIn
-struck-passed cs es h = omega (arith, strike-passed [] cs es h)
+struck-pending cs es h = omega (arith, strike-pending [] cs es h)
 
 -- ---- the unstruck edits are, in order, edits of the script
 
@@ -140,7 +140,7 @@ unless-sublist (suc p) e es cs h = Sublistᴰ·cons h
 
 live-sublist : (p : ℕ) (cs : List Command) → Sublistᴰ (map doEdit (live p cs)) cs
 live-sublist p [] = Sublistᴰ·slnil
-live-sublist p (doEdit e ∷ cs) = unless-sublist (passed p cs) e (live p cs) cs (live-sublist p cs)
+live-sublist p (doEdit e ∷ cs) = unless-sublist (pendingBefore p cs) e (live p cs) cs (live-sublist p cs)
 live-sublist p (undo at ∷ cs) = Sublistᴰ·cons (live-sublist p cs)
 
 pub unstruck-are-edits : (cs : List Command) (es : List Edit) → unstruckIn cs ≡ unstruck es → Sublistᴰ (map doEdit es) cs
@@ -149,8 +149,8 @@ unstruck-are-edits cs es h = rw (struck-live cs es h) (live-sublist 0 cs)
 pub struck-joined : (xs ys : List Command) (es fs : List Edit) → unstruckIn xs ≡ unstruck es → unstruckIn ys ≡ unstruck fs
     → unstruckIn (xs ++ ys) ≡ unstruck (es ++ fs)
 struck-joined xs ys es fs h k =
-    let none : passed 0 ys ≡ 0 = struck-passed ys fs k in
-    let all : passed 0 (xs ++ ys) ≡ 0 = passed-append 0 xs ys ∙ ap (λ (p : ℕ). passed p xs) none ∙ struck-passed xs es h in
+    let none : pendingBefore 0 ys ≡ 0 = struck-pending ys fs k in
+    let all : pendingBefore 0 (xs ++ ys) ≡ 0 = pending-append 0 xs ys ∙ ap (λ (p : ℕ). pendingBefore p xs) none ∙ struck-pending xs es h in
     let both : live 0 (xs ++ ys) ≡ es ++ fs =
     live-append 0 xs ys ∙ ap (λ (p : ℕ). live p xs ++ live 0 ys) none
     ∙ ap₂ (λ (us vs : List Edit). us ++ vs) (sym (struck-live xs es h)) (sym (struck-live ys fs k)) in

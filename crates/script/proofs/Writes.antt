@@ -8,16 +8,16 @@ use lib.Dec.{T}
 use lib.ListN.{length, take, drop, replicate, length-append, length-drop}
 use lib.Seq.{take-at}
 use Rattle.eit.specs.Among.{isAmong}
-use Rattle.eit.specs.Find.{indexOf, placeOf}
+use Rattle.eit.specs.Find.{positionOf, placeOf}
 use Rattle.eit.specs.Overwrite.{overwrite}
 use Rattle.eit.specs.Records.{EventList, recordSize, recordsOf, numbersOf, numbersOfAll}
 use Rattle.eit.specs.Sound.{idsOf}
 use Rattle.eit.specs.declared.Record.{Record}
-use Rattle.eit.proofs.Find.{place-length, index-length}
+use Rattle.eit.proofs.Find.{place-length, position-length}
 use Rattle.eit.proofs.Overwrite.{over-front, over-again}
 use Rattle.eit.proofs.Records.{count-records, buffer-is, numbers-length, numbers-append, numbers-take, numbers-drop}
 use Rattle.script.specs.Machine.{insert, find, without, withStart, zeroRecord, afterPut, afterWithdraw, afterMove}
-use Rattle.script.proofs.Places.{insert-place, without-index}
+use Rattle.script.proofs.Places.{insert-place, without-position}
 use Rattle.script.proofs.Machine.{withdraw-length, withdraw-records, move-length}
 
 module _ (list : EventList) (held : list .count * recordSize ≤ length (list .buffer)) where
@@ -57,20 +57,20 @@ module _ (list : EventList) (held : list .count * recordSize ≤ length (list .b
 
   -- the later records, which have moved down by one, and behind them six zeros
   pub withdraw-writes : (id : ℕ) → T (isAmong id (idsOf (recordsOf list)))
-      → let i = indexOf id (recordsOf list) in
+      → let i = positionOf id (recordsOf list) in
       afterWithdraw list id .buffer
       ≡ overwrite (list .buffer) (i * recordSize)
       (take ((list .count - suc i) * recordSize) (drop (suc i * recordSize) (list .buffer)) ++ replicate recordSize 0)
   withdraw-writes id a =
       let rs : List Record = recordsOf list in
-      let i : ℕ = indexOf id rs in
-      let few : suc i ≤ list .count = omega (arith, index-length id rs a, count-records list) in
+      let i : ℕ = positionOf id rs in
+      let few : suc i ≤ list .count = omega (arith, position-length id rs a, count-records list) in
       let moved : List ℕ = take ((list .count - suc i) * recordSize) (drop (suc i * recordSize) (list .buffer)) in
       let zeros : List ℕ = replicate recordSize 0 in
       let numbers : numbersOfAll (without id rs ++ (zeroRecord ∷ [])) ≡ take (i * recordSize) (list .buffer) ++ (moved ++ zeros) =
       numbers-append (without id rs) (zeroRecord ∷ [])
       ∙ ap (λ (ns : List ℕ). ns ++ zeros)
-      (ap numbersOfAll (without-index id rs a)
+      (ap numbersOfAll (without-position id rs a)
       ∙ numbers-append (take i rs) (drop (suc i) rs)
       ∙ ap₂ (λ (xs ys : List ℕ). xs ++ ys) (front-numbers i (omega arith)) (back-numbers (suc i) few))
       ∙ append-assoc (take (i * recordSize) (list .buffer)) moved zeros in

@@ -5,7 +5,7 @@ use mathlib.Core.Path.{_≡_}
 use mathlib.Core.List.{List, [], _∷_, _++_}
 use lib.ListN.{replicate}
 use Rattle.eit.specs.Sizes.{broadcast}
-use Rattle.eit.specs.Limits.{startLimit}
+use Rattle.eit.specs.Limits.{windowSeconds}
 use Rattle.eit.specs.Pools.{Pools}
 use Rattle.eit.specs.Records.{EventList, numbersOfAll}
 use Rattle.eit.specs.declared.Record.{Record}
@@ -14,12 +14,12 @@ use Rattle.script.specs.Encode.{actBytes}
 use Rattle.script.specs.Edit.{edit}
 
 -- an event of a minute with the part of its pool that begins at 0
-abbrev pub event : ℕ → ℕ → ℕ → ℕ → Record
-event id start marks size =
+abbrev pub eventRecord : ℕ → ℕ → ℕ → ℕ → Record
+eventRecord id start marks size =
     record { id = id; start = start; duration = 60; marks = marks; offset = 0; «chain_length» = size }
 
 abbrev pub plain : ℕ → ℕ → Record
-plain id start = event id start 0 0
+plain id start = eventRecord id start 0 0
 
 abbrev pub lasting : ℕ → Record
 lasting duration = record { id = 3; start = 150; duration = duration; marks = 0; offset = 0; «chain_length» = 0 }
@@ -36,8 +36,8 @@ abbrev pub undoByte : List ℕ
 undoByte = 0x04 ∷ []
 
 -- number, value and count of the answer
-abbrev pub said : List ℕ → ℕ × ℕ × ℕ
-said script = let o = edit broadcast pools (list 2) script in (o .number, o .value, o .list .count)
+abbrev pub resultOf : List ℕ → ℕ × ℕ × ℕ
+resultOf script = let o = edit broadcast pools (list 2) script in (o .number, o .value, o .list .count)
 
 abbrev pub left : List ℕ → List ℕ
 left script = edit broadcast pools (list 2) script .list .buffer
@@ -57,49 +57,49 @@ pub record Examples : Type 0 where
   pub move-to-front : left (actBytes (move 2 50)) ≡ numbersOfAll (plain 2 50 ∷ plain 1 100 ∷ []) ++ replicate 8 7
   -- MOVE changes nothing but the start
   pub move-keeps :
-      left (actBytes (put (event 3 150 5 3)) ++ actBytes (move 3 300))
-      ≡ numbersOfAll (plain 1 100 ∷ plain 2 200 ∷ event 3 300 5 3 ∷ []) ++ (7 ∷ 7 ∷ [])
-  pub one-more : said (actBytes (put (plain 3 150))) ≡ (0, 3, 3)
-  pub one-less : said (actBytes (withdraw 1)) ≡ (0, 1, 1)
-  pub as-many : said (actBytes (move 1 300)) ≡ (0, 2, 2)
-  pub own-start : said (actBytes (move 1 100)) ≡ (0, 2, 2)
-  pub id-zero : said (actBytes (put (plain 0 150)) ++ actBytes (withdraw 0)) ≡ (0, 2, 2)
-  pub descriptors : said (actBytes (put (event 3 150 0 3))) ≡ (0, 3, 3)
+      left (actBytes (put (eventRecord 3 150 5 3)) ++ actBytes (move 3 300))
+      ≡ numbersOfAll (plain 1 100 ∷ plain 2 200 ∷ eventRecord 3 300 5 3 ∷ []) ++ (7 ∷ 7 ∷ [])
+  pub one-more : resultOf (actBytes (put (plain 3 150))) ≡ (0, 3, 3)
+  pub one-less : resultOf (actBytes (withdraw 1)) ≡ (0, 1, 1)
+  pub as-many : resultOf (actBytes (move 1 300)) ≡ (0, 2, 2)
+  pub own-start : resultOf (actBytes (move 1 100)) ≡ (0, 2, 2)
+  pub id-zero : resultOf (actBytes (put (plain 0 150)) ++ actBytes (withdraw 0)) ≡ (0, 2, 2)
+  pub descriptors : resultOf (actBytes (put (eventRecord 3 150 0 3))) ≡ (0, 3, 3)
   -- struck edits are not carried out, and leave no zeros behind
   pub undone : left (actBytes (put (plain 3 150)) ++ actBytes (withdraw 1) ++ undoByte ++ undoByte) ≡ list 2 .buffer
   pub nearest-struck :
       left (actBytes (withdraw 1) ++ actBytes (withdraw 2) ++ undoByte)
       ≡ numbersOfAll (plain 2 200 ∷ []) ++ replicate 6 0 ++ replicate 8 7
-  pub struck-for-form-only : said (actBytes (put (event 3 150 8 0)) ++ undoByte) ≡ (0, 2, 2)
+  pub struck-for-form-only : resultOf (actBytes (put (eventRecord 3 150 8 0)) ++ undoByte) ≡ (0, 2, 2)
   -- 12, 3 and 4 over the whole script, before any edit
   pub unsound : edit broadcast pools (list 4) (0x05 ∷ []) ≡ record { number = 12; value = 0; list = list 4 }
-  pub unknown : said (actBytes (withdraw 1) ++ (0x05 ∷ [])) ≡ (3, 3, 2)
-  pub cut : said (0x03 ∷ 0 ∷ 1 ∷ []) ≡ (3, 0, 2)
-  pub form-first : said (undoByte ++ (0x05 ∷ [])) ≡ (3, 1, 2)
-  pub undo-alone : said undoByte ≡ (4, 0, 2)
-  pub nothing-to-strike : said (actBytes (withdraw 1) ++ undoByte ++ undoByte) ≡ (4, 4, 2)
+  pub unknown : resultOf (actBytes (withdraw 1) ++ (0x05 ∷ [])) ≡ (3, 3, 2)
+  pub truncated : resultOf (0x03 ∷ 0 ∷ 1 ∷ []) ≡ (3, 0, 2)
+  pub form-first : resultOf (undoByte ++ (0x05 ∷ [])) ≡ (3, 1, 2)
+  pub undo-alone : resultOf undoByte ≡ (4, 0, 2)
+  pub nothing-to-strike : resultOf (actBytes (withdraw 1) ++ undoByte ++ undoByte) ≡ (4, 4, 2)
   -- per edit 5, 9, 6, 7, 8: PUT
-  pub start-most : said (actBytes (put (plain 3 5_529_599))) ≡ (0, 3, 3)
-  pub start-above : said (actBytes (put (plain 3 5_529_600))) ≡ (5, 0, 2)
-  pub duration-most : said (actBytes (put (lasting 359_999))) ≡ (0, 3, 3)
-  pub duration-above : said (actBytes (put (lasting 360_000))) ≡ (5, 0, 2)
-  pub no-duration : said (actBytes (put (lasting 0))) ≡ (5, 0, 2)
-  pub marks-above : said (actBytes (put (event 3 150 8 0))) ≡ (5, 0, 2)
-  pub range-first : said (actBytes (put (event 1 startLimit 0 4))) ≡ (5, 0, 2)
-  pub outside : said (actBytes (put (event 1 200 0 4))) ≡ (9, 0, 2)
-  pub no-chain : said (actBytes (put (event 3 150 0 2))) ≡ (9, 0, 2)
-  pub other-pool : said (actBytes (put (event 3 150 2 3))) ≡ (9, 0, 2)
-  pub present : said (actBytes (put (plain 1 200))) ≡ (6, 0, 2)
-  pub taken : said (actBytes (put (plain 3 300)) ++ actBytes (put (plain 4 200))) ≡ (7, 18, 3)
-  pub full : said (actBytes (put (plain 3 300)) ++ actBytes (put (plain 4 400))) ≡ (8, 18, 3)
+  pub start-most : resultOf (actBytes (put (plain 3 5_529_599))) ≡ (0, 3, 3)
+  pub start-above : resultOf (actBytes (put (plain 3 5_529_600))) ≡ (5, 0, 2)
+  pub duration-most : resultOf (actBytes (put (lasting 359_999))) ≡ (0, 3, 3)
+  pub duration-above : resultOf (actBytes (put (lasting 360_000))) ≡ (5, 0, 2)
+  pub no-duration : resultOf (actBytes (put (lasting 0))) ≡ (5, 0, 2)
+  pub marks-above : resultOf (actBytes (put (eventRecord 3 150 8 0))) ≡ (5, 0, 2)
+  pub range-first : resultOf (actBytes (put (eventRecord 1 windowSeconds 0 4))) ≡ (5, 0, 2)
+  pub outside : resultOf (actBytes (put (eventRecord 1 200 0 4))) ≡ (9, 0, 2)
+  pub no-chain : resultOf (actBytes (put (eventRecord 3 150 0 2))) ≡ (9, 0, 2)
+  pub other-pool : resultOf (actBytes (put (eventRecord 3 150 2 3))) ≡ (9, 0, 2)
+  pub present : resultOf (actBytes (put (plain 1 200))) ≡ (6, 0, 2)
+  pub taken : resultOf (actBytes (put (plain 3 300)) ++ actBytes (put (plain 4 200))) ≡ (7, 18, 3)
+  pub full : resultOf (actBytes (put (plain 3 300)) ++ actBytes (put (plain 4 400))) ≡ (8, 18, 3)
   pub at-event-limit :
       edit (record { «section_limit» = 4096; «event_limit» = 2 }) pools (list 2) (actBytes (put (plain 3 150))) .number ≡ 8
   pub below-event-limit :
       edit (record { «section_limit» = 4096; «event_limit» = 3 }) pools (list 2) (actBytes (put (plain 3 150))) .number ≡ 0
   -- WITHDRAW and MOVE
-  pub absent : said (actBytes (withdraw 9)) ≡ (6, 0, 2)
+  pub absent : resultOf (actBytes (withdraw 9)) ≡ (6, 0, 2)
   pub keeps-the-earlier : left (actBytes (withdraw 1) ++ actBytes (withdraw 1)) ≡ numbersOfAll (plain 2 200 ∷ []) ++ replicate 6 0 ++ replicate 8 7
-  pub moved-late : said (actBytes (move 9 startLimit)) ≡ (5, 0, 2)
-  pub moved-absent : said (actBytes (move 9 200)) ≡ (6, 0, 2)
-  pub moved-when-full : said (actBytes (put (plain 3 300)) ++ actBytes (move 3 400)) ≡ (0, 3, 3)
-  pub moved-onto : said (actBytes (move 1 200)) ≡ (7, 0, 2)
+  pub moved-late : resultOf (actBytes (move 9 windowSeconds)) ≡ (5, 0, 2)
+  pub moved-absent : resultOf (actBytes (move 9 200)) ≡ (6, 0, 2)
+  pub moved-when-full : resultOf (actBytes (put (plain 3 300)) ++ actBytes (move 3 400)) ≡ (0, 3, 3)
+  pub moved-onto : resultOf (actBytes (move 1 200)) ≡ (7, 0, 2)

@@ -6,7 +6,7 @@ use mathlib.Core.List.{List, [], _∷_, _++_}
 use lib.Dec.{ltb, eqb}
 use lib.ListN.{length}
 use Rattle.eit.specs.declared.Sizes.{Sizes}
-use Rattle.eit.specs.Limits.{startLimit}
+use Rattle.eit.specs.Limits.{windowSeconds}
 use Rattle.eit.specs.Overwrite.{overwrite}
 use Rattle.eit.specs.Pools.{Pools}
 use Rattle.eit.specs.Records.{EventList, recordSize, recordsOf, numbersOfAll}
@@ -91,6 +91,6 @@ step sizes pools list (withdraw id) =
     check (isAmong id (idsOf (recordsOf list))) 6 (done (afterWithdraw list id))
 step sizes pools list (move id start) =
     let rs = recordsOf list in
-    check (ltb start startLimit) 5
+    check (ltb start windowSeconds) 5
     (check (isAmong id (idsOf rs)) 6
     (check (not (isAmong start (startsOf (without id rs)))) 7 (done (afterMove list id start))))

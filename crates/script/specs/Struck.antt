@@ -20,12 +20,12 @@ strike (e ∷ kept) (undo at ∷ cs) = strike kept cs
 unfoldable pub unstruckIn : List Command → Unstruck
 unstruckIn cs = strike [] cs
 
--- the same from the right: with p UNDOs pending behind the commands, `passed` is how many are pending before them; an UNDO adds
+-- the same from the right: with p UNDOs pending behind the commands, `pendingBefore` is how many are pending before them; an UNDO adds
 -- one, an edit takes one if there is one
-abbrev pub passed : ℕ → List Command → ℕ
-passed p [] = p
-passed p (doEdit e ∷ cs) = pred (passed p cs)
-passed p (undo at ∷ cs) = suc (passed p cs)
+abbrev pub pendingBefore : ℕ → List Command → ℕ
+pendingBefore p [] = p
+pendingBefore p (doEdit e ∷ cs) = pred (pendingBefore p cs)
+pendingBefore p (undo at ∷ cs) = suc (pendingBefore p cs)
 
 -- an edit in front of others; if an UNDO is pending behind it, it is struck
 abbrev pub unlessStruck : ℕ → Edit → List Edit → List Edit
@@ -35,5 +35,5 @@ unlessStruck (suc p) e es = es
 -- the edits that neither an UNDO among the commands strikes nor one of the p pending behind them
 abbrev pub live : ℕ → List Command → List Edit
 live p [] = []
-live p (doEdit e ∷ cs) = unlessStruck (passed p cs) e (live p cs)
+live p (doEdit e ∷ cs) = unlessStruck (pendingBefore p cs) e (live p cs)
 live p (undo at ∷ cs) = live p cs

@@ -7,17 +7,17 @@ use native.Mathlib.Omega.{arith}
 use mathlib.Core.List.{List}
 use lib.ListN.{length, replicate, length-replicate}
 use Rattle.eit.specs.declared.Sizes.{Sizes}
-use Rattle.eit.specs.Limits.{baseMost}
+use Rattle.eit.specs.Limits.{baseDayMax}
 use Rattle.eit.specs.Fields.{Bytes}
 use Rattle.eit.specs.Records.{recordSize}
 use Rattle.eit.specs.declared.Identity.{Identity}
 use Rattle.sections.specs.Section.{Section}
 use Rattle.sections.specs.Encode.{fileBytes}
-use Rattle.sections.specs.Decode.{cutSections}
+use Rattle.sections.specs.Decode.{sectionsIn}
 use Rattle.sections.specs.Rules.{Rules}
 use Rattle.sections.specs.Read.{Answer, checkFile, read}
 use Rattle.sections.specs.Exact.{acceptedNumbers, Accepted}
-use Rattle.sections.proofs.Read.{read-agrees, read-says-27}
+use Rattle.sections.proofs.Read.{read-agrees, read-27}
 use Rattle.sections.proofs.Exact.{accepted-answer, accepted-few, accepted-rules, follows-accepted, read-accepted}
 
 -- a record buffer that the largest list fits in is never short
@@ -25,8 +25,8 @@ pub read-enough : (sizes : Sizes) (base : ℕ) (file buffer : List ℕ) → size
     → read sizes base file buffer .answer ≡ checkFile sizes base file
 read-enough sizes base file buffer enough =
     read-agrees sizes base file buffer
-    (λ says.
-    let (zero, short) = read-says-27 sizes base file buffer .0 says in
+    (λ number-is.
+    let (zero, short) = read-27 sizes base file buffer .0 number-is in
     let count = ap (λ (a : Answer). a .count) (accepted-answer sizes base file zero) in
     omega (arith, accepted-few sizes base file zero))
 
@@ -48,13 +48,13 @@ check-accepted sizes base file few zero buffer size =
 
 -- demand 2: Read accepts exactly the files that follow the rules
 pub accepted-exactly : (sizes : Sizes) (base : ℕ) (file : List ℕ) → sizes .«section_limit» ≤ 4_096
-    → sizes .«event_limit» * recordSize ≤ acceptedNumbers → base ≤ baseMost → Bytes file
+    → sizes .«event_limit» * recordSize ≤ acceptedNumbers → base ≤ baseDayMax → Bytes file
     → Accepted sizes base file ↔
     ((identity : Identity) × (ss : List Section) × Rules sizes identity ss × (fileBytes base ss ≡ file))
 accepted-exactly sizes base file lengthFits few legal bytes = (
   λ accepted.
       let (rules, joined) = accepted-rules sizes base file bytes (accepted-check sizes base file accepted) in
-      (checkFile sizes base file .identity, cutSections base file, rules, joined),
+      (checkFile sizes base file .identity, sectionsIn base file, rules, joined),
   λ (identity, ss, rules, joined).
       check-accepted sizes base file few
       (subst (λ (f : List ℕ). checkFile sizes base f .number ≡ 0) joined

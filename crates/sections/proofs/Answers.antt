@@ -11,11 +11,11 @@ use borrow.Author.Tests.{le-leb}
 use lib.Dec.{T}
 use lib.ListN.{length, length-append}
 use Rattle.eit.specs.declared.Sizes.{Sizes}
-use Rattle.eit.specs.Limits.{baseMost}
+use Rattle.eit.specs.Limits.{baseDayMax}
 use Rattle.eit.proofs.Test.{true-is, false-is}
-use Rattle.sections.specs.Decode.{headerIn, cutFile}
-use Rattle.sections.specs.JudgeHeader.{isFramed, isClosed, isHeader, isInPlace}
-use Rattle.sections.specs.JudgeEvents.{isEventLoop, isWithinLimit}
+use Rattle.sections.specs.Decode.{headerIn, splitFile}
+use Rattle.sections.specs.HeaderTests.{isFramed, hasRightCrc, isHeader, hasRightNumbering}
+use Rattle.sections.specs.EventTests.{isEventLoop, isWithinLimit}
 use Rattle.sections.specs.Walk.{Progress, atStart, behind, behindAll, Verdict, passed, refused, require, step, walk}
 use Rattle.sections.specs.Read.{isComplete, refusal, atEnd, checkFile}
 use Rattle.sections.proofs.Walk.{Passes, AllPass, step-passes, step-passed, walk-passes}
@@ -32,32 +32,32 @@ module _ (sizes : Sizes) (base : ℕ) (p : Progress) (bs : List ℕ) where
   abbrev fromHeader : Verdict
   fromHeader =
       require (isHeader (p .before) bs) 22 (p .offset)
-      (require (isInPlace (p .before) (headerIn bs)) 23 (p .offset) fromEvents)
+      (require (hasRightNumbering (p .before) (headerIn bs)) 23 (p .offset) fromEvents)
 
   pub step-20 : T (not (isFramed sizes bs)) → step sizes base p bs ≡ refused 20 (p .offset)
   unfolding step
   step-20 fails = rw (step, false-is (isFramed sizes bs) fails)
 
-  pub step-21 : T (isFramed sizes bs) → T (not (isClosed bs)) → step sizes base p bs ≡ refused 21 (p .offset)
+  pub step-21 : T (isFramed sizes bs) → T (not (hasRightCrc bs)) → step sizes base p bs ≡ refused 21 (p .offset)
   unfolding step
-  step-21 framed fails = rw (step, true-is (isFramed sizes bs) framed, false-is (isClosed bs) fails)
+  step-21 framed fails = rw (step, true-is (isFramed sizes bs) framed, false-is (hasRightCrc bs) fails)
 
-  module _ (framed : T (isFramed sizes bs)) (closed : T (isClosed bs)) where
+  module _ (framed : T (isFramed sizes bs)) (crc-right : T (hasRightCrc bs)) where
     at-header : step sizes base p bs ≡ fromHeader
     unfolding step
-    at-header = rw (step, true-is (isFramed sizes bs) framed, true-is (isClosed bs) closed)
+    at-header = rw (step, true-is (isFramed sizes bs) framed, true-is (hasRightCrc bs) crc-right)
 
     pub step-22 : T (not (isHeader (p .before) bs)) → step sizes base p bs ≡ refused 22 (p .offset)
     step-22 fails = at-header ∙ rw (false-is (isHeader (p .before) bs) fails)
 
-    pub step-23 : T (isHeader (p .before) bs) → T (not (isInPlace (p .before) (headerIn bs)))
+    pub step-23 : T (isHeader (p .before) bs) → T (not (hasRightNumbering (p .before) (headerIn bs)))
         → step sizes base p bs ≡ refused 23 (p .offset)
     step-23 header fails =
-        at-header ∙ rw (true-is (isHeader (p .before) bs) header, false-is (isInPlace (p .before) (headerIn bs)) fails)
+        at-header ∙ rw (true-is (isHeader (p .before) bs) header, false-is (hasRightNumbering (p .before) (headerIn bs)) fails)
 
-    module _ (header : T (isHeader (p .before) bs)) (place : T (isInPlace (p .before) (headerIn bs))) where
+    module _ (header : T (isHeader (p .before) bs)) (numbering : T (hasRightNumbering (p .before) (headerIn bs))) where
       at-events : step sizes base p bs ≡ fromEvents
-      at-events = at-header ∙ rw (true-is (isHeader (p .before) bs) header, true-is (isInPlace (p .before) (headerIn bs)) place)
+      at-events = at-header ∙ rw (true-is (isHeader (p .before) bs) header, true-is (hasRightNumbering (p .before) (headerIn bs)) numbering)
 
       pub step-24 : T (not (isEventLoop base (p .seen) bs)) → step sizes base p bs ≡ refused 24 (p .offset)
       step-24 fails = at-events ∙ rw (false-is (isEventLoop base (p .seen) bs) fails)
@@ -133,27 +133,27 @@ module _ (sizes : Sizes) (base : ℕ) where
   refused-only p (bs ∷ xs) number offset e =
       refused-first p bs xs number offset (step sizes base p bs) refl e (refused-only (behind base p bs) xs number offset)
 
-  module _ (file : List ℕ) (legal : base ≤ baseMost) where
+  module _ (file : List ℕ) (legal : base ≤ baseDayMax) where
     -- a refusal of a section is Read's answer, and nothing behind that section is looked at
     pub check-refused : (xs rest : List (List ℕ)) (bs : List ℕ) (number : ℕ)
-        → cutFile file ≡ xs ++ bs ∷ rest
+        → splitFile file ≡ xs ++ bs ∷ rest
         → AllPass sizes base atStart xs
         → step sizes base (behindAll base atStart xs) bs ≡ refused number (behindAll base atStart xs .offset)
         → checkFile sizes base file ≡ refusal number (length (flatten xs))
     unfolding checkFile
     check-refused xs rest bs number split all e =
-        let walked : walk sizes base atStart (cutFile file) ≡ refused number (length (flatten xs)) =
+        let walked : walk sizes base atStart (splitFile file) ≡ refused number (length (flatten xs)) =
         ap (walk sizes base atStart) split
         ∙ walk-append atStart xs (bs ∷ rest) all
         ∙ walk-refused (behindAll base atStart xs) bs rest number (behindAll base atStart xs .offset) e
         ∙ ap (refused number) (behind-offset base atStart xs ∙ omega arith) in
-        rw (checkFile, le-leb base baseMost legal) (ap (atEnd (length file)) walked)
+        rw (checkFile, le-leb base baseDayMax legal) (ap (atEnd (length file)) walked)
 
     -- all sections pass, and the file ends early or is empty
-    pub check-25 : AllPass sizes base atStart (cutFile file) → T (not (isComplete (behindAll base atStart (cutFile file) .before)))
+    pub check-25 : AllPass sizes base atStart (splitFile file) → T (not (isComplete (behindAll base atStart (splitFile file) .before)))
         → checkFile sizes base file ≡ refusal 25 (length file)
     unfolding checkFile
     check-25 all early =
-        rw (checkFile, le-leb base baseMost legal)
-        (ap (atEnd (length file)) (walk-passes sizes base atStart (cutFile file) all)
-        ∙ rw (atEnd, false-is (isComplete (behindAll base atStart (cutFile file) .before)) early))
+        rw (checkFile, le-leb base baseDayMax legal)
+        (ap (atEnd (length file)) (walk-passes sizes base atStart (splitFile file) all)
+        ∙ rw (atEnd, false-is (isComplete (behindAll base atStart (splitFile file) .before)) early))

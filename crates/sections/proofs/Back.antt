@@ -13,8 +13,8 @@ use Rattle.sections.specs.Every.{Every}
 use Rattle.sections.specs.Section.{Section, sectionSize, headersOf, sectionEvents}
 use Rattle.sections.specs.Encode.{sectionBytes}
 use Rattle.sections.specs.Rules.{Succeeding, Ordered, SectionRules}
-use Rattle.sections.specs.JudgeHeader.{isSameFile, isNext}
-use Rattle.sections.specs.JudgeEvents.{areNew}
+use Rattle.sections.specs.HeaderTests.{isSameFile, isNext}
+use Rattle.sections.specs.EventTests.{areNew}
 use Rattle.sections.specs.Walk.{Progress, atStart, behindAll}
 use Rattle.sections.specs.Read.{isComplete, identityOf}
 use Rattle.sections.proofs.Version.{versions-same, identity-shown}

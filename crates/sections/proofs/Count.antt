@@ -11,18 +11,18 @@ use borrow.Author.Tests.{eq-eqb, ne-eqb}
 use lib.Dec.{T, eqb, leb, ltb, eqb→eq, leb→le, ltb→lt, le→leb, T-not}
 use lib.ListN.{length, length-append, length-map}
 use Rattle.eit.specs.declared.Sizes.{Sizes}
-use Rattle.eit.specs.Limits.{baseMost}
+use Rattle.eit.specs.Limits.{baseDayMax}
 use Rattle.eit.specs.Events.{Event}
 use Rattle.eit.specs.declared.Identity.{Identity}
 use Rattle.eit.proofs.Test.{tests, and-parts, true-is, false-is, test-or, eq-test, eq-or-not}
 use Rattle.sections.specs.Every.{Every}
-use Rattle.sections.specs.Segment.{tableLeast, segmentIndex, tableOf, segmentOf, firstSection, firstOf}
+use Rattle.sections.specs.Segment.{tableFirst, segmentIndex, tableOf, segmentOf, firstSection, firstOf}
 use Rattle.sections.specs.Section.{Header, Section, sectionEvents}
 use Rattle.sections.specs.Encode.{fileBytes}
-use Rattle.sections.specs.Decode.{headerIn, cutEvents, sectionIn, cutFile, cutSections}
+use Rattle.sections.specs.Decode.{headerIn, splitEvents, sectionIn, splitFile, sectionsIn}
 use Rattle.sections.specs.Rules.{EventRules, Rules}
 use Rattle.sections.specs.Count.{isInFirst, firstSections, segmentEvents, segmentSections, sectionsCounted, eventsCounted}
-use Rattle.sections.proofs.Exact.{cut-sections-back}
+use Rattle.sections.proofs.Exact.{sections-in-back}
 
 -- ---- arithmetic of indices
 
@@ -31,7 +31,7 @@ pub index-only : (i j : ℕ) → tableOf i ≡ tableOf j → firstSection i ≡ 
 index-only i j table first = omega arith
 
 -- table 0x50 + t and segment g have the index 32 × t + g
-pub index-of : (t g : ℕ) → g < 32 → (tableOf (t * 32 + g) ≡ tableLeast + t) × (segmentOf (t * 32 + g) ≡ g)
+pub index-of : (t g : ℕ) → g < 32 → (tableOf (t * 32 + g) ≡ tableFirst + t) × (segmentOf (t * 32 + g) ≡ g)
 index-of t g few = (omega arith, omega arith)
 
 -- the eight section numbers of a segment have its s0
@@ -65,29 +65,29 @@ in-segment index h = (
 
 -- the sections that the bytes show
 module _ (base : ℕ) (file : List ℕ) (index : ℕ) where
-  pub counted-is : sectionsCounted base file index ≡ length (segmentSections index (cutSections base file))
+  pub counted-is : sectionsCounted base file index ≡ length (segmentSections index (sectionsIn base file))
   unfolding sectionsCounted
   counted-is = refl
 
-  pub held-is : (k : ℕ) → eventsCounted base file index k ≡ length (sectionEvents (firstSections index k (cutSections base file)))
+  pub held-is : (k : ℕ) → eventsCounted base file index k ≡ length (sectionEvents (firstSections index k (sectionsIn base file)))
   unfolding eventsCounted
   held-is k = refl
 
 -- and of the joined bytes of sections that keep the rules, these sections
 
-module _ (sizes : Sizes) (base : ℕ) (lengthFits : sizes .«section_limit» ≤ 4_096) (legal : base ≤ baseMost)
+module _ (sizes : Sizes) (base : ℕ) (lengthFits : sizes .«section_limit» ≤ 4_096) (legal : base ≤ baseDayMax)
     (identity : Identity) (ss : List Section) (rules : Rules sizes identity ss) where
   pub sections-counted : (index : ℕ) → sectionsCounted base (fileBytes base ss) index ≡ length (segmentSections index ss)
   sections-counted index =
       counted-is base (fileBytes base ss) index
-      ∙ ap (λ (ts : List Section). length (segmentSections index ts)) (cut-sections-back sizes base lengthFits legal identity ss rules)
+      ∙ ap (λ (ts : List Section). length (segmentSections index ts)) (sections-in-back sizes base lengthFits legal identity ss rules)
 
   pub events-counted : (index k : ℕ)
       → eventsCounted base (fileBytes base ss) index k ≡ length (sectionEvents (firstSections index k ss))
   events-counted index k =
       held-is base (fileBytes base ss) index k
       ∙ ap (λ (ts : List Section). length (sectionEvents (firstSections index k ts)))
-      (cut-sections-back sizes base lengthFits legal identity ss rules)
+      (sections-in-back sizes base lengthFits legal identity ss rules)
 
 -- ---- a segment's sections, with one section more
 
@@ -109,7 +109,7 @@ first-append index k (s ∷ ss) ts =
     (λ outside. rw (firstSections, false-is (isInFirst index k (s .header)) outside) (first-append index k ss ts))
     (test-or (isInFirst index k (s .header)))
 
--- ---- no count depends on the base day: headers and the cuts between events are read without it
+-- ---- no count depends on the base day: headers and the ends of events are read without it
 
 module _ (base other index k : ℕ) where
   same-sections : (xs : List (List ℕ))
@@ -131,19 +131,19 @@ module _ (base other index k : ℕ) where
       ⊎-elim
       (λ inside.
       rw (firstSections, true-is (isInFirst index k (headerIn x)) inside)
-      (simp (length-append, length-map) (ap (λ (n : ℕ). length (cutEvents x) + n) (same-events xs))))
+      (simp (length-append, length-map) (ap (λ (n : ℕ). length (splitEvents x) + n) (same-events xs))))
       (λ outside. rw (firstSections, false-is (isInFirst index k (headerIn x)) outside) (same-events xs))
       (test-or (isInFirst index k (headerIn x)))
 
 pub sections-any-base : (base other : ℕ) (file : List ℕ) (index : ℕ)
     → sectionsCounted base file index ≡ sectionsCounted other file index
 unfolding sectionsCounted
-sections-any-base base other file index = same-sections base other index 8 (cutFile file)
+sections-any-base base other file index = same-sections base other index 8 (splitFile file)
 
 pub events-any-base : (base other : ℕ) (file : List ℕ) (index k : ℕ)
     → eventsCounted base file index k ≡ eventsCounted other file index k
 unfolding eventsCounted
-events-any-base base other file index k = same-events base other index k (cutFile file)
+events-any-base base other file index k = same-events base other index k (splitFile file)
 
 -- ---- the events that start in a segment
 

@@ -11,7 +11,7 @@ use native.Mathlib.Omega.{arith}
 use lib.Dec.{T, eqb, eqb→eq, T-not}
 use lib.ListN.{length, drop, length-drop, take-append-drop}
 use lib.Seq.{take-add}
-use Rattle.eit.specs.Limits.{baseMost}
+use Rattle.eit.specs.Limits.{baseDayMax}
 use Rattle.eit.specs.Fields.{Bytes, bigEndian, valueOf, bytesAt}
 use Rattle.eit.specs.Time.{startBytes, durationBytes, isStartBytes, isDurationBytes, startOf}
 use Rattle.eit.specs.Pools.{odd}
@@ -26,10 +26,10 @@ use Rattle.sections.specs.Segment.{segmentIndex, tableOf, firstSection, 
 use Rattle.sections.specs.Section.{Header, eventOverhead}
 use Rattle.sections.specs.Encode.{runningStatus, bitOf, statusWord, eventBytes}
 use Rattle.sections.specs.Decode.{statusField, statedEventSize, eventIn}
-use Rattle.sections.specs.JudgeEvents.{isInSegment, isEvent}
+use Rattle.sections.specs.EventTests.{isInSegment, isEvent}
 use Rattle.sections.specs.Rules.{EventRules}
 use Rattle.sections.proofs.Lengths.{event-length}
-use Rattle.sections.proofs.Cut.{Stated}
+use Rattle.sections.proofs.Split.{Stated}
 
 -- a chain whose length has 12 bits
 abbrev pub Short : Event → Type 0
@@ -105,7 +105,7 @@ status-is : (b : Bool) → T (eqb (runningStatus b) 0 || eqb (runningStatus b) 5
 status-is true = tt
 status-is false = tt
 
-module _ (base : ℕ) (legal : base ≤ baseMost) (h : Header) (e : Event) (rules : EventRules h e) (short : Short e) where
+module _ (base : ℕ) (legal : base ≤ baseDayMax) (h : Header) (e : Event) (rules : EventRules h e) (short : Short e) where
   -- the bytes of an event that keeps the rules are read as this event
   pub event-back : eventIn base (eventBytes base e) ≡ e
   unfolding eventBytes

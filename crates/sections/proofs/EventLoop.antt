@@ -5,19 +5,19 @@ use mathlib.Core.List.{List, [], _∷_, _++_, map, flatten}
 use Prim.Native.Nat.{ℕ, _≤_, _<_}
 use native.Mathlib.Omega.{arith}
 use lib.Dec.{T}
-use Rattle.eit.specs.Limits.{baseMost}
+use Rattle.eit.specs.Limits.{baseDayMax}
 use Rattle.eit.specs.Fields.{Bytes}
 use Rattle.eit.specs.Events.{Event}
 use Rattle.eit.proofs.Test.{and-parts, and-both}
 use Rattle.eit.proofs.Fields.{bytes-append, bytes-parts}
 use Rattle.sections.specs.Every.{Every}
 use Rattle.sections.specs.Section.{Header, eventSizes}
-use Rattle.sections.specs.Cut.{cut}
+use Rattle.sections.specs.Split.{splitBy}
 use Rattle.sections.specs.Encode.{eventBytes, eventLoopBytes}
 use Rattle.sections.specs.Decode.{statedEventSize, eventIn}
-use Rattle.sections.specs.JudgeEvents.{isEvent, areEvents}
+use Rattle.sections.specs.EventTests.{isEvent, areEvents}
 use Rattle.sections.specs.Rules.{EventRules}
-use Rattle.sections.proofs.Cut.{Stated, cut-back}
+use Rattle.sections.proofs.Split.{Stated, split-back}
 use Rattle.sections.proofs.EventBytes.{Short, event-bytes, event-stated, event-back, event-is, event-forth}
 
 pub loop-bytes : (base : ℕ) (es : List Event) → Every (λ (e : Event). Bytes (e .chain)) es → Bytes (eventLoopBytes base es)
@@ -33,10 +33,10 @@ all-stated base [] short = tt
 all-stated base (e ∷ es) short = (event-stated base e (short .0), all-stated base es (short .1))
 
 -- the bytes of events are cut into those of each
-pub loop-cut : (base : ℕ) (es : List Event) → Every Short es
-    → cut statedEventSize (eventLoopBytes base es) ≡ map (eventBytes base) es
+pub loop-split : (base : ℕ) (es : List Event) → Every Short es
+    → splitBy statedEventSize (eventLoopBytes base es) ≡ map (eventBytes base) es
 unfolding eventLoopBytes
-loop-cut base es short = cut-back statedEventSize (map (eventBytes base) es) (all-stated base es short)
+loop-split base es short = split-back statedEventSize (map (eventBytes base) es) (all-stated base es short)
 
 -- events that fit a section of 4,096 bytes have chains of 12 bits
 pub sizes-short : (es : List Event) → eventSizes es < 0x1000 → Every Short es
@@ -45,7 +45,7 @@ sizes-short (e ∷ es) few = (omega arith, sizes-short es (omega arith))
 
 -- ---- the event loop: back
 
-module _ (base : ℕ) (legal : base ≤ baseMost) where
+module _ (base : ℕ) (legal : base ≤ baseDayMax) where
   -- the bytes of events that keep the rules are read as these events
   pub events-back : (h : Header) (es : List Event) → Every (EventRules h) es → Every Short es
       → map (eventIn base) (map (eventBytes base) es) ≡ es

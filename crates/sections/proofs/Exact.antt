@@ -8,7 +8,7 @@ use mathlib.Core.List.{List, [], _∷_, map, flatten}
 use lib.Dec.{T}
 use lib.ListN.{length}
 use Rattle.eit.specs.declared.Sizes.{Sizes}
-use Rattle.eit.specs.Limits.{baseMost}
+use Rattle.eit.specs.Limits.{baseDayMax}
 use Rattle.eit.specs.Fields.{Bytes}
 use Rattle.eit.specs.Overwrite.{overwrite}
 use Rattle.eit.specs.Records.{recordSize, recordsOf, numbersOfAll}
@@ -20,44 +20,44 @@ use Rattle.eit.proofs.Records.{records-written}
 use Rattle.sections.specs.Every.{Every}
 use Rattle.sections.specs.Section.{Section, sectionEvents}
 use Rattle.sections.specs.Encode.{sectionBytes, fileBytes}
-use Rattle.sections.specs.Decode.{statedSectionSize, sectionIn, cutFile, cutSections}
+use Rattle.sections.specs.Decode.{statedSectionSize, sectionIn, splitFile, sectionsIn}
 use Rattle.sections.specs.Rules.{SectionRules, Rules}
-use Rattle.sections.specs.JudgeEvents.{areNew}
+use Rattle.sections.specs.EventTests.{areNew}
 use Rattle.sections.specs.Walk.{atStart, behindAll}
 use Rattle.sections.specs.Read.{identityOf, Answer, success, checkFile, Reading, fileRecords, read, listOf}
-use Rattle.sections.specs.Places.{recordsFrom}
+use Rattle.sections.specs.Offsets.{recordsFrom}
 use Rattle.sections.specs.Exact.{FollowsRules, readingOf}
-use Rattle.sections.proofs.Cut.{Stated, cut-joined, cut-back}
+use Rattle.sections.proofs.Split.{Stated, split-joined, split-back}
 use Rattle.sections.proofs.Order.{seen-length, order-new}
 use Rattle.sections.proofs.SectionBack.{Legal, section-bytes, section-back, section-stated}
 use Rattle.sections.proofs.Read.{successOf, check-succeeds, check-succeeded, read-short, read-succeeds, read-agrees}
 use Rattle.sections.proofs.Forth.{shown-seen, shown-few, all-forth}
 use Rattle.sections.proofs.Back.{Accepts, all-back}
-use Rattle.sections.proofs.Places.{records-count}
+use Rattle.sections.proofs.Offsets.{records-count}
 
 -- ---- cutting and joining
 
-pub file-joined : (file : List ℕ) → flatten (cutFile file) ≡ file
-unfolding cutFile
-file-joined file = cut-joined statedSectionSize (λ bs. omega arith) file
+pub file-joined : (file : List ℕ) → flatten (splitFile file) ≡ file
+unfolding splitFile
+file-joined file = split-joined statedSectionSize (λ bs. omega arith) file
 
-pub sections-are : (base : ℕ) (file : List ℕ) → cutSections base file ≡ map (sectionIn base) (cutFile file)
-unfolding cutSections
+pub sections-are : (base : ℕ) (file : List ℕ) → sectionsIn base file ≡ map (sectionIn base) (splitFile file)
+unfolding sectionsIn
 sections-are base file = refl
 
 bytes-are : (base : ℕ) (ss : List Section) → fileBytes base ss ≡ flatten (map (sectionBytes base) ss)
 unfolding fileBytes
 bytes-are base ss = refl
 
-pub records-are : (base : ℕ) (file : List ℕ) → fileRecords base file ≡ recordsFrom 0 (cutSections base file)
+pub records-are : (base : ℕ) (file : List ℕ) → fileRecords base file ≡ recordsFrom 0 (sectionsIn base file)
 unfolding fileRecords
 records-are base file = refl
 
 -- the events that the walk has seen are those of the sections
-seen-count : (base : ℕ) (file : List ℕ) → length (behindAll base atStart (cutFile file) .seen) ≡ length (fileRecords base file)
+seen-count : (base : ℕ) (file : List ℕ) → length (behindAll base atStart (splitFile file) .seen) ≡ length (fileRecords base file)
 seen-count base file =
-    let ss : List Section = map (sectionIn base) (cutFile file) in
-    ap length (shown-seen base atStart (cutFile file))
+    let ss : List Section = map (sectionIn base) (splitFile file) in
+    ap length (shown-seen base atStart (splitFile file))
     ∙ seen-length (sectionEvents ss) []
     ∙ omega (
       arith,
@@ -82,17 +82,17 @@ module _ (sizes : Sizes) (base : ℕ) (file : List ℕ) where
   pub accepted-few : checkFile sizes base file .number ≡ 0 → length (fileRecords base file) ≤ sizes .«event_limit»
   accepted-few zero =
       let (legal, all, complete) = check-succeeded sizes base file zero in
-      let count : length (fileRecords base file) ≡ length (sectionEvents (map (sectionIn base) (cutFile file))) =
+      let count : length (fileRecords base file) ≡ length (sectionEvents (map (sectionIn base) (splitFile file))) =
       ap length (records-are base file ∙ ap (recordsFrom 0) (sections-are base file))
-      ∙ records-count 0 (map (sectionIn base) (cutFile file)) in
-      omega (arith, shown-few sizes base atStart (cutFile file) (omega arith) all)
+      ∙ records-count 0 (map (sectionIn base) (splitFile file)) in
+      omega (arith, shown-few sizes base atStart (splitFile file) (omega arith) all)
 
   -- the sections that the bytes show keep the rules, and their joined bytes are the file
   pub accepted-rules : Bytes file → checkFile sizes base file .number ≡ 0
-      → Rules sizes (checkFile sizes base file .identity) (cutSections base file)
-      × (fileBytes base (cutSections base file) ≡ file)
+      → Rules sizes (checkFile sizes base file .identity) (sectionsIn base file)
+      × (fileBytes base (sectionsIn base file) ≡ file)
   accepted-rules bytes zero =
-      let xs : List (List ℕ) = cutFile file in
+      let xs : List (List ℕ) = splitFile file in
       let ss : List Section = map (sectionIn base) xs in
       let (legal, all, complete) = check-succeeded sizes base file zero in
       let is : checkFile sizes base file ≡ successOf sizes base file = check-succeeds sizes base file legal all complete in
@@ -105,7 +105,7 @@ module _ (sizes : Sizes) (base : ℕ) (file : List ℕ) where
       → FollowsRules sizes base file (checkFile sizes base file .identity) (fileRecords base file)
   accepted-follows bytes zero =
       let (rules, joined) = accepted-rules bytes zero in
-      record { sections = cutSections base file; rules = rules; bytes = joined; records = sym (records-are base file) }
+      record { sections = sectionsIn base file; rules = rules; bytes = joined; records = sym (records-are base file) }
 
 -- ---- back
 
@@ -131,7 +131,7 @@ module _ (sizes : Sizes) (base : ℕ) (identity : Identity) (lastTableId : ℕ) 
       ap₂ (λ (t : Section) (ts : List Section). t ∷ ts)
       (section-back sizes base identity lastTableId legal s (rules .0)) (sections-shown ss (rules .1))
 
-module _ (sizes : Sizes) (base : ℕ) (lengthFits : sizes .«section_limit» ≤ 4_096) (legal : base ≤ baseMost)
+module _ (sizes : Sizes) (base : ℕ) (lengthFits : sizes .«section_limit» ≤ 4_096) (legal : base ≤ baseDayMax)
     (identity : Identity) (ss : List Section) (rules : Rules sizes identity ss)
   where
     legal-file : Legal sizes base identity (rules .lastTableId)
@@ -142,31 +142,31 @@ module _ (sizes : Sizes) (base : ℕ) (lengthFits : sizes .«section_limit» ≤
     pub file-bytes : Bytes (fileBytes base ss)
     file-bytes = rw (bytes-are base ss) (sections-bytes base identity sizes (rules .lastTableId) ss (rules .sections))
 
-    pub cut-file-back : cutFile (fileBytes base ss) ≡ map (sectionBytes base) ss
-    unfolding cutFile
-    cut-file-back =
-        ap cutFile (bytes-are base ss)
-        ∙ cut-back statedSectionSize (map (sectionBytes base) ss)
+    pub split-file-back : splitFile (fileBytes base ss) ≡ map (sectionBytes base) ss
+    unfolding splitFile
+    split-file-back =
+        ap splitFile (bytes-are base ss)
+        ∙ split-back statedSectionSize (map (sectionBytes base) ss)
         (sections-stated sizes base identity (rules .lastTableId) legal-file ss
         (rules .sections))
 
     -- cutting the joined bytes of sections that keep the rules gives them back
-    pub cut-sections-back : cutSections base (fileBytes base ss) ≡ ss
-    cut-sections-back =
+    pub sections-in-back : sectionsIn base (fileBytes base ss) ≡ ss
+    sections-in-back =
         sections-are base (fileBytes base ss)
-        ∙ ap (map (sectionIn base)) cut-file-back
+        ∙ ap (map (sectionIn base)) split-file-back
         ∙ sections-shown sizes base identity (rules .lastTableId) legal-file ss
         (rules .sections)
 
     pub follows-records : fileRecords base (fileBytes base ss) ≡ recordsFrom 0 ss
-    follows-records = records-are base (fileBytes base ss) ∙ ap (recordsFrom 0) cut-sections-back
+    follows-records = records-are base (fileBytes base ss) ∙ ap (recordsFrom 0) sections-in-back
 
     pub follows-accepted : checkFile sizes base (fileBytes base ss) ≡ success identity (length (recordsFrom 0 ss))
     follows-accepted =
         let new : T (areNew [] (sectionEvents ss)) =
         order-new [] (sectionEvents ss) (record { rises = rules .rises; differ = rules .differ }) in
-        let accepts : Accepts sizes base identity atStart (cutFile (fileBytes base ss)) =
-        rw cut-file-back (all-back sizes base identity (rules .lastTableId) legal-file ss (rules .sections) (rules .ordered) new (rules .few)) in
+        let accepts : Accepts sizes base identity atStart (splitFile (fileBytes base ss)) =
+        rw split-file-back (all-back sizes base identity (rules .lastTableId) legal-file ss (rules .sections) (rules .ordered) new (rules .few)) in
         check-succeeds sizes base (fileBytes base ss) legal (accepts .all) (accepts .complete)
         ∙ ap₂ success (accepts .same) (seen-count base (fileBytes base ss) ∙ ap length follows-records)
 
@@ -197,16 +197,16 @@ module _ (sizes : Sizes) (base : ℕ) (file buffer : List ℕ) where
       → (checkFile sizes base file .number ≡ 0)
       × (read sizes base file buffer ≡ readingOf buffer (checkFile sizes base file .identity) (fileRecords base file))
       × (length (fileRecords base file) * recordSize ≤ length buffer)
-  read-accepted success-says =
+  read-accepted success-is =
       let agrees : read sizes base file buffer .answer ≡ checkFile sizes base file =
-      read-agrees sizes base file buffer (λ says. omega arith) in
-      let zero : checkFile sizes base file .number ≡ 0 = sym (ap (λ (a : Answer). a .number) agrees) ∙ success-says in
+      read-agrees sizes base file buffer (λ number-is. omega arith) in
+      let zero : checkFile sizes base file .number ≡ 0 = sym (ap (λ (a : Answer). a .number) agrees) ∙ success-is in
       let answer = accepted-answer sizes base file zero in
       let count : checkFile sizes base file .count ≡ length (fileRecords base file) = ap (λ (a : Answer). a .count) answer in
       let fits : checkFile sizes base file .count * recordSize ≤ length buffer =
       ⊎-elim (λ fits. fits)
       (λ short.
-      let says : read sizes base file buffer .answer .number ≡ 27 =
+      let number-is : read sizes base file buffer .answer .number ≡ 27 =
       ap (λ (r : Reading). r .answer .number) (read-short sizes base file buffer zero short) in
       absurd (omega arith))
       (le-or-lt (checkFile sizes base file .count * recordSize) (length buffer)) in (
@@ -228,7 +228,7 @@ module _ (sizes : Sizes) (base : ℕ) (file buffer : List ℕ) where
         subst (λ (qs : List Record). FollowsRules sizes base file identity qs × (length qs * recordSize ≤ length buffer)) records
         (follows, fits)
 
-    follows-reads : sizes .«section_limit» ≤ 4_096 → base ≤ baseMost → FollowsRules sizes base file identity rs
+    follows-reads : sizes .«section_limit» ≤ 4_096 → base ≤ baseDayMax → FollowsRules sizes base file identity rs
         → length rs * recordSize ≤ length buffer
         → read sizes base file buffer ≡ readingOf buffer identity rs
     follows-reads lengthFits legal f fits =
@@ -238,7 +238,7 @@ module _ (sizes : Sizes) (base : ℕ) (file buffer : List ℕ) where
     -- demand 2: for every legal base day, every file of bytes and every record buffer, Read succeeds with an identity and records
     -- exactly if the file follows the rules with these, and the records fit the buffer
     pub read-exact : sizes .«section_limit» ≤ 4_096
-        → base ≤ baseMost
+        → base ≤ baseDayMax
         → Bytes file
         → (read sizes base file buffer ≡ readingOf buffer identity rs)
         ↔ (FollowsRules sizes base file identity rs × (length rs * recordSize ≤ length buffer))

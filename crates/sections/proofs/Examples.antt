@@ -7,18 +7,18 @@ use Rattle.eit.specs.Chain.{isChain}
 use Rattle.eit.specs.Events.{follows}
 use Rattle.sections.specs.Section.{sectionEvents}
 use Rattle.sections.specs.Encode.{fileBytes}
-use Rattle.sections.specs.JudgeHeader.{isFramed, isClosed, isHeader, isInPlace}
-use Rattle.sections.specs.JudgeEvents.{isEvent, isEventLoop, isWithinLimit}
+use Rattle.sections.specs.HeaderTests.{isFramed, hasRightCrc, isHeader, hasRightNumbering}
+use Rattle.sections.specs.EventTests.{isEvent, isEventLoop, isWithinLimit}
 use Rattle.sections.specs.Count.{sectionsCounted, eventsCounted}
 use Rattle.sections.specs.Read.{read}
 use Rattle.sections.specs.Examples.{Examples}
 use Rattle.sections.specs.Broken.{Broken}
 
 pub examples : Examples
-unfolding read isFramed isClosed isHeader isInPlace isEvent isEventLoop isWithinLimit crc32 isChain follows fileBytes sectionsCounted eventsCounted
+unfolding read isFramed hasRightCrc isHeader hasRightNumbering isEvent isEventLoop isWithinLimit crc32 isChain follows fileBytes sectionsCounted eventsCounted
 examples =
     record {
-      places = (refl, refl, refl, refl, refl, refl);
+      first-sections = (refl, refl, refl, refl, refl, refl);
       tables = (refl, refl);
       firsts = (refl, refl, refl);
       event-bytes = (refl, refl, refl);

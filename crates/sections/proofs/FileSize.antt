@@ -11,20 +11,20 @@ use Rattle.eit.specs.Fields.{Bytes}
 use Rattle.eit.specs.declared.Identity.{Identity}
 use Rattle.eit.proofs.Test.{le-or-lt}
 use Rattle.sections.specs.Every.{Every}
-use Rattle.sections.specs.Segment.{tableMost}
+use Rattle.sections.specs.Segment.{tableMax}
 use Rattle.sections.specs.Section.{Header, Section, sectionSizes, headersOf}
-use Rattle.sections.specs.Decode.{cutSections}
+use Rattle.sections.specs.Decode.{sectionsIn}
 use Rattle.sections.specs.Rules.{Numbered, Next, Succeeding, SectionRules, Rules}
 use Rattle.sections.specs.Read.{checkFile}
 use Rattle.sections.proofs.Lengths.{file-length}
 use Rattle.sections.proofs.Exact.{accepted-rules}
 
--- a section's place among all that a file could have
-abbrev pub sectionPlace : Header → ℕ
-sectionPlace h = h .tableId * 256 + h .sectionNumber
+-- a section's key: its order by table and number among all that a file could have
+abbrev pub sectionKey : Header → ℕ
+sectionKey h = h .tableId * 256 + h .sectionNumber
 
 -- which rises from a section to the next
-pub next-later : (g h : Header) → Numbered g → g .lastSectionNumber < 256 → Next g h → sectionPlace g < sectionPlace h
+pub next-later : (g h : Header) → Numbered g → g .lastSectionNumber < 256 → Next g h → sectionKey g < sectionKey h
 next-later g h n byte next =
     ⊎-elim
     (λ ends. ⊎-elim
@@ -34,17 +34,17 @@ next-later g h n byte next =
     (λ inside. let (within, section, same) = next .segment inside in omega (arith, within .table))
     (le-or-lt (g .segmentLastSectionNumber) (g .sectionNumber))
 
-module _ (sizes : Sizes) (identity : Identity) (lastTableId : ℕ) (most : lastTableId ≤ tableMost) where
+module _ (sizes : Sizes) (identity : Identity) (lastTableId : ℕ) (most : lastTableId ≤ tableMax) where
   behind-few : (s : Section) (ss : List Section)
       → Every (SectionRules sizes identity lastTableId) (s ∷ ss)
       → Succeeding (s .header) (headersOf ss)
-      → sectionPlace (s .header) + length (s ∷ ss) ≤ (tableMost + 1) * 256
+      → sectionKey (s .header) + length (s ∷ ss) ≤ (tableMax + 1) * 256
   behind-few s [] rules succeeding =
       let h = rules .0 .headerRules in
       omega (arith, h .most, h .byte, h .numbered .segment, h .numbered .table)
   behind-few s (t ∷ ss) rules succeeding =
       let h = rules .0 .headerRules in
-      let later : sectionPlace (s .header) < sectionPlace (t .header) =
+      let later : sectionKey (s .header) < sectionKey (t .header) =
       next-later (s .header) (t .header) (h .numbered) (h .byte) (succeeding .0) in
       omega (arith, behind-few t ss (rules .1) (succeeding .1))
 
@@ -71,7 +71,7 @@ pub accepted-size : (sizes : Sizes) (base : ℕ) (file : List ℕ)
     → checkFile sizes base file .number ≡ 0
     → length file ≤ 16 * 256 * 4_096
 accepted-size sizes base file lengthFits bytes zero =
-    let ss : List Section = cutSections base file in
+    let ss : List Section = sectionsIn base file in
     let identity : Identity = checkFile sizes base file .identity in
     let (rules, joined) = accepted-rules sizes base file bytes zero in
     let size : length file ≡ sectionSizes ss = sym (ap length joined) ∙ file-length base ss in

@@ -20,14 +20,14 @@ use Rattle.eit.proofs.Sound.{RecordFacts, list-sound}
 use Rattle.sections.specs.Every.{Every}
 use Rattle.sections.specs.Section.{Section, sectionEvents}
 use Rattle.sections.specs.Encode.{fileBytes}
-use Rattle.sections.specs.Decode.{cutSections}
+use Rattle.sections.specs.Decode.{sectionsIn}
 use Rattle.sections.specs.Rules.{EventRules, Rules}
-use Rattle.sections.specs.Places.{recordsFrom, filePools}
+use Rattle.sections.specs.Offsets.{recordsFrom, filePools}
 use Rattle.sections.specs.Read.{checkFile, Reading, read, listOf}
 use Rattle.sections.specs.Exact.{readingOf}
 use Rattle.sections.proofs.Every.{every-map}
 use Rattle.sections.proofs.Exact.{records-are, accepted-rules, read-accepted}
-use Rattle.sections.proofs.Places.{records-count, records-ids, records-events, records-valid}
+use Rattle.sections.proofs.Offsets.{records-count, records-ids, records-events, records-valid}
 
 -- the laws of Places, for sections with nothing around them
 module _ (base : ℕ) (ss : List Section) (series : List ℕ) where
@@ -90,13 +90,13 @@ module _ (sizes : Sizes) (base : ℕ) (file buffer series : List ℕ) where
         let (rules, joined) = accepted-rules sizes base file bytes accepted in
         subst (λ (r : Reading). T (sound sizes (filePools file series) (listOf r)))
         (sym (is ∙ ap (readingOf buffer _) (records-are base file)))
-        (reading-sound _ (cutSections base file) rules joined (rw (records-are base file) at fits))
+        (reading-sound _ (sectionsIn base file) rules joined (rw (records-are base file) at fits))
 
     -- and its events are those of the sections that its bytes show
     pub accepted-events : eventsOf (filePools file series) (listOf (read sizes base file buffer))
-        ≡ sectionEvents (cutSections base file)
+        ≡ sectionEvents (sectionsIn base file)
     accepted-events =
         let (accepted, is, fits) = read-accepted sizes base file buffer zero in
         let (rules, joined) = accepted-rules sizes base file bytes accepted in
         ap (λ (r : Reading). eventsOf (filePools file series) (listOf r)) (is ∙ ap (readingOf buffer _) (records-are base file))
-        ∙ reading-events (checkFile sizes base file .identity) (cutSections base file) joined
+        ∙ reading-events (checkFile sizes base file .identity) (sectionsIn base file) joined

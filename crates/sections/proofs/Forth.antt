@@ -16,10 +16,10 @@ use Rattle.eit.proofs.Fields.{bytes-parts}
 use Rattle.sections.specs.Every.{Every}
 use Rattle.sections.specs.Section.{Header, headerIdentity, Section, headersOf, sectionEvents}
 use Rattle.sections.specs.Encode.{sectionBytes}
-use Rattle.sections.specs.Decode.{headerIn, eventIn, cutEvents, sectionIn}
+use Rattle.sections.specs.Decode.{headerIn, eventIn, splitEvents, sectionIn}
 use Rattle.sections.specs.Rules.{Numbered, Next, Succeeding, SectionRules, Rules}
-use Rattle.sections.specs.JudgeHeader.{isHeader, isInPlace}
-use Rattle.sections.specs.JudgeEvents.{areNew, isEventLoop, isWithinLimit}
+use Rattle.sections.specs.HeaderTests.{isHeader, hasRightNumbering}
+use Rattle.sections.specs.EventTests.{areNew, isEventLoop, isWithinLimit}
 use Rattle.sections.specs.Walk.{Progress, atStart, behind, behindAll}
 use Rattle.sections.specs.Read.{isComplete, identityOf}
 use Rattle.sections.proofs.SameFile.{SameFile, same-file}
@@ -39,7 +39,7 @@ pub shown-seen : (base : ℕ) (p : Progress) (xs : List (List ℕ))
 unfolding sectionEvents sectionIn
 shown-seen base p [] = refl
 shown-seen base p (bs ∷ rest) =
-    let es : List Event = map (eventIn base) (cutEvents bs) in
+    let es : List Event = map (eventIn base) (splitEvents bs) in
     let fs : List Event = sectionEvents (shown base rest) in
     shown-seen base (behind base p bs) rest
     ∙ sym (append-assoc (reverse fs) (reverse es) (p .seen))
@@ -51,7 +51,7 @@ module _ (sizes : Sizes) (base : ℕ) where
   unfolding sectionEvents sectionIn isEventLoop
   shown-new p [] all = tt
   shown-new p (bs ∷ rest) all =
-      let es : List Event = map (eventIn base) (cutEvents bs) in
+      let es : List Event = map (eventIn base) (splitEvents bs) in
       let loop = all .0 .loop in
       new-append (p .seen) es (sectionEvents (shown base rest)) (search tests) (shown-new (behind base p bs) rest (all .1))
 
@@ -61,10 +61,10 @@ module _ (sizes : Sizes) (base : ℕ) where
   unfolding sectionEvents sectionIn isWithinLimit
   shown-few p [] few all = omega arith
   shown-few p (bs ∷ rest) few all =
-      let es : List Event = map (eventIn base) (cutEvents bs) in
+      let es : List Event = map (eventIn base) (splitEvents bs) in
       let fs : List Event = sectionEvents (shown base rest) in
-      let count : length es ≡ length (cutEvents bs) = length-map (cutEvents bs) (eventIn base) in
-      let within : length (p .seen) + length (cutEvents bs) ≤ sizes .«event_limit» = leb→le _ _ (all .0 .limit) in
+      let count : length es ≡ length (splitEvents bs) = length-map (splitEvents bs) (eventIn base) in
+      let within : length (p .seen) + length (splitEvents bs) ≤ sizes .«event_limit» = leb→le _ _ (all .0 .limit) in
       let rest-few = shown-few (behind base p bs) rest (omega (arith, seen-length es (p .seen))) (all .1) in
       omega (arith, length-append es fs, seen-length es (p .seen))
 
@@ -93,7 +93,7 @@ module _ (sizes : Sizes) (base : ℕ) where
       → AllPass sizes base (behindHeader offset g seen) xs
       → T (isComplete (behindAll base (behindHeader offset g seen) xs .before))
       → RulesBehind g xs (behindAll base (behindHeader offset g seen) xs)
-  unfolding flatten isHeader isInPlace sectionIn
+  unfolding flatten isHeader hasRightNumbering sectionIn
   behind-forth offset g seen [] bytes numbered all complete =
       record { bytes = refl; rules = tt; succeeding = is-last g complete; identity = refl }
   behind-forth offset g seen (bs ∷ rest) bytes numbered all complete =
@@ -103,7 +103,7 @@ module _ (sizes : Sizes) (base : ℕ) where
       let (first, others) = bytes-parts bs (flatten rest) bytes in
       let this : Shown sizes base bs = section-forth sizes base p bs first (all .0) in
       let header = all .0 .header in
-      let place = all .0 .place in
+      let numbering = all .0 .numbering in
       let same : SameFile g h = same-file g h (search tests) in
       let sameIdentity : headerIdentity h ≡ headerIdentity g =
       (λ i. record { triplet = same .triplet i; version = same .version i }) in
@@ -120,7 +120,7 @@ module _ (sizes : Sizes) (base : ℕ) where
   pub all-forth : (xs : List (List ℕ)) → Bytes (flatten xs) → AllPass sizes base atStart xs
       → T (isComplete (behindAll base atStart xs .before))
       → (map (sectionBytes base) (shown base xs) ≡ xs) × Rules sizes (identityOf (behindAll base atStart xs .before)) (shown base xs)
-  unfolding flatten isInPlace sectionIn
+  unfolding flatten hasRightNumbering sectionIn
   all-forth [] bytes all complete = absurd complete
   all-forth (bs ∷ rest) bytes all complete =
       let q : Progress = behind base atStart bs in
@@ -128,7 +128,7 @@ module _ (sizes : Sizes) (base : ℕ) where
       let ss : List Section = shown base (bs ∷ rest) in
       let (first, others) = bytes-parts bs (flatten rest) bytes in
       let this : Shown sizes base bs = section-forth sizes base atStart bs first (all .0) in
-      let place = all .0 .place in
+      let numbering = all .0 .numbering in
       let behind = behind-forth (q .offset) h (q .seen) rest others (this .rules .headerRules .numbered) (all .1) complete in
       let order : InOrder (sectionEvents ss) =
       new-order [] (sectionEvents ss) (record { rises = tt; differ = tt }) (shown-new atStart (bs ∷ rest) all) in

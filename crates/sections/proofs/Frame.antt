@@ -15,7 +15,7 @@ use Rattle.eit.proofs.Overwrite.{over-length, over-after}
 use Rattle.eit.proofs.Records.{numbers-length}
 use Rattle.sections.specs.Read.{Answer, checkFile, Reading, fileRecords, read}
 use Rattle.sections.specs.Exact.{readingOf}
-use Rattle.sections.proofs.Read.{read-refused, read-short, read-agrees, read-says-27}
+use Rattle.sections.proofs.Read.{read-refused, read-short, read-agrees, read-27}
 use Rattle.sections.proofs.Exact.{read-accepted}
 
 module _ (sizes : Sizes) (base : ℕ) (file buffer : List ℕ) where
@@ -25,10 +25,10 @@ module _ (sizes : Sizes) (base : ℕ) (file buffer : List ℕ) where
       let number : ℕ = read sizes base file buffer .answer .number in
       ⊎-elim
       (λ t.
-      let (zero, short) = read-says-27 sizes base file buffer .0 (eqb→eq number 27 t) in
+      let (zero, short) = read-27 sizes base file buffer .0 (eqb→eq number 27 t) in
       ap (λ (r : Reading). r .buffer) (read-short sizes base file buffer zero short))
       (λ t.
-      let agrees = read-agrees sizes base file buffer (λ says. T-not (eqb number 27) t (eq-test number 27 says)) in
+      let agrees = read-agrees sizes base file buffer (λ number-is. T-not (eqb number 27) t (eq-test number 27 number-is)) in
       ap (λ (r : Reading). r .buffer)
       (read-refused sizes base file buffer (λ zero. refused (ap (λ (a : Answer). a .number) agrees ∙ zero))))
       (test-or (eqb number 27))

@@ -10,16 +10,16 @@ use mathlib.Core.List.{List, _++_}
 use lib.Dec.{T, eqb, eqb→eq}
 use lib.ListN.{length, take}
 use lib.Seq.{take-add}
-use Rattle.eit.specs.Limits.{versionMost}
+use Rattle.eit.specs.Limits.{versionMax}
 use Rattle.eit.specs.Fields.{Bytes, bigEndian, valueOf, bytesAt, field}
 use Rattle.eit.specs.declared.Identity.{Identity}
 use Rattle.eit.proofs.Fields.{value-back, field-fits, field-forth}
 use Rattle.eit.proofs.Test.{and-parts}
-use Rattle.sections.specs.Segment.{tableMost}
+use Rattle.sections.specs.Segment.{tableMax}
 use Rattle.sections.specs.Section.{Header}
 use Rattle.sections.specs.Encode.{lengthWord, versionByte, headerBytes}
 use Rattle.sections.specs.Decode.{statedSectionSize, headerIn}
-use Rattle.sections.specs.JudgeHeader.{hasFixedBits}
+use Rattle.sections.specs.HeaderTests.{hasFixedBits}
 use Rattle.sections.specs.Rules.{TripletRules, IdentityRules, HeaderRules}
 use Rattle.sections.proofs.Version.{version-fits}
 
@@ -33,12 +33,12 @@ pub record HeaderFits (h : Header) : Type 0 where
   pub segmentLast : h .segmentLastSectionNumber < 256
   pub lastTable : h .lastTableId < 256
   pub tripletRules : TripletRules (h .triplet)
-  pub version : h .version ≤ versionMost
+  pub version : h .version ≤ versionMax
 
 -- a header that keeps the rules fits
 pub rules-fit : (identity : Identity) (lastTableId : ℕ) (h : Header)
     → IdentityRules identity
-    → lastTableId ≤ tableMost
+    → lastTableId ≤ tableMax
     → HeaderRules identity lastTableId h
     → HeaderFits h
 rules-fit identity lastTableId h known most rules =
@@ -63,16 +63,16 @@ length-word-only : (w : ℕ) → w / 0x1000 ≡ 0xF → 0xF000 + (3 + w % 0x1000
 length-word-only w fixed = omega arith
 
 -- bits 11, 5 bits, bit 1
-version-byte : (v : ℕ) → v ≤ versionMost → versionByte v < 256
+version-byte : (v : ℕ) → v ≤ versionMax → versionByte v < 256
 version-byte v most = omega arith
 
-version-back : (v : ℕ) → v ≤ versionMost → versionByte v / 2 % 32 ≡ v
+version-back : (v : ℕ) → v ≤ versionMax → versionByte v / 2 % 32 ≡ v
 version-back v most = omega arith
 
-version-fixed : (v : ℕ) → v ≤ versionMost → (versionByte v / 64 ≡ 3) × (versionByte v % 2 ≡ 1)
+version-fixed : (v : ℕ) → v ≤ versionMax → (versionByte v / 64 ≡ 3) × (versionByte v % 2 ≡ 1)
 version-fixed v most = omega arith
 
-version-most : (b : ℕ) → b / 2 % 32 ≤ versionMost
+version-most : (b : ℕ) → b / 2 % 32 ≤ versionMax
 version-most b = omega arith
 
 version-only : (b : ℕ) → b / 64 ≡ 3 → b % 2 ≡ 1 → versionByte (b / 2 % 32) ≡ b
@@ -109,7 +109,7 @@ header-back size h rest fits =
     let t = h .triplet in
     let rules = fits .tripletRules in
     let v : ℕ = h .version in
-    let most : v ≤ versionMost = fits .version in
+    let most : v ≤ versionMax = fits .version in
     let byte : valueOf (bigEndian 1 (versionByte v)) ≡ versionByte v = byte-back (versionByte v) (version-byte v most) in
     let version : valueOf (bigEndian 1 (versionByte v)) / 2 % 32 ≡ v = rw byte (version-back v most) in
     λ k. record {
@@ -145,7 +145,7 @@ header-stated size h rest least most =
 pub header-fixed : (size : ℕ) (h : Header) (rest : List ℕ)
     → 3 ≤ size
     → size < 0x1003
-    → h .version ≤ versionMost
+    → h .version ≤ versionMax
     → T (hasFixedBits (headerBytes size h ++ rest))
 unfolding headerBytes
 header-fixed size h rest least most known =

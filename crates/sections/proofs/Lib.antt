@@ -7,7 +7,7 @@ pub mod Lengths
 -- the bytes of events and of sections in a row
 pub mod RowBytes
 -- bytes cut into pieces, and pieces joined
-pub mod Cut
+pub mod Split
 -- one event and its bytes
 pub mod EventBytes
 -- an event loop and its bytes
@@ -43,7 +43,7 @@ pub mod Frame
 -- how large an accepted file can be
 pub mod FileSize
 -- a file's records are its sections' events
-pub mod Places
+pub mod Offsets
 -- and a sound list
 pub mod FileSound
 -- sections and events in a segment: what counting them means

@@ -11,10 +11,10 @@ use native.Mathlib.Omega.{arith}
 use borrow.Author.Tests.{lt-ltb, le-ltb}
 use lib.Dec.{T, eqb, leb, eqb→eq, leb→le, le→leb}
 use Rattle.eit.proofs.Test.{tests, eq-test, and-both, and-parts, le-or-lt, or-left, or-right, or-cases}
-use Rattle.sections.specs.Segment.{tableLeast, firstOf}
+use Rattle.sections.specs.Segment.{tableFirst, firstOf}
 use Rattle.sections.specs.Section.{Header}
-use Rattle.sections.specs.JudgeHeader.{isNumbered, isAt, isNext}
-use Rattle.sections.specs.JudgeEvents.{isFilledOrAlone}
+use Rattle.sections.specs.HeaderTests.{isNumbered, isAt, isNext}
+use Rattle.sections.specs.EventTests.{isFilledOrAlone}
 use Rattle.sections.specs.Read.{isComplete}
 use Rattle.sections.specs.Rules.{Numbered, First, Within, Next, Last, Alone}
 
@@ -67,7 +67,7 @@ first-is h first = eq-tests _ _ _ _ (first .table) (first .section)
 
 pub is-first : (h : Header) → T (isNext none h) → First h
 is-first h t =
-    let (table, section) = tests-eq (h .tableId) tableLeast (h .sectionNumber) 0 t in
+    let (table, section) = tests-eq (h .tableId) tableFirst (h .sectionNumber) 0 t in
     record { table = table; section = section }
 
 -- ---- the next, behind a section that is itself numbered by the rules
@@ -134,8 +134,8 @@ module _ (g h : Header) where
       where
         segment : S < G → Within g h × (h .sectionNumber ≡ S + 1) × (h .segmentLastSectionNumber ≡ G)
         segment inside =
-            let place : Bool = isAt (g .tableId) (S + 1) L h in
-            let (here, same) = and-parts place (eqb (h .segmentLastSectionNumber) G) (rw (next-in-segment inside) at t) in
+            let at-next : Bool = isAt (g .tableId) (S + 1) L h in
+            let (here, same) = and-parts at-next (eqb (h .segmentLastSectionNumber) G) (rw (next-in-segment inside) at t) in
             let (within, section) = is-at (S + 1) here in
             (within, section, eqb→eq (h .segmentLastSectionNumber) G same)
 

@@ -13,13 +13,13 @@ use Rattle.eit.specs.declared.Sizes.{Sizes}
 use Rattle.eit.specs.declared.Identity.{Identity}
 use Rattle.eit.proofs.Test.{test-or, le-or-lt}
 use Rattle.sections.specs.Every.{Every}
-use Rattle.sections.specs.Segment.{tableLeast}
+use Rattle.sections.specs.Segment.{tableFirst}
 use Rattle.sections.specs.Section.{Header, versionOf, Section, headersOf, eventsBySection}
 use Rattle.sections.specs.Rules.{Numbered, Next, Succeeding, HeaderRules, SectionRules, Rules}
 use Rattle.sections.specs.Count.{isInFirst, segmentSections}
-use Rattle.sections.proofs.FileSize.{sectionPlace, next-later}
+use Rattle.sections.proofs.FileSize.{sectionKey, next-later}
 use Rattle.sections.proofs.Count.{index-of, in-first, first-in, first-more, first-same}
-use Rattle.sections.proofs.SegmentOrder.{segmentPlace, next-place, byte-number, behind-none}
+use Rattle.sections.proofs.SegmentOrder.{segmentKey, next-key, byte-number, behind-none}
 
 -- in each segment the sections hold the same events
 abbrev Agree : List Section → List Section → Type 0
@@ -33,17 +33,17 @@ Level g h = (g .tableId ≡ h .tableId) × (g .sectionNumber ≡ h .sectionNumbe
 
 -- its index
 abbrev headerIndex : Header → ℕ
-headerIndex h = (h .tableId - tableLeast) * 32 + h .sectionNumber / 8
+headerIndex h = (h .tableId - tableFirst) * 32 + h .sectionNumber / 8
 
-module _ (h : Header) (least : tableLeast ≤ h .tableId) (byte : h .sectionNumber < 256) where
-  index-start : segmentPlace (headerIndex h) ≡ sectionPlace h - sectionPlace h % 8
+module _ (h : Header) (least : tableFirst ≤ h .tableId) (byte : h .sectionNumber < 256) where
+  index-start : segmentKey (headerIndex h) ≡ sectionKey h - sectionKey h % 8
   index-start =
-      let (table, segment) = index-of (h .tableId - tableLeast) (h .sectionNumber / 8) (omega arith) in
+      let (table, segment) = index-of (h .tableId - tableFirst) (h .sectionNumber / 8) (omega arith) in
       omega arith
 
   index-inside : T (isInFirst (headerIndex h) 8 h)
   index-inside =
-      let (table, segment) = index-of (h .tableId - tableLeast) (h .sectionNumber / 8) (omega arith) in
+      let (table, segment) = index-of (h .tableId - tableFirst) (h .sectionNumber / 8) (omega arith) in
       first-in (headerIndex h) 8 h (omega arith) (omega arith) (omega arith)
 
 -- ---- one section less
@@ -81,18 +81,18 @@ module _ (s t : Section) (ss ts : List Section) (level : Level (s .header) (t .h
       (test-or (isInFirst index 8 (s .header)))
 
   -- and the first two hold the same events
-  heads-same : tableLeast ≤ s .header .tableId → s .header .sectionNumber < 256 → s .events ≡ t .events
+  heads-same : tableFirst ≤ s .header .tableId → s .header .sectionNumber < 256 → s .events ≡ t .events
   heads-same least byte = let both = heads-agree (headerIndex (s .header)) (index-inside (s .header) least byte) in cc
 
 -- ---- from a section to the next
 
 -- the next section tells the last numbers: its own where it is in the segment or in the table, else the section's number
-next-tells : (g h : Header) → Numbered g → g .lastSectionNumber < 256 → Next g h
-    → (((sectionPlace h / 8 ≡ sectionPlace g / 8) × (g .segmentLastSectionNumber ≡ h .segmentLastSectionNumber))
-    ⊎ ((sectionPlace g / 8 < sectionPlace h / 8) × (g .segmentLastSectionNumber ≡ g .sectionNumber)))
+next-cases : (g h : Header) → Numbered g → g .lastSectionNumber < 256 → Next g h
+    → (((sectionKey h / 8 ≡ sectionKey g / 8) × (g .segmentLastSectionNumber ≡ h .segmentLastSectionNumber))
+    ⊎ ((sectionKey g / 8 < sectionKey h / 8) × (g .segmentLastSectionNumber ≡ g .sectionNumber)))
     × (((h .tableId ≡ g .tableId) × (g .lastSectionNumber ≡ h .lastSectionNumber))
     ⊎ ((g .tableId < h .tableId) × (g .lastSectionNumber ≡ g .sectionNumber)))
-next-tells g h n byte next =
+next-cases g h n byte next =
     ⊎-elim
     (λ ends. ⊎-elim
     (λ last.
@@ -114,25 +114,25 @@ level-numbers : (g h next : Header) → Level g h → Numbered g → Numbered h 
     → Next g next → Next h next
     → (g .segmentLastSectionNumber ≡ h .segmentLastSectionNumber) × (g .lastSectionNumber ≡ h .lastSectionNumber)
 level-numbers g h next level m n few small one other =
-    let (segment, table) = next-tells g next m few one in
-    let (segment', table') = next-tells h next n small other in (
+    let (segment, table) = next-cases g next m few one in
+    let (segment', table') = next-cases h next n small other in (
       ⊎-elim (λ (a, b). ⊎-elim (λ (c, d). omega arith) (λ (c, d). absurd (omega arith)) segment')
           (λ (a, b). ⊎-elim (λ (c, d). absurd (omega arith)) (λ (c, d). omega arith) segment') segment,
       ⊎-elim (λ (a, b). ⊎-elim (λ (c, d). omega arith) (λ (c, d). absurd (omega arith)) table')
           (λ (a, b). ⊎-elim (λ (c, d). absurd (omega arith)) (λ (c, d). omega arith) table') table,
     )
 
--- the next place, or the first of a segment: the segment tells which
-place-only : (p q r : ℕ) → p < q → p < r → q / 8 ≡ r / 8 → (q ≡ p + 1) ⊎ (q % 8 ≡ 0) → (r ≡ p + 1) ⊎ (r % 8 ≡ 0) → q ≡ r
-place-only p q r later after same one other =
+-- the next key, or the first of a segment: the segment decides which
+next-key-only : (p q r : ℕ) → p < q → p < r → q / 8 ≡ r / 8 → (q ≡ p + 1) ⊎ (q % 8 ≡ 0) → (r ≡ p + 1) ⊎ (r % 8 ≡ 0) → q ≡ r
+next-key-only p q r later after same one other =
     ⊎-elim
     (λ next. ⊎-elim (λ also. omega arith) (λ first. omega arith) other)
     (λ first. ⊎-elim (λ next. omega arith) (λ also. omega arith) other)
     one
 
--- and a place tells table and section_number
-place-tells : (g h : Header) → g .sectionNumber < 256 → h .sectionNumber < 256 → sectionPlace g ≡ sectionPlace h → Level g h
-place-tells g h few small same = let table : g .tableId ≡ h .tableId = omega arith in (table, omega arith)
+-- and a key gives table and section_number
+key-level : (g h : Header) → g .sectionNumber < 256 → h .sectionNumber < 256 → sectionKey g ≡ sectionKey h → Level g h
+key-level g h few small same = let table : g .tableId ≡ h .tableId = omega arith in (table, omega arith)
 
 -- a section's header and events, field by field
 same-section : (s t : Section) → Level (s .header) (t .header)
@@ -173,11 +173,11 @@ module _ (sizes : Sizes) (identity : Identity) where
       → Every (SectionRules sizes identity l) (s ∷ ss) → SectionRules sizes identity m t
       → Succeeding (s .header) (headersOf ss)
       → Agree (s ∷ ss) (t ∷ ts)
-      → sectionPlace (s .header) / 8 ≤ sectionPlace (t .header) / 8
+      → sectionKey (s .header) / 8 ≤ sectionKey (t .header) / 8
   not-behind l m s t ss ts rules rule succeeding agree =
       let h : Header = t .header in
       let index : ℕ = headerIndex h in
-      let start : segmentPlace index ≡ sectionPlace h - sectionPlace h % 8 =
+      let start : segmentKey index ≡ sectionKey h - sectionKey h % 8 =
       index-start h (rule .headerRules .least) (byte-number sizes identity m index t rule) in
       ⊎-elim
       (λ behind.
@@ -185,7 +185,7 @@ module _ (sizes : Sizes) (identity : Identity) where
       behind-none sizes identity l index 8 (omega arith) s ss rules succeeding behind in
       absurd (omega (arith, first-there m t ts rule, ap length (sym (ap eventsBySection nothing) ∙ agree index))))
       (λ near. omega arith)
-      (le-or-lt (segmentPlace index + 8) (sectionPlace (s .header)))
+      (le-or-lt (segmentKey index + 8) (sectionKey (s .header)))
 
   module _ (l m : ℕ) where
     abbrev Ours : Section → Type 0
@@ -207,22 +207,22 @@ module _ (sizes : Sizes) (identity : Identity) where
         → Agree (s' ∷ ss) (t' ∷ ts)
         → Level (s' .header) (t' .header)
     next-level s t s' t' ss ts level ours theirs one other agree =
-        let p : ℕ = sectionPlace (s .header) in
-        let q : ℕ = sectionPlace (s' .header) in
-        let r : ℕ = sectionPlace (t' .header) in
+        let p : ℕ = sectionKey (s .header) in
+        let q : ℕ = sectionKey (s' .header) in
+        let r : ℕ = sectionKey (t' .header) in
         let g = ours .0 .headerRules in
         let h = theirs .0 .headerRules in
-        let place : sectionPlace (t .header) ≡ p = omega arith in
+        let key : sectionKey (t .header) ≡ p = omega arith in
         let later : p < q = next-later (s .header) (s' .header) (g .numbered) (g .byte) (one .0) in
         let after : p < r = omega (arith, next-later (t .header) (t' .header) (h .numbered) (h .byte) (other .0)) in
         let low : q / 8 ≤ r / 8 = not-behind l m s' t' ss ts (ours .1) (theirs .1 .0) (one .1) agree in
         let high : r / 8 ≤ q / 8 =
         not-behind m l t' s' ts ss (theirs .1) (ours .1 .0) (other .1) (λ index. sym (agree index)) in
-        place-tells (s' .header) (t' .header)
+        key-level (s' .header) (t' .header)
         (byte-number sizes identity l 0 s' (ours .1 .0)) (byte-number sizes identity m 0 t' (theirs .1 .0))
-        (place-only p q r later after (omega arith)
-        (⊎-elim (λ (inside, next). inl next) inr (next-place (s .header) (s' .header) (g .numbered) (one .0)))
-        (⊎-elim (λ (inside, next). inl (omega arith)) inr (next-place (t .header) (t' .header) (h .numbered) (other .0))))
+        (next-key-only p q r later after (omega arith)
+        (⊎-elim (λ (inside, next). inl next) inr (next-key (s .header) (s' .header) (g .numbered) (one .0)))
+        (⊎-elim (λ (inside, next). inl (omega arith)) inr (next-key (t .header) (t' .header) (h .numbered) (other .0))))
 
     -- so from there on all sections are the same
     sections-from : (s t : Section) (ss ts : List Section) → Level (s .header) (t .header)

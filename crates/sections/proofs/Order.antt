@@ -15,7 +15,7 @@ use Rattle.eit.proofs.Test.{tests, and-parts, and-both}
 use Rattle.eit.proofs.Among.{among-append, differ-snoc, differ-front}
 use Rattle.eit.proofs.Events.{rising-snoc, rising-front}
 use Rattle.sections.specs.Section.{eventIds}
-use Rattle.sections.specs.JudgeEvents.{isNew, areNew}
+use Rattle.sections.specs.EventTests.{isNew, areNew}
 
 -- starts rise strictly and ids differ
 pub record InOrder (es : List Event) : Type 0 where

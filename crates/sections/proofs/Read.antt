@@ -10,14 +10,14 @@ use borrow.Author.Tests.{le-leb, lt-leb, eq-eqb, ne-eqb}
 use lib.Dec.{T, eqb, eqb→eq, T-not}
 use lib.ListN.{length}
 use Rattle.eit.specs.declared.Sizes.{Sizes}
-use Rattle.eit.specs.Limits.{baseMost}
+use Rattle.eit.specs.Limits.{baseDayMax}
 use Rattle.eit.specs.Overwrite.{overwrite}
 use Rattle.eit.specs.Records.{recordSize, numbersOfAll}
 use Rattle.eit.proofs.Test.{true-is, false-is, test-or, le-or-lt, eq-test}
 use Rattle.eit.specs.declared.Record.{Record}
-use Rattle.sections.specs.Decode.{headerIn, cutFile}
-use Rattle.sections.specs.JudgeHeader.{isFramed, isClosed, isHeader, isInPlace}
-use Rattle.sections.specs.JudgeEvents.{isEventLoop, isWithinLimit}
+use Rattle.sections.specs.Decode.{headerIn, splitFile}
+use Rattle.sections.specs.HeaderTests.{isFramed, hasRightCrc, isHeader, hasRightNumbering}
+use Rattle.sections.specs.EventTests.{isEventLoop, isWithinLimit}
 use Rattle.sections.specs.Walk.{Progress, atStart, behindAll, Verdict, passed, refused, require, step, walk}
 use Rattle.sections.specs.Read.{isComplete, identityOf, Answer, success, refusal}
 use Rattle.sections.specs.Read.{atEnd, checkFile, Reading, fileRecords, fill, read}
@@ -40,9 +40,9 @@ module _ (sizes : Sizes) (base : ℕ) where
   unfolding step
   step-numbers p bs =
       require-numbers (isFramed sizes bs) 20 (p .offset) _ (omega arith) (omega arith)
-      (require-numbers (isClosed bs) 21 (p .offset) _ (omega arith) (omega arith)
+      (require-numbers (hasRightCrc bs) 21 (p .offset) _ (omega arith) (omega arith)
       (require-numbers (isHeader (p .before) bs) 22 (p .offset) _ (omega arith) (omega arith)
-      (require-numbers (isInPlace (p .before) (headerIn bs)) 23 (p .offset) _ (omega arith) (omega arith)
+      (require-numbers (hasRightNumbering (p .before) (headerIn bs)) 23 (p .offset) _ (omega arith) (omega arith)
       (require-numbers (isEventLoop base (p .seen) bs) 24 (p .offset) _ (omega arith) (omega arith)
       (require-numbers (isWithinLimit sizes (p .seen) bs) 26 (p .offset) _ (omega arith) (omega arith) tt)))))
 
@@ -73,36 +73,36 @@ end-succeeded size (passed p) numbers zero =
 module _ (sizes : Sizes) (base : ℕ) where
   -- the file is complete behind all of its sections
   abbrev pub Complete : List ℕ → Type 0
-  Complete file = T (isComplete (behindAll base atStart (cutFile file) .before))
+  Complete file = T (isComplete (behindAll base atStart (splitFile file) .before))
 
   -- what check returns of a file that it accepts
   abbrev pub successOf : List ℕ → Answer
   successOf file =
-      let end = behindAll base atStart (cutFile file) in
+      let end = behindAll base atStart (splitFile file) in
       success (identityOf (end .before)) (length (end .seen))
 
-  pub check-succeeds : (file : List ℕ) → base ≤ baseMost → AllPass sizes base atStart (cutFile file) → Complete file
+  pub check-succeeds : (file : List ℕ) → base ≤ baseDayMax → AllPass sizes base atStart (splitFile file) → Complete file
       → checkFile sizes base file ≡ successOf file
   unfolding checkFile
   check-succeeds file legal all complete =
-      rw (checkFile, le-leb base baseMost legal)
-      (ap (atEnd (length file)) (walk-passes sizes base atStart (cutFile file) all)
-      ∙ end-complete (length file) (behindAll base atStart (cutFile file)) complete)
+      rw (checkFile, le-leb base baseDayMax legal)
+      (ap (atEnd (length file)) (walk-passes sizes base atStart (splitFile file) all)
+      ∙ end-complete (length file) (behindAll base atStart (splitFile file)) complete)
 
   pub check-succeeded : (file : List ℕ) → checkFile sizes base file .number ≡ 0
-      → (base ≤ baseMost) × AllPass sizes base atStart (cutFile file) × Complete file
+      → (base ≤ baseDayMax) × AllPass sizes base atStart (splitFile file) × Complete file
   unfolding checkFile
   check-succeeded file zero =
       ⊎-elim
       (λ legal.
-      let ended : atEnd (length file) (walk sizes base atStart (cutFile file)) .number ≡ 0 =
-      rw (checkFile, le-leb base baseMost legal) at zero in
+      let ended : atEnd (length file) (walk sizes base atStart (splitFile file)) .number ≡ 0 =
+      rw (checkFile, le-leb base baseDayMax legal) at zero in
       let (p, is, complete) =
-      end-succeeded (length file) (walk sizes base atStart (cutFile file)) (walk-numbers sizes base atStart (cutFile file)) ended in
-      let (all, end) = walk-passed sizes base atStart p (cutFile file) is in
+      end-succeeded (length file) (walk sizes base atStart (splitFile file)) (walk-numbers sizes base atStart (splitFile file)) ended in
+      let (all, end) = walk-passed sizes base atStart p (splitFile file) is in
       (legal, all, rw end complete))
-      (λ above. let never : _≡_ {A = ℕ} 1 0 = rw (checkFile, lt-leb base baseMost above) at zero in absurd (omega arith))
-      (le-or-lt base baseMost)
+      (λ above. let never : _≡_ {A = ℕ} 1 0 = rw (checkFile, lt-leb base baseDayMax above) at zero in absurd (omega arith))
+      (le-or-lt base baseDayMax)
 
 end-numbers : (size : ℕ) (v : Verdict) → Numbers v → atEnd size v .number < 27
 end-numbers size (refused number offset) numbers = omega (arith, numbers .1)
@@ -116,15 +116,15 @@ pub check-below-27 : (sizes : Sizes) (base : ℕ) (file : List ℕ) → checkFil
 unfolding checkFile
 check-below-27 sizes base file =
     ⊎-elim
-    (λ legal. rw (checkFile, le-leb base baseMost legal)
-    (end-numbers (length file) (walk sizes base atStart (cutFile file)) (walk-numbers sizes base atStart (cutFile file))))
-    (λ above. rw (checkFile, lt-leb base baseMost above) (omega arith))
-    (le-or-lt base baseMost)
+    (λ legal. rw (checkFile, le-leb base baseDayMax legal)
+    (end-numbers (length file) (walk sizes base atStart (splitFile file)) (walk-numbers sizes base atStart (splitFile file))))
+    (λ above. rw (checkFile, lt-leb base baseDayMax above) (omega arith))
+    (le-or-lt base baseDayMax)
 
 -- 1 before all
-pub check-base : (sizes : Sizes) (base : ℕ) (file : List ℕ) → baseMost < base → checkFile sizes base file ≡ refusal 1 0
+pub check-base : (sizes : Sizes) (base : ℕ) (file : List ℕ) → baseDayMax < base → checkFile sizes base file ≡ refusal 1 0
 unfolding checkFile
-check-base sizes base file above = rw (checkFile, lt-leb base baseMost above)
+check-base sizes base file above = rw (checkFile, lt-leb base baseDayMax above)
 
 -- ---- Read
 
@@ -182,9 +182,9 @@ module _ (sizes : Sizes) (base : ℕ) (file buffer : List ℕ) where
       read-cases
 
   -- and Read says 27 exactly of a file that check accepts and whose records do not fit
-  pub read-says-27 : (read sizes base file buffer .answer .number ≡ 27)
+  pub read-27 : (read sizes base file buffer .answer .number ≡ 27)
       ↔ ((checkFile sizes base file .number ≡ 0) × (length buffer < checkFile sizes base file .count * recordSize))
-  read-says-27 = (
+  read-27 = (
     λ is. ⊎-elim
         (λ same.
         let check-27 : checkFile sizes base file .number ≡ 27 = sym (ap (λ (a : Answer). a .number) same) ∙ is in

@@ -6,7 +6,7 @@ use lib.Dec.{T, eqb, eqb→eq}
 use Rattle.eit.specs.declared.Triplet.{Triplet}
 use Rattle.eit.proofs.Test.{tests, eq-test}
 use Rattle.sections.specs.Section.{Header}
-use Rattle.sections.specs.JudgeHeader.{isSameFile}
+use Rattle.sections.specs.HeaderTests.{isSameFile}
 
 pub record SameFile (g h : Header) : Type 0 where
   pub triplet : h .triplet ≡ g .triplet

@@ -11,30 +11,30 @@ use lib.ListN.{length, take, drop, length-map}
 use lib.Seq.{take-at, drop-at}
 use Rattle.eit.specs.Sizes.{sectionOverhead}
 use Rattle.eit.specs.declared.Sizes.{Sizes}
-use Rattle.eit.specs.Limits.{baseMost}
+use Rattle.eit.specs.Limits.{baseDayMax}
 use Rattle.eit.specs.Fields.{Bytes, bigEndian}
 use Rattle.eit.specs.Crc.{crc32}
 use Rattle.eit.specs.Events.{Event}
 use Rattle.eit.specs.declared.Identity.{Identity}
 use Rattle.eit.proofs.Test.{tests, eq-test, and-both}
 use Rattle.eit.proofs.Fields.{bytes-append, big-endian-bytes}
-use Rattle.eit.proofs.Crc.{closed}
+use Rattle.eit.proofs.Crc.{crc-right}
 use Rattle.sections.specs.Every.{Every}
-use Rattle.sections.specs.Segment.{tableLeast, tableMost}
+use Rattle.sections.specs.Segment.{tableFirst, tableMax}
 use Rattle.sections.specs.Section.{Header, Section, headerSize, eventSizes, sectionSize}
-use Rattle.sections.specs.Cut.{cut}
+use Rattle.sections.specs.Split.{splitBy}
 use Rattle.sections.specs.Encode.{eventBytes, headerBytes, eventLoopBytes, coveredBytes, sectionBytes}
-use Rattle.sections.specs.Decode.{statedEventSize, eventIn, statedSectionSize, headerIn, eventLoop, cutEvents, sectionIn}
+use Rattle.sections.specs.Decode.{statedEventSize, eventIn, statedSectionSize, headerIn, eventLoop, splitEvents, sectionIn}
 use Rattle.sections.specs.Rules.{Alone, IdentityRules, EventRules, SectionRules}
-use Rattle.sections.specs.JudgeHeader.{isTable, isFramed, isClosed, hasFixedBits}
-use Rattle.sections.specs.JudgeHeader.{isSameFile, isHeader, isNumbered, isNext, isInPlace}
-use Rattle.sections.specs.JudgeEvents.{isFilledOrAlone, areEvents, areNew, isEventLoop, isWithinLimit}
+use Rattle.sections.specs.HeaderTests.{isTable, isFramed, hasRightCrc, hasFixedBits}
+use Rattle.sections.specs.HeaderTests.{isSameFile, isHeader, isNumbered, isNext, hasRightNumbering}
+use Rattle.sections.specs.EventTests.{isFilledOrAlone, areEvents, areNew, isEventLoop, isWithinLimit}
 use Rattle.sections.specs.Walk.{Progress, behind}
 use Rattle.sections.proofs.Every.{every-map}
 use Rattle.sections.proofs.Lengths.{loop-length, header-length, section-length}
-use Rattle.sections.proofs.Cut.{Stated}
+use Rattle.sections.proofs.Split.{Stated}
 use Rattle.sections.proofs.EventBytes.{Short}
-use Rattle.sections.proofs.EventLoop.{loop-bytes, loop-cut, sizes-short, events-back, events-are}
+use Rattle.sections.proofs.EventLoop.{loop-bytes, loop-split, sizes-short, events-back, events-are}
 use Rattle.sections.proofs.HeaderBytes.{HeaderFits, rules-fit, header-bytes, header-back, header-stated, header-fixed}
 use Rattle.sections.proofs.Numbering.{numbered-is, alone-is}
 use Rattle.sections.proofs.Walk.{Passes}
@@ -81,9 +81,9 @@ alone-back base h (e ∷ es) alone = tt
 -- the rules
 pub record Legal (sizes : Sizes) (base : ℕ) (identity : Identity) (lastTableId : ℕ) : Type 0 where
   pub lengthFits : sizes .«section_limit» ≤ 4_096
-  pub day : base ≤ baseMost
+  pub day : base ≤ baseDayMax
   pub identityRules : IdentityRules identity
-  pub lastTable : lastTableId ≤ tableMost
+  pub lastTable : lastTableId ≤ tableMax
 
 -- a section of such a file that keeps the rules
 module _ (sizes : Sizes) (base : ℕ) (identity : Identity) (lastTableId : ℕ) (legal : Legal sizes base identity lastTableId)
@@ -108,12 +108,12 @@ module _ (sizes : Sizes) (base : ℕ) (identity : Identity) (lastTableId : ℕ) 
         (header-length (sectionSize s) (s .header)))
         ∙ take-at (eventLoopBytes base (s .events)) (crcBytes base s) (eventSizes (s .events)) (loop-length base (s .events))
 
-    cut-events : cutEvents (sectionBytes base s) ≡ map (eventBytes base) (s .events)
-    unfolding cutEvents
-    cut-events = ap (cut statedEventSize) loop-back ∙ loop-cut base (s .events) short
+    split-events : splitEvents (sectionBytes base s) ≡ map (eventBytes base) (s .events)
+    unfolding splitEvents
+    split-events = ap (splitBy statedEventSize) loop-back ∙ loop-split base (s .events) short
 
-    events-shown : map (eventIn base) (cutEvents (sectionBytes base s)) ≡ s .events
-    events-shown = ap (map (eventIn base)) cut-events ∙ events-back base (legal .day) (s .header) (s .events) (rules .eventRules) short
+    events-shown : map (eventIn base) (splitEvents (sectionBytes base s)) ≡ s .events
+    events-shown = ap (map (eventIn base)) split-events ∙ events-back base (legal .day) (s .header) (s .events) (rules .eventRules) short
 
     -- its bytes show the section
     pub section-back : sectionIn base (sectionBytes base s) ≡ s
@@ -148,17 +148,17 @@ module _ (sizes : Sizes) (base : ℕ) (identity : Identity) (lastTableId : ℕ) 
         let least : T (leb sectionOverhead (length bs)) = le→leb sectionOverhead (length bs) (omega arith) in
         let most-bytes : T (leb (length bs) (sizes .«section_limit»)) =
         le→leb (length bs) (sizes .«section_limit») (omega (arith, legal .lengthFits, rules .size)) in
-        let low : T (leb tableLeast (headerIn bs .tableId)) =
-        le→leb tableLeast (headerIn bs .tableId) (omega (arith, rules .headerRules .least)) in
-        let high : T (leb (headerIn bs .tableId) tableMost) =
-        le→leb (headerIn bs .tableId) tableMost (omega (arith, legal .lastTable, rules .headerRules .most)) in
+        let low : T (leb tableFirst (headerIn bs .tableId)) =
+        le→leb tableFirst (headerIn bs .tableId) (omega (arith, rules .headerRules .least)) in
+        let high : T (leb (headerIn bs .tableId) tableMax) =
+        le→leb (headerIn bs .tableId) tableMax (omega (arith, legal .lastTable, rules .headerRules .most)) in
         search tests
 
-    closes : T (isClosed (sectionBytes base s))
-    unfolding isClosed
-    closes =
+    crc-passes : T (hasRightCrc (sectionBytes base s))
+    unfolding hasRightCrc
+    crc-passes =
         eq-test (crc32 (sectionBytes base s)) 0
-        (ap crc32 (section-is base s) ∙ closed (coveredBytes base s) (covered-bytes base s (rules .eventRules)))
+        (ap crc32 (section-is base s) ∙ crc-right (coveredBytes base s) (covered-bytes base s (rules .eventRules)))
 
     fixed : T (hasFixedBits (sectionBytes base s))
     fixed =
@@ -169,22 +169,22 @@ module _ (sizes : Sizes) (base : ℕ) (identity : Identity) (lastTableId : ℕ) 
     unfolding isHeader
     header-passes before same =
         let lastTable : T (isTable (s .header .lastTableId)) =
-        and-both (leb tableLeast (s .header .lastTableId)) (leb (s .header .lastTableId) tableMost)
-        (le→leb tableLeast (s .header .lastTableId)
+        and-both (leb tableFirst (s .header .lastTableId)) (leb (s .header .lastTableId) tableMax)
+        (le→leb tableFirst (s .header .lastTableId)
         (omega (arith, rules .headerRules .least, rules .headerRules .most, rules .headerRules .sameLastTable)))
-        (le→leb (s .header .lastTableId) tableMost (omega (arith, legal .lastTable, rules .headerRules .sameLastTable))) in
+        (le→leb (s .header .lastTableId) tableMax (omega (arith, legal .lastTable, rules .headerRules .sameLastTable))) in
         and-both (hasFixedBits (sectionBytes base s)) _ fixed
         (subst (λ (h : Header). T (isTable (h .lastTableId) && isSameFile before h)) (sym section-header)
         (and-both (isTable (s .header .lastTableId)) (isSameFile before (s .header)) lastTable same))
 
-    place-passes : (before : Option Header) → T (isNext before (s .header)) → T (isInPlace before (headerIn (sectionBytes base s)))
-    unfolding isInPlace
-    place-passes before next =
+    numbering-passes : (before : Option Header) → T (isNext before (s .header)) → T (hasRightNumbering before (headerIn (sectionBytes base s)))
+    unfolding hasRightNumbering
+    numbering-passes before next =
         let numbered : T (isNumbered (s .header)) = numbered-is (s .header) (rules .headerRules .numbered) in
         let table : T (leb (s .header .tableId) (s .header .lastTableId)) =
         le→leb (s .header .tableId) (s .header .lastTableId)
         (omega (arith, rules .headerRules .most, rules .headerRules .sameLastTable)) in
-        subst (λ (h : Header). T (isInPlace before h)) (sym section-header) (search tests)
+        subst (λ (h : Header). T (hasRightNumbering before h)) (sym section-header) (search tests)
 
     loop-passes : (seen : List Event) → T (areNew seen (s .events)) → T (isEventLoop base seen (sectionBytes base s))
     unfolding isEventLoop
@@ -193,15 +193,15 @@ module _ (sizes : Sizes) (base : ℕ) (identity : Identity) (lastTableId : ℕ) 
         events-are base (legal .day) (s .header) (s .events) (rules .eventRules) short in
         let alone : T (isFilledOrAlone (s .header) (map (eventBytes base) (s .events))) =
         alone-back base (s .header) (s .events) (rules .alone) in
-        rw (section-header, events-shown, cut-events) (search tests)
+        rw (section-header, events-shown, split-events) (search tests)
 
     limit-passes : (seen : List Event) → length seen + length (s .events) ≤ sizes .«event_limit»
         → T (isWithinLimit sizes seen (sectionBytes base s))
     unfolding isWithinLimit
     limit-passes seen few =
-        let count : length (cutEvents (sectionBytes base s)) ≡ length (s .events) =
-        ap length cut-events ∙ length-map (s .events) (eventBytes base) in
-        le→leb (length seen + length (cutEvents (sectionBytes base s))) (sizes .«event_limit») (omega arith)
+        let count : length (splitEvents (sectionBytes base s)) ≡ length (s .events) =
+        ap length split-events ∙ length-map (s .events) (eventBytes base) in
+        le→leb (length seen + length (splitEvents (sectionBytes base s))) (sizes .«event_limit») (omega arith)
 
     -- it passes where it stands in its place in the file
     pub section-passes : (p : Progress)
@@ -213,9 +213,9 @@ module _ (sizes : Sizes) (base : ℕ) (identity : Identity) (lastTableId : ℕ) 
     section-passes p same next new few =
         record {
           framed = framed;
-          closed = closes;
+          crc-right = crc-passes;
           header = header-passes (p .before) same;
-          place = place-passes (p .before) next;
+          numbering = numbering-passes (p .before) next;
           loop = loop-passes (p .seen) new;
           limit = limit-passes (p .seen) few;
         }

@@ -14,19 +14,19 @@ use Rattle.eit.specs.Crc.{crc32}
 use Rattle.eit.specs.Events.{Event}
 use Rattle.eit.proofs.Test.{tests}
 use Rattle.eit.proofs.Fields.{bytes-append, bytes-take, bytes-drop, field-bytes}
-use Rattle.eit.proofs.Crc.{closed-only}
+use Rattle.eit.proofs.Crc.{crc-right-only}
 use Rattle.sections.specs.Every.{Every}
-use Rattle.sections.specs.Segment.{tableLeast, tableMost}
+use Rattle.sections.specs.Segment.{tableFirst, tableMax}
 use Rattle.sections.specs.Section.{Header, headerIdentity, headerSize, sectionSize}
 use Rattle.sections.specs.Encode.{headerBytes, eventLoopBytes, coveredBytes, sectionBytes}
-use Rattle.sections.specs.Decode.{statedEventSize, eventIn, statedSectionSize, headerIn, eventLoop, cutEvents, sectionIn}
+use Rattle.sections.specs.Decode.{statedEventSize, eventIn, statedSectionSize, headerIn, eventLoop, splitEvents, sectionIn}
 use Rattle.sections.specs.Rules.{Alone, IdentityRules, EventRules, SectionRules}
-use Rattle.sections.specs.JudgeHeader.{isFramed, isClosed, hasFixedBits, isHeader, isNumbered, isInPlace}
-use Rattle.sections.specs.JudgeEvents.{isFilledOrAlone, areEvents, isEventLoop}
+use Rattle.sections.specs.HeaderTests.{isFramed, hasRightCrc, hasFixedBits, isHeader, isNumbered, hasRightNumbering}
+use Rattle.sections.specs.EventTests.{isFilledOrAlone, areEvents, isEventLoop}
 use Rattle.sections.specs.Walk.{Progress}
 use Rattle.sections.proofs.Version.{version-shown}
 use Rattle.sections.proofs.Lengths.{loop-length}
-use Rattle.sections.proofs.Cut.{cut-joined}
+use Rattle.sections.proofs.Split.{split-joined}
 use Rattle.sections.proofs.EventLoop.{events-forth}
 use Rattle.sections.proofs.HeaderBytes.{HeaderFits, header-fits, header-forth}
 use Rattle.sections.proofs.Numbering.{is-numbered, is-alone}
@@ -36,16 +36,16 @@ use Rattle.sections.proofs.Walk.{Passes}
 pub record Shown (sizes : Sizes) (base : ℕ) (bs : List ℕ) : Type 0 where
   pub bytes : sectionBytes base (sectionIn base bs) ≡ bs
   pub identityRules : IdentityRules (headerIdentity (headerIn bs))
-  pub lastTable : headerIn bs .lastTableId ≤ tableMost
+  pub lastTable : headerIn bs .lastTableId ≤ tableMax
   pub rules : SectionRules sizes (headerIdentity (headerIn bs)) (headerIn bs .lastTableId) (sectionIn base bs)
 
 alone-forth : (base : ℕ) (h : Header) (xs : List (List ℕ)) → T (isFilledOrAlone h xs) → map (eventIn base) xs ≡ [] → Alone h
 alone-forth base h [] t empty = is-alone h t
 alone-forth base h (x ∷ xs) t empty = let never : _≡_ {A = ℕ} 0 1 = cc in absurd (omega arith)
 
-loop-joined : (bs : List ℕ) → flatten (cutEvents bs) ≡ eventLoop bs
-unfolding cutEvents
-loop-joined bs = cut-joined statedEventSize (λ ds. omega arith) (eventLoop bs)
+loop-joined : (bs : List ℕ) → flatten (splitEvents bs) ≡ eventLoop bs
+unfolding splitEvents
+loop-joined bs = split-joined statedEventSize (λ ds. omega arith) (eventLoop bs)
 
 -- the four bytes behind the event loop
 abbrev closing : List ℕ → List ℕ
@@ -61,24 +61,24 @@ module _ (sizes : Sizes) (base : ℕ) (p : Progress) (bs : List ℕ) (bytes : By
   -- 20, part by part
   framed-parts : (length bs ≡ statedSectionSize bs) × (sectionOverhead ≤ length bs)
       × (length bs ≤ sizes .«section_limit»)
-      × (tableLeast ≤ headerIn bs .tableId)
+      × (tableFirst ≤ headerIn bs .tableId)
   unfolding isFramed
   framed-parts =
       let t = passes .framed in
       (eqb→eq _ _ (search tests), leb→le _ _ (search tests), leb→le _ _ (search tests), leb→le _ _ (search tests))
 
   -- 22
-  header-parts : T (hasFixedBits bs) × (headerIn bs .lastTableId ≤ tableMost)
+  header-parts : T (hasFixedBits bs) × (headerIn bs .lastTableId ≤ tableMax)
   unfolding isHeader
   header-parts = let t = passes .header in (search tests, leb→le _ _ (search tests))
 
   -- 23
-  place-parts : T (isNumbered (headerIn bs)) × (headerIn bs .tableId ≤ headerIn bs .lastTableId)
-  unfolding isInPlace
-  place-parts = let t = passes .place in (search tests, leb→le _ _ (search tests))
+  numbering-parts : T (isNumbered (headerIn bs)) × (headerIn bs .tableId ≤ headerIn bs .lastTableId)
+  unfolding hasRightNumbering
+  numbering-parts = let t = passes .numbering in (search tests, leb→le _ _ (search tests))
 
   -- 24
-  loop-parts : T (areEvents base (headerIn bs) (cutEvents bs)) × T (isFilledOrAlone (headerIn bs) (cutEvents bs))
+  loop-parts : T (areEvents base (headerIn bs) (splitEvents bs)) × T (isFilledOrAlone (headerIn bs) (splitEvents bs))
   unfolding isEventLoop
   loop-parts = let t = passes .loop in (search tests, search tests)
 
@@ -92,18 +92,18 @@ module _ (sizes : Sizes) (base : ℕ) (p : Progress) (bs : List ℕ) (bytes : By
   loop-is-bytes : Bytes (eventLoop bs)
   loop-is-bytes = field-bytes bs bytes headerSize (length bs - sectionOverhead)
 
-  loop-forth : (eventLoopBytes base (map (eventIn base) (cutEvents bs)) ≡ eventLoop bs)
-      × Every (EventRules (headerIn bs)) (map (eventIn base) (cutEvents bs))
+  loop-forth : (eventLoopBytes base (map (eventIn base) (splitEvents bs)) ≡ eventLoop bs)
+      × Every (EventRules (headerIn bs)) (map (eventIn base) (splitEvents bs))
   loop-forth =
-      let joined : flatten (cutEvents bs) ≡ eventLoop bs = loop-joined bs in
-      let inside : Bytes (flatten (cutEvents bs)) = rw joined loop-is-bytes in
-      let (same, rules) = events-forth base (headerIn bs) (cutEvents bs) inside (loop-parts .0) in
+      let joined : flatten (splitEvents bs) ≡ eventLoop bs = loop-joined bs in
+      let inside : Bytes (flatten (splitEvents bs)) = rw joined loop-is-bytes in
+      let (same, rules) = events-forth base (headerIn bs) (splitEvents bs) inside (loop-parts .0) in
       (same ∙ joined, rules)
 
   size-forth : sectionSize (sectionIn base bs) ≡ length bs
   unfolding sectionIn
   size-forth =
-      let events : List Event = map (eventIn base) (cutEvents bs) in
+      let events : List Event = map (eventIn base) (splitEvents bs) in
       omega (arith, loop-length base events, ap length (loop-forth .0), loop-size, framed-parts .1)
 
   covered-forth : coveredBytes base (sectionIn base bs) ≡ take headerSize bs ++ eventLoop bs
@@ -114,15 +114,15 @@ module _ (sizes : Sizes) (base : ℕ) (p : Progress) (bs : List ℕ) (bytes : By
       ∙ ap (λ (ds : List ℕ). ds ++ eventLoop bs) (header-forth bs bytes enough (header-parts .0))
 
   bytes-forth : sectionBytes base (sectionIn base bs) ≡ bs
-  unfolding sectionBytes isClosed
+  unfolding sectionBytes hasRightCrc
   bytes-forth =
       let covered : List ℕ = take headerSize bs ++ eventLoop bs in
       let four : length (closing bs) ≡ 4 = simp length-drop (omega (arith, framed-parts .1)) in
-      let zero : crc32 (covered ++ closing bs) ≡ 0 = rw (section-joined bs) (eqb→eq (crc32 bs) 0 (passes .closed)) in
+      let zero : crc32 (covered ++ closing bs) ≡ 0 = rw (section-joined bs) (eqb→eq (crc32 bs) 0 (passes .crc-right)) in
       let front : Bytes covered =
       bytes-append (take headerSize bs) (eventLoop bs) (bytes-take headerSize bs bytes) loop-is-bytes in
       let end : closing bs ≡ bigEndian 4 (crc32 covered) =
-      closed-only covered (closing bs) front
+      crc-right-only covered (closing bs) front
       (bytes-drop (length bs - sectionOverhead) (drop headerSize bs) (bytes-drop headerSize bs bytes)) four zero in
       ap (λ (ds : List ℕ). ds ++ bigEndian 4 (crc32 ds)) covered-forth
       ∙ ap (λ (ds : List ℕ). covered ++ ds) (sym end)
@@ -144,12 +144,12 @@ module _ (sizes : Sizes) (base : ℕ) (p : Progress) (bs : List ℕ) (bytes : By
                     sameVersion = version-shown (headerIn bs) (headerIn bs .tableId);
                     sameLastTable = refl;
                     least = framed-parts .3;
-                    most = place-parts .1;
-                    numbered = is-numbered (headerIn bs) (place-parts .0);
+                    most = numbering-parts .1;
+                    numbered = is-numbered (headerIn bs) (numbering-parts .0);
                     byte = fits .last;
                   };
               eventRules = loop-forth .1;
-              alone = alone-forth base (headerIn bs) (cutEvents bs) (loop-parts .1);
+              alone = alone-forth base (headerIn bs) (splitEvents bs) (loop-parts .1);
               size = rw size-forth (framed-parts .2);
             };
       }

@@ -72,11 +72,11 @@ module _ (index : ℕ) (s : Section) (ss : List Section) where
 -- ---- sections that keep the rules
 
 module _ (sizes : Sizes) (identity : Identity) (lastTableId : ℕ) where
-  abbrev Kept : Section → Type 0
-  Kept s = SectionRules sizes identity lastTableId s
+  abbrev KeepsRules : Section → Type 0
+  KeepsRules s = SectionRules sizes identity lastTableId s
 
   -- a segment that has sections from a section on is in no table before that section's
-  table-least : (j : ℕ) (s : Section) (ss : List Section) → Every Kept (s ∷ ss) → Succeeding (s .header) (headersOf ss)
+  table-least : (j : ℕ) (s : Section) (ss : List Section) → Every KeepsRules (s ∷ ss) → Succeeding (s .header) (headersOf ss)
       → 0 < length (segmentSections j (s ∷ ss))
       → s .header .tableId ≤ tableOf j
   table-least j s [] rules succeeding some =
@@ -90,7 +90,7 @@ module _ (sizes : Sizes) (identity : Identity) (lastTableId : ℕ) where
       (next-segment (s .header) (t .header) (rules .0 .headerRules .numbered) (succeeding .0)))
       (some-where j s (t ∷ ss) some)
 
-  ordered-begins : (ss : List Section) → Every Kept ss → Ordered (headersOf ss) → 0 < length (segmentSections 0 ss)
+  ordered-begins : (ss : List Section) → Every KeepsRules ss → Ordered (headersOf ss) → 0 < length (segmentSections 0 ss)
   ordered-begins [] rules ordered = absurd ordered
   ordered-begins (s ∷ ss) rules ordered =
       let first = ordered .0 in
@@ -98,7 +98,7 @@ module _ (sizes : Sizes) (identity : Identity) (lastTableId : ℕ) where
 
   module _ (i j : ℕ) (early : i ≤ j) (near : (i / 32 ≡ j / 32) ⊎ (i % 32 ≡ 0)) where
     -- a section in segment i, or one before it, with segment j in the rest
-    here-or-before : (s : Section) (ss : List Section) → Kept s → segmentAt (s .header) ≤ indexAt i
+    here-or-before : (s : Section) (ss : List Section) → KeepsRules s → segmentAt (s .header) ≤ indexAt i
         → 0 < length (segmentSections j (s ∷ ss))
         → (0 < length (segmentSections i (s ∷ ss))) ⊎ ((segmentAt (s .header) < indexAt i) × (0 < length (segmentSections j ss)))
     here-or-before s ss rules least some =
@@ -113,7 +113,7 @@ module _ (sizes : Sizes) (identity : Identity) (lastTableId : ℕ) where
         (le-or-lt (indexAt i) (segmentAt (s .header)))
 
     -- the next section does not pass segment i: in a table behind it there is no section of segment j
-    next-least : (s t : Section) (ss : List Section) → Every Kept (s ∷ t ∷ ss) → Succeeding (s .header) (headersOf (t ∷ ss))
+    next-least : (s t : Section) (ss : List Section) → Every KeepsRules (s ∷ t ∷ ss) → Succeeding (s .header) (headersOf (t ∷ ss))
         → segmentAt (s .header) < indexAt i
         → 0 < length (segmentSections j (t ∷ ss))
         → segmentAt (t .header) ≤ indexAt i
@@ -125,7 +125,7 @@ module _ (sizes : Sizes) (identity : Identity) (lastTableId : ℕ) where
         (next-segment (s .header) (t .header) (rules .0 .headerRules .numbered) (succeeding .0))
 
     -- so segment i has sections from a section on that is not behind it, if segment j has
-    from-between : (s : Section) (ss : List Section) → Every Kept (s ∷ ss) → Succeeding (s .header) (headersOf ss)
+    from-between : (s : Section) (ss : List Section) → Every KeepsRules (s ∷ ss) → Succeeding (s .header) (headersOf ss)
         → segmentAt (s .header) ≤ indexAt i
         → 0 < length (segmentSections j (s ∷ ss))
         → 0 < length (segmentSections i (s ∷ ss))
@@ -139,7 +139,7 @@ module _ (sizes : Sizes) (identity : Identity) (lastTableId : ℕ) where
         (from-between t ss (rules .1) (succeeding .1) (next-least s t ss rules succeeding before rest) rest))
         (here-or-before s (t ∷ ss) (rules .0) least some)
 
-    ordered-between : (ss : List Section) → Every Kept ss → Ordered (headersOf ss) → 0 < length (segmentSections j ss)
+    ordered-between : (ss : List Section) → Every KeepsRules ss → Ordered (headersOf ss) → 0 < length (segmentSections j ss)
         → 0 < length (segmentSections i ss)
     ordered-between [] rules ordered some = absurd ordered
     ordered-between (s ∷ ss) rules ordered some =

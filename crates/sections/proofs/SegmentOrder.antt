@@ -19,40 +19,40 @@ use Rattle.sections.specs.Segment.{tableOf, firstSection}
 use Rattle.sections.specs.Section.{Header, Section, headersOf}
 use Rattle.sections.specs.Rules.{Numbered, Next, Succeeding, Ordered, SectionRules, Rules}
 use Rattle.sections.specs.Count.{isInFirst, firstSections, segmentSections}
-use Rattle.sections.proofs.FileSize.{sectionPlace, next-later}
+use Rattle.sections.proofs.FileSize.{sectionKey, next-later}
 use Rattle.sections.proofs.Count.{in-first, first-in, first-more, first-same}
 
 -- ---- places of a segment's sections
 
--- the place of a segment's first section
-abbrev pub segmentPlace : ℕ → ℕ
-segmentPlace index = tableOf index * 256 + firstSection index
+-- the key of a segment's first section
+abbrev pub segmentKey : ℕ → ℕ
+segmentKey index = tableOf index * 256 + firstSection index
 
--- a place among a segment's first k tells table and section_number
-place-in : (index k table S : ℕ) → k ≤ 8 → S < 256 → segmentPlace index ≤ table * 256 + S → table * 256 + S < segmentPlace index + k
+-- a key among those of a segment's first k gives table and section_number
+key-in : (index k table S : ℕ) → k ≤ 8 → S < 256 → segmentKey index ≤ table * 256 + S → table * 256 + S < segmentKey index + k
     → (table ≡ tableOf index) × (firstSection index ≤ S) × (S < firstSection index + k)
-place-in index k table S few byte least most =
+key-in index k table S few byte least most =
     let same : table ≡ tableOf index = omega arith in
     (same, omega arith, omega arith)
 
 module _ (index k : ℕ) (few : k ≤ 8) (s : Section) (ss : List Section) (byte : s .header .sectionNumber < 256) where
-  first-inside : segmentPlace index ≤ sectionPlace (s .header) → sectionPlace (s .header) < segmentPlace index + k
+  first-inside : segmentKey index ≤ sectionKey (s .header) → sectionKey (s .header) < segmentKey index + k
       → firstSections index k (s ∷ ss) ≡ s ∷ firstSections index k ss
   first-inside least most =
-      let (table, low, high) = place-in index k (s .header .tableId) (s .header .sectionNumber) few byte least most in
+      let (table, low, high) = key-in index k (s .header .tableId) (s .header .sectionNumber) few byte least most in
       first-more index k s ss (first-in index k (s .header) table low high)
 
-  first-outside : (segmentPlace index ≤ sectionPlace (s .header) → sectionPlace (s .header) < segmentPlace index + k → ⊥)
+  first-outside : (segmentKey index ≤ sectionKey (s .header) → sectionKey (s .header) < segmentKey index + k → ⊥)
       → firstSections index k (s ∷ ss) ≡ firstSections index k ss
   first-outside outside =
       first-same index k s ss
       (not-T (isInFirst index k (s .header))
       (λ inside. let (table, low, high) = in-first index k (s .header) inside in outside (omega arith) (omega arith)))
 
--- the next section has the next place in the segment, or is the first of a later segment
-pub next-place : (g h : Header) → Numbered g → Next g h
-    → ((g .sectionNumber < g .segmentLastSectionNumber) × (sectionPlace h ≡ sectionPlace g + 1)) ⊎ (sectionPlace h % 8 ≡ 0)
-next-place g h n next =
+-- the next section has the next key, or is the first of a later segment
+pub next-key : (g h : Header) → Numbered g → Next g h
+    → ((g .sectionNumber < g .segmentLastSectionNumber) × (sectionKey h ≡ sectionKey g + 1)) ⊎ (sectionKey h % 8 ≡ 0)
+next-key g h n next =
     ⊎-elim
     (λ ends. ⊎-elim
     (λ last. let (table, section) = next .tables (omega (arith, n .segment, n .table)) in inr (omega arith))
@@ -62,64 +62,64 @@ next-place g h n next =
     (le-or-lt (g .segmentLastSectionNumber) (g .sectionNumber))
 
 -- a first section of a segment that is past one segment's start is past that segment
-first-later : (index place : ℕ) → place % 8 ≡ 0 → segmentPlace index < place → segmentPlace index + 8 ≤ place
-first-later index place first later = omega arith
+first-later : (index key : ℕ) → key % 8 ≡ 0 → segmentKey index < key → segmentKey index + 8 ≤ key
+first-later index key first later = omega arith
 
--- ---- how many of k places from a start on are not before a place
+-- ---- how many of k keys from a start on are not before a key
 
 abbrev left : ℕ → ℕ → ℕ → ℕ
-left start k place = k - (place - start)
+left start k key = k - (key - start)
 
-module _ (start k place : ℕ) where
-  left-before : place < start → left start k (suc place) ≡ left start k place
+module _ (start k key : ℕ) where
+  left-before : key < start → left start k (suc key) ≡ left start k key
   left-before before = omega arith
 
-  left-inside : start ≤ place → place < start + k → suc (left start k (suc place)) ≡ left start k place
+  left-inside : start ≤ key → key < start + k → suc (left start k (suc key)) ≡ left start k key
   left-inside least most = omega arith
 
-  left-none : start + k ≤ place → left start k place ≡ 0
+  left-none : start + k ≤ key → left start k key ≡ 0
   left-none behind = omega arith
 
-  left-early : (next : ℕ) → place < next → next ≤ start → left start k next ≡ left start k (suc place)
+  left-early : (next : ℕ) → key < next → next ≤ start → left start k next ≡ left start k (suc key)
   left-early next later early = omega arith
 
 -- the first k from a section on, where they are known behind it
 one-taken : (index k : ℕ) → k ≤ 8 → (s : Section) (ss : List Section) → s .header .sectionNumber < 256
-    → firstSections index k ss ≡ take (left (segmentPlace index) k (suc (sectionPlace (s .header)))) (segmentSections index ss)
-    → firstSections index k (s ∷ ss) ≡ take (left (segmentPlace index) k (sectionPlace (s .header)))
+    → firstSections index k ss ≡ take (left (segmentKey index) k (suc (sectionKey (s .header)))) (segmentSections index ss)
+    → firstSections index k (s ∷ ss) ≡ take (left (segmentKey index) k (sectionKey (s .header)))
     (segmentSections index (s ∷ ss))
 one-taken index k few s ss byte rest =
-    ⊎-elim (λ least. ⊎-elim behind (inside least) (le-or-lt (start + k) place)) before (le-or-lt start place)
+    ⊎-elim (λ least. ⊎-elim behind (inside least) (le-or-lt (start + k) key)) before (le-or-lt start key)
   where
     start : ℕ
-    start = segmentPlace index
+    start = segmentKey index
 
-    place : ℕ
-    place = sectionPlace (s .header)
+    key : ℕ
+    key = sectionKey (s .header)
 
     goal : Type 0
-    goal = firstSections index k (s ∷ ss) ≡ take (left start k place) (segmentSections index (s ∷ ss))
+    goal = firstSections index k (s ∷ ss) ≡ take (left start k key) (segmentSections index (s ∷ ss))
 
-    before : place < start → goal
+    before : key < start → goal
     before early =
         first-outside index k few s ss byte (λ least most. omega arith)
         ∙ rest
-        ∙ ap₂ (λ (n : ℕ) (ts : List Section). take n ts) (left-before start k place early)
+        ∙ ap₂ (λ (n : ℕ) (ts : List Section). take n ts) (left-before start k key early)
         (sym (first-outside index 8 (omega arith) s ss byte (λ least most. omega arith)))
 
-    inside : start ≤ place → place < start + k → goal
+    inside : start ≤ key → key < start + k → goal
     inside least most =
         first-inside index k few s ss byte least most
         ∙ ap (λ (ts : List Section). s ∷ ts) rest
-        ∙ ap₂ (λ (n : ℕ) (ts : List Section). take n ts) (left-inside start k place least most)
+        ∙ ap₂ (λ (n : ℕ) (ts : List Section). take n ts) (left-inside start k key least most)
         (sym (first-inside index 8 (omega arith) s ss byte least (omega arith)))
 
-    behind : start + k ≤ place → goal
+    behind : start + k ≤ key → goal
     behind late =
         first-outside index k few s ss byte (λ least most. omega arith)
         ∙ rest
-        ∙ ap (λ (n : ℕ). take n (segmentSections index ss)) (left-none start k (suc place) (omega arith))
-        ∙ ap (λ (n : ℕ). take n (segmentSections index (s ∷ ss))) (sym (left-none start k place late))
+        ∙ ap (λ (n : ℕ). take n (segmentSections index ss)) (left-none start k (suc key) (omega arith))
+        ∙ ap (λ (n : ℕ). take n (segmentSections index (s ∷ ss))) (sym (left-none start k key late))
 
 -- ---- sections with and without events
 
@@ -148,38 +148,38 @@ module _ (index : ℕ) (s : Section) (ss : List Section) where
 -- ---- sections that keep the rules
 
 module _ (sizes : Sizes) (identity : Identity) (lastTableId index : ℕ) where
-  abbrev Kept : Section → Type 0
-  Kept s = SectionRules sizes identity lastTableId s
+  abbrev KeepsRules : Section → Type 0
+  KeepsRules s = SectionRules sizes identity lastTableId s
 
-  pub byte-number : (s : Section) → Kept s → s .header .sectionNumber < 256
+  pub byte-number : (s : Section) → KeepsRules s → s .header .sectionNumber < 256
   byte-number s rules =
       let h = rules .headerRules in
       omega (arith, h .numbered .segment, h .numbered .table, h .byte)
 
-  later : (s t : Section) → Kept s → Next (s .header) (t .header) → sectionPlace (s .header) < sectionPlace (t .header)
+  later : (s t : Section) → KeepsRules s → Next (s .header) (t .header) → sectionKey (s .header) < sectionKey (t .header)
   later s t rules next = next-later (s .header) (t .header) (rules .headerRules .numbered) (rules .headerRules .byte) next
 
-  -- none of the first k from a place behind them on
-  pub behind-none : (k : ℕ) → k ≤ 8 → (s : Section) (ss : List Section) → Every Kept (s ∷ ss) → Succeeding (s .header) (headersOf ss)
-      → segmentPlace index + k ≤ sectionPlace (s .header)
+  -- none of the first k from a key behind them on
+  pub behind-none : (k : ℕ) → k ≤ 8 → (s : Section) (ss : List Section) → Every KeepsRules (s ∷ ss) → Succeeding (s .header) (headersOf ss)
+      → segmentKey index + k ≤ sectionKey (s .header)
       → firstSections index k (s ∷ ss) ≡ []
   behind-none k few s [] rules succeeding behind =
       first-outside index k few s [] (byte-number s (rules .0)) (λ least most. omega arith)
   behind-none k few s (t ∷ ss) rules succeeding behind =
-      let next : sectionPlace (s .header) < sectionPlace (t .header) = later s t (rules .0) (succeeding .0) in
+      let next : sectionKey (s .header) < sectionKey (t .header) = later s t (rules .0) (succeeding .0) in
       first-outside index k few s (t ∷ ss) (byte-number s (rules .0)) (λ least most. omega arith)
       ∙ behind-none k few t ss (rules .1) (succeeding .1) (omega arith)
 
   -- ---- the first k are the first k in the file's order
 
   -- the first k behind a section
-  rest-taken : (k : ℕ) → k ≤ 8 → (s : Section) (ss : List Section) → Every Kept (s ∷ ss) → Succeeding (s .header) (headersOf ss)
-      → firstSections index k ss ≡ take (left (segmentPlace index) k (suc (sectionPlace (s .header)))) (segmentSections index ss)
-  rest-taken k few s [] rules succeeding = sym (take-nil (left (segmentPlace index) k (suc (sectionPlace (s .header)))))
+  rest-taken : (k : ℕ) → k ≤ 8 → (s : Section) (ss : List Section) → Every KeepsRules (s ∷ ss) → Succeeding (s .header) (headersOf ss)
+      → firstSections index k ss ≡ take (left (segmentKey index) k (suc (sectionKey (s .header)))) (segmentSections index ss)
+  rest-taken k few s [] rules succeeding = sym (take-nil (left (segmentKey index) k (suc (sectionKey (s .header)))))
   rest-taken k few s (t ∷ ss) rules succeeding =
-      let start : ℕ = segmentPlace index in
-      let p : ℕ = sectionPlace (s .header) in
-      let q : ℕ = sectionPlace (t .header) in
+      let start : ℕ = segmentKey index in
+      let p : ℕ = sectionKey (s .header) in
+      let q : ℕ = sectionKey (t .header) in
       let next : p < q = later s t (rules .0) (succeeding .0) in
       let taken : firstSections index k (t ∷ ss) ≡ take (left start k q) (segmentSections index (t ∷ ss)) =
       one-taken index k few t ss (byte-number t (rules .1 .0)) (rest-taken k few t ss (rules .1) (succeeding .1)) in
@@ -193,13 +193,13 @@ module _ (sizes : Sizes) (identity : Identity) (lastTableId index : ℕ) where
       ∙ sym (take-nil (left start k (suc p)))
       ∙ ap (take (left start k (suc p))) (sym (behind-none 8 (omega arith) t ss (rules .1) (succeeding .1) behind)))
       (le-or-lt q start))
-      (next-place (s .header) (t .header) (rules .0 .headerRules .numbered) (succeeding .0))
+      (next-key (s .header) (t .header) (rules .0 .headerRules .numbered) (succeeding .0))
 
-  ordered-taken : (k : ℕ) → k ≤ 8 → (ss : List Section) → Every Kept ss → Ordered (headersOf ss)
+  ordered-taken : (k : ℕ) → k ≤ 8 → (ss : List Section) → Every KeepsRules ss → Ordered (headersOf ss)
       → firstSections index k ss ≡ take k (segmentSections index ss)
   ordered-taken k few [] rules ordered = absurd ordered
   ordered-taken k few (s ∷ ss) rules ordered =
-      let all : left (segmentPlace index) k (sectionPlace (s .header)) ≡ k =
+      let all : left (segmentKey index) k (sectionKey (s .header)) ≡ k =
       omega (arith, ordered .0 .table, ordered .0 .section) in
       one-taken index k few s ss (byte-number s (rules .0)) (rest-taken k few s ss rules (ordered .1))
       ∙ ap (λ (n : ℕ). take n (segmentSections index (s ∷ ss))) all
@@ -207,52 +207,52 @@ module _ (sizes : Sizes) (identity : Identity) (lastTableId index : ℕ) where
   -- ---- they hold events each, or there is one alone
 
   -- a section without events is its segment's first
-  first-alone : (s : Section) → Kept s → s .events ≡ [] → sectionPlace (s .header) % 8 ≡ 0
+  first-alone : (s : Section) → KeepsRules s → s .events ≡ [] → sectionKey (s .header) % 8 ≡ 0
   first-alone s rules none = let alone = rules .alone none in omega (arith, alone .number)
 
   -- so one past a segment's first, and in that segment, has events
-  one-filled : (s : Section) (ss : List Section) → Kept s → segmentPlace index < sectionPlace (s .header)
+  one-filled : (s : Section) (ss : List Section) → KeepsRules s → segmentKey index < sectionKey (s .header)
       → Every Filled (segmentSections index ss)
       → Every Filled (segmentSections index (s ∷ ss))
   one-filled s ss rules past rest =
       ⊎-elim
       (λ none.
-      let behind : segmentPlace index + 8 ≤ sectionPlace (s .header) =
-      first-later index (sectionPlace (s .header)) (first-alone s rules none) past in
+      let behind : segmentKey index + 8 ≤ sectionKey (s .header) =
+      first-later index (sectionKey (s .header)) (first-alone s rules none) past in
       let same : segmentSections index (s ∷ ss) ≡ segmentSections index ss =
       first-outside index 8 (omega arith) s ss (byte-number s rules) (λ least most. omega arith) in
       subst (Every Filled) (sym same) rest)
       (λ some. more-filled index s ss some rest)
       (none-or-some (s .events))
 
-  -- all behind a segment's first place have events
-  rest-filled : (s : Section) (ss : List Section) → Every Kept (s ∷ ss) → Succeeding (s .header) (headersOf ss)
-      → segmentPlace index ≤ sectionPlace (s .header)
+  -- all behind a segment's first key have events
+  rest-filled : (s : Section) (ss : List Section) → Every KeepsRules (s ∷ ss) → Succeeding (s .header) (headersOf ss)
+      → segmentKey index ≤ sectionKey (s .header)
       → Every Filled (segmentSections index ss)
   rest-filled s [] rules succeeding past = tt
   rest-filled s (t ∷ ss) rules succeeding past =
-      let next : sectionPlace (s .header) < sectionPlace (t .header) = later s t (rules .0) (succeeding .0) in
+      let next : sectionKey (s .header) < sectionKey (t .header) = later s t (rules .0) (succeeding .0) in
       one-filled t ss (rules .1 .0) (omega arith) (rest-filled t ss (rules .1) (succeeding .1) (omega arith))
 
   -- behind a section without events the next segment begins
-  next-first : (s t : Section) → Kept s → Next (s .header) (t .header) → s .events ≡ [] → sectionPlace (t .header) % 8 ≡ 0
+  next-first : (s t : Section) → KeepsRules s → Next (s .header) (t .header) → s .events ≡ [] → sectionKey (t .header) % 8 ≡ 0
   next-first s t rules next none =
       let alone = rules .alone none in
       ⊎-elim (λ (inside, one). absurd (omega (arith, alone .number, alone .last))) (λ first. first)
-      (next-place (s .header) (t .header) (rules .headerRules .numbered) next)
+      (next-key (s .header) (t .header) (rules .headerRules .numbered) next)
 
   -- a segment's first section has events, or its next is outside
-  all-filled : (s : Section) (ss : List Section) → Every Kept (s ∷ ss) → Succeeding (s .header) (headersOf ss)
+  all-filled : (s : Section) (ss : List Section) → Every KeepsRules (s ∷ ss) → Succeeding (s .header) (headersOf ss)
       → (length (segmentSections index (s ∷ ss)) ≤ 1) ⊎ Every Filled (segmentSections index (s ∷ ss))
   all-filled s [] rules succeeding = inl (one-more index s [] refl)
   all-filled s (t ∷ ss) rules succeeding =
-      let next : sectionPlace (s .header) < sectionPlace (t .header) = later s t (rules .0) (succeeding .0) in
+      let next : sectionKey (s .header) < sectionKey (t .header) = later s t (rules .0) (succeeding .0) in
       ⊎-elim
       (λ past. ⊎-elim
       (λ none.
-      let first : sectionPlace (t .header) % 8 ≡ 0 = next-first s t (rules .0) (succeeding .0) none in
-      let behind : segmentPlace index + 8 ≤ sectionPlace (t .header) =
-      first-later index (sectionPlace (t .header)) first (omega arith) in
+      let first : sectionKey (t .header) % 8 ≡ 0 = next-first s t (rules .0) (succeeding .0) none in
+      let behind : segmentKey index + 8 ≤ sectionKey (t .header) =
+      first-later index (sectionKey (t .header)) first (omega arith) in
       inl (one-more index s (t ∷ ss) (behind-none 8 (omega arith) t ss (rules .1) (succeeding .1) behind)))
       (λ some. inr (more-filled index s (t ∷ ss) some (rest-filled s (t ∷ ss) rules succeeding past)))
       (none-or-some (s .events)))
@@ -260,9 +260,9 @@ module _ (sizes : Sizes) (identity : Identity) (lastTableId index : ℕ) where
       let same : segmentSections index (s ∷ t ∷ ss) ≡ segmentSections index (t ∷ ss) =
       first-outside index 8 (omega arith) s (t ∷ ss) (byte-number s (rules .0)) (λ least most. omega arith) in
       subst (λ (ts : List Section). (length ts ≤ 1) ⊎ Every Filled ts) (sym same) (all-filled t ss (rules .1) (succeeding .1)))
-      (le-or-lt (segmentPlace index) (sectionPlace (s .header)))
+      (le-or-lt (segmentKey index) (sectionKey (s .header)))
 
-  ordered-filled : (ss : List Section) → Every Kept ss → Ordered (headersOf ss)
+  ordered-filled : (ss : List Section) → Every KeepsRules ss → Ordered (headersOf ss)
       → (length (segmentSections index ss) ≤ 1) ⊎ Every Filled (segmentSections index ss)
   ordered-filled [] rules ordered = absurd ordered
   ordered-filled (s ∷ ss) rules ordered = all-filled s ss rules (ordered .1)

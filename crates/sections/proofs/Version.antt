@@ -2,7 +2,7 @@
 -- version for all tables. Assumes nothing.
 use mathlib.Core.Path.{_≡_, refl, _∙_}
 use Prim.Native.Nat.{ℕ, _≤_}
-use Rattle.eit.specs.Limits.{versionMost}
+use Rattle.eit.specs.Limits.{versionMax}
 use Rattle.eit.specs.declared.Identity.{Identity}
 use Rattle.sections.specs.Section.{Header, versionOf, headerIdentity}
 use Rattle.sections.specs.Rules.{IdentityRules}
@@ -17,7 +17,7 @@ unfolding versionOf
 versions-same identity table other = refl
 
 -- the version of an identity that keeps the rules fits its 5 bits
-pub version-fits : (identity : Identity) (table : ℕ) → IdentityRules identity → versionOf identity table ≤ versionMost
+pub version-fits : (identity : Identity) (table : ℕ) → IdentityRules identity → versionOf identity table ≤ versionMax
 version-fits identity table rules = rw (version-of identity table) (rules .version)
 
 -- a header has the version of the identity that it shows

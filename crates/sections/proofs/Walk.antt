@@ -9,16 +9,16 @@ use lib.Dec.{T}
 use Rattle.eit.specs.declared.Sizes.{Sizes}
 use Rattle.eit.proofs.Test.{true-is}
 use Rattle.sections.specs.Decode.{headerIn}
-use Rattle.sections.specs.JudgeHeader.{isFramed, isClosed, isHeader, isInPlace}
-use Rattle.sections.specs.JudgeEvents.{isEventLoop, isWithinLimit}
+use Rattle.sections.specs.HeaderTests.{isFramed, hasRightCrc, isHeader, hasRightNumbering}
+use Rattle.sections.specs.EventTests.{isEventLoop, isWithinLimit}
 use Rattle.sections.specs.Walk.{Progress, behind, behindAll, Verdict, passed, refused, require, step, walk}
 
 -- one section passes all six tests
 pub record Passes (sizes : Sizes) (base : ℕ) (p : Progress) (bs : List ℕ) : Type 0 where
   pub framed : T (isFramed sizes bs)
-  pub closed : T (isClosed bs)
+  pub crc-right : T (hasRightCrc bs)
   pub header : T (isHeader (p .before) bs)
-  pub place : T (isInPlace (p .before) (headerIn bs))
+  pub numbering : T (hasRightNumbering (p .before) (headerIn bs))
   pub loop : T (isEventLoop base (p .seen) bs)
   pub limit : T (isWithinLimit sizes (p .seen) bs)
 
@@ -35,9 +35,9 @@ module _ (sizes : Sizes) (base : ℕ) where
       rw (
         step,
         true-is (isFramed sizes bs) (t .framed),
-        true-is (isClosed bs) (t .closed),
+        true-is (hasRightCrc bs) (t .crc-right),
         true-is (isHeader (p .before) bs) (t .header),
-        true-is (isInPlace (p .before) (headerIn bs)) (t .place),
+        true-is (hasRightNumbering (p .before) (headerIn bs)) (t .numbering),
         true-is (isEventLoop base (p .seen) bs) (t .loop),
         true-is (isWithinLimit sizes (p .seen) bs) (t .limit),
       )
@@ -47,12 +47,12 @@ module _ (sizes : Sizes) (base : ℕ) where
   unfolding step
   step-passed p q bs e =
       let (framed, e20) = require-passed (isFramed sizes bs) 20 (p .offset) _ q e in
-      let (closed, e21) = require-passed (isClosed bs) 21 (p .offset) _ q e20 in
+      let (crc-right, e21) = require-passed (hasRightCrc bs) 21 (p .offset) _ q e20 in
       let (header, e22) = require-passed (isHeader (p .before) bs) 22 (p .offset) _ q e21 in
-      let (place, e23) = require-passed (isInPlace (p .before) (headerIn bs)) 23 (p .offset) _ q e22 in
+      let (numbering, e23) = require-passed (hasRightNumbering (p .before) (headerIn bs)) 23 (p .offset) _ q e22 in
       let (loop, e24) = require-passed (isEventLoop base (p .seen) bs) 24 (p .offset) _ q e23 in
       let (limit, e26) = require-passed (isWithinLimit sizes (p .seen) bs) 26 (p .offset) _ q e24 in
-      (record { framed = framed; closed = closed; header = header; place = place; loop = loop; limit = limit }, cc)
+      (record { framed = framed; crc-right = crc-right; header = header; numbering = numbering; loop = loop; limit = limit }, cc)
 
   -- every section passes, with those before it known
   abbrev pub AllPass : Progress → List (List ℕ) → Type 0

@@ -23,12 +23,12 @@ numbered S G L =
     }
 
 -- two events of a second without descriptors, each with its id and start, in one section
-abbrev pub bareEvent : ℕ → ℕ → Event
-bareEvent id start = record { id = id; start = start; duration = 1; offAir = false; freeCa = false; chain = [] }
+abbrev pub plainEvent : ℕ → ℕ → Event
+plainEvent id start = record { id = id; start = start; duration = 1; offAir = false; freeCa = false; chain = [] }
 
 abbrev pub twoEvents : ℕ × ℕ → ℕ × ℕ → List Section
 twoEvents (id, start) (otherId, otherStart) =
-    record { header = numbered 0 0 0; events = bareEvent id start ∷ bareEvent otherId otherStart ∷ [] } ∷ []
+    record { header = numbered 0 0 0; events = plainEvent id start ∷ plainEvent otherId otherStart ∷ [] } ∷ []
 
 pub record Broken : Type 0 where
   -- a ninth section in a segment; a table that ends within a segment's eight numbers; an empty section that is not

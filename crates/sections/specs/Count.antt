@@ -8,7 +8,7 @@ use lib.ListN.{length}
 use Rattle.eit.specs.Events.{Event}
 use Rattle.sections.specs.Segment.{segmentIndex, tableOf, firstSection}
 use Rattle.sections.specs.Section.{Header, Section, sectionEvents}
-use Rattle.sections.specs.Decode.{cutSections}
+use Rattle.sections.specs.Decode.{sectionsIn}
 
 -- a section of the segment with this index: one with that segment's table and section_number from s0 up to s0 + k − 1
 abbrev pub isInFirst : ℕ → ℕ → Header → Bool
@@ -34,10 +34,10 @@ segmentSections index ss = firstSections index 8 ss
 
 -- how many sections a file has in a segment
 unfoldable pub sectionsCounted : ℕ → List ℕ → ℕ → ℕ
-unfolding cutSections
-sectionsCounted base file index = length (segmentSections index (cutSections base file))
+unfolding sectionsIn
+sectionsCounted base file index = length (segmentSections index (sectionsIn base file))
 
 -- how many events the first k sections of a file hold in a segment
 unfoldable pub eventsCounted : ℕ → List ℕ → ℕ → ℕ → ℕ
-unfolding cutSections sectionEvents
-eventsCounted base file index k = length (sectionEvents (firstSections index k (cutSections base file)))
+unfolding sectionsIn sectionEvents
+eventsCounted base file index k = length (sectionEvents (firstSections index k (sectionsIn base file)))

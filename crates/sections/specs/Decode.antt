@@ -10,7 +10,7 @@ use Rattle.eit.specs.Time.{secondsOf, startOf}
 use Rattle.eit.specs.Pools.{odd}
 use Rattle.eit.specs.Events.{Event}
 use Rattle.sections.specs.Section.{Header, Section, headerSize, eventOverhead}
-use Rattle.sections.specs.Cut.{cut}
+use Rattle.sections.specs.Split.{splitBy}
 
 -- ---- an event
 
@@ -62,24 +62,24 @@ headerIn bs =
 abbrev pub eventLoop : List ℕ → List ℕ
 eventLoop bs = bytesAt headerSize (length bs - sectionOverhead) bs
 
--- the same, cut into events
-unfoldable pub cutEvents : List ℕ → List (List ℕ)
-unfolding cut
-cutEvents bs = cut statedEventSize (eventLoop bs)
+-- the same, split into events
+unfoldable pub splitEvents : List ℕ → List (List ℕ)
+unfolding splitBy
+splitEvents bs = splitBy statedEventSize (eventLoop bs)
 
 -- the section that some bytes show
 unfoldable pub sectionIn : ℕ → List ℕ → Section
-unfolding cutEvents
-sectionIn base bs = record { header = headerIn bs; events = map (eventIn base) (cutEvents bs) }
+unfolding splitEvents
+sectionIn base bs = record { header = headerIn bs; events = map (eventIn base) (splitEvents bs) }
 
 -- ---- a file
 
 -- a file is sections joined: the bytes of each
-unfoldable pub cutFile : List ℕ → List (List ℕ)
-unfolding cut
-cutFile file = cut statedSectionSize file
+unfoldable pub splitFile : List ℕ → List (List ℕ)
+unfolding splitBy
+splitFile file = splitBy statedSectionSize file
 
 -- and the sections that they show
-unfoldable pub cutSections : ℕ → List ℕ → List Section
-unfolding cutFile sectionIn
-cutSections base file = map (sectionIn base) (cutFile file)
+unfoldable pub sectionsIn : ℕ → List ℕ → List Section
+unfolding splitFile sectionIn
+sectionsIn base file = map (sectionIn base) (splitFile file)

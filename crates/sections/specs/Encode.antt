@@ -63,7 +63,7 @@ unfoldable pub coveredBytes : ℕ → Section → List ℕ
 unfolding headerBytes eventLoopBytes
 coveredBytes base s = headerBytes (sectionSize s) (s .header) ++ eventLoopBytes base (s .events)
 
--- a section: CRC_32 over it leaves 0 (`closed` of eit)
+-- a section: CRC_32 over it leaves 0 (`crc-right` of eit)
 unfoldable pub sectionBytes : ℕ → Section → List ℕ
 unfolding coveredBytes
 sectionBytes base s = coveredBytes base s ++ bigEndian 4 (crc32 (coveredBytes base s))

@@ -13,7 +13,7 @@ use Rattle.eit.specs.declared.Record.{Record}
 use Rattle.sections.specs.Section.{Section}
 use Rattle.sections.specs.Encode.{fileBytes}
 use Rattle.sections.specs.Rules.{Rules}
-use Rattle.sections.specs.Places.{recordsFrom}
+use Rattle.sections.specs.Offsets.{recordsFrom}
 use Rattle.sections.specs.Read.{Reading, success, read}
 
 -- "Read, with 12,288 numbers for records": a number of its own, the same under every sizes
@@ -28,7 +28,7 @@ RecordBuffer buffer = length buffer ≡ acceptedNumbers
 abbrev pub Accepted : Sizes → ℕ → List ℕ → Type 0
 Accepted sizes base file = (buffer : List ℕ) → RecordBuffer buffer → read sizes base file buffer .answer .number ≡ 0
 
--- the file is the joined bytes of some sections that keep the rules, and the records are their events at their places in it
+-- the file is the joined bytes of some sections that keep the rules, and the records are their events at their offsets in it
 pub record FollowsRules (sizes : Sizes) (base : ℕ) (file : List ℕ) (identity : Identity) (rs : List Record) : Type 0 where
   pub sections : List Section
   pub rules : Rules sizes identity sections

@@ -1,4 +1,4 @@
--- Segments, sections and files computed (01, "The file of sections"): places of starts, bytes of data, records of
+-- Segments, sections and files computed (01, "The file of sections"): segments of starts, bytes of data, records of
 -- bytes, counts in segments, files that a rival may have made, and some that Read refuses. The value is in
 -- proofs/Examples.antt. Assumes nothing.
 use Prim.Native.Nat.{ℕ}
@@ -8,16 +8,16 @@ use mathlib.Core.List.{List, [], _∷_, _++_}
 use Rattle.eit.specs.Sizes.{broadcast}
 use Rattle.eit.specs.Events.{Event}
 use Rattle.eit.specs.declared.Identity.{Identity}
-use Rattle.sections.specs.Segment.{tableLeast, tableMost, segmentIndex, tableOf, firstSection, firstOf}
+use Rattle.sections.specs.Segment.{tableFirst, tableMax, segmentIndex, tableOf, firstSection, firstOf}
 use Rattle.sections.specs.Encode.{eventBytes, fileBytes}
 use Rattle.sections.specs.Count.{sectionsCounted, eventsCounted}
 use Rattle.sections.specs.Read.{checkFile, read}
-use Rattle.sections.specs.Files.{section, withBits, event, withEvent, one, hour, bare, noon, rival, full}
-use Rattle.sections.specs.Files.{says, acceptedWith, refusedWith}
+use Rattle.sections.specs.Files.{section, withBits, eventAt, withEvent, startAtOne, oneHour, noDescriptors, planSampleFile, rival, full}
+use Rattle.sections.specs.Files.{checkAnswer, acceptedWith, refusedWith}
 
 -- the table of a start, and the first section of its segment
-abbrev pub startPlace : ℕ → ℕ × ℕ
-startPlace start = (tableOf (segmentIndex start), firstSection (segmentIndex start))
+abbrev pub tableAndSection : ℕ → ℕ × ℕ
+tableAndSection start = (tableOf (segmentIndex start), firstSection (segmentIndex start))
 
 abbrev pub identity : Identity
 identity = record { triplet = record { «service_id» = 1; «transport_stream_id» = 2; «original_network_id» = 3 }; version = 0 }
@@ -38,9 +38,9 @@ markedRead status = read broadcast 49_273 (section 0x50 0 0 0 0x50 (markedBytes 
 
 pub record Examples : Type 0 where
   -- table and first section of the segment that a start lies in
-  pub places : (startPlace 0 ≡ (0x50, 0)) × (startPlace 10_799 ≡ (0x50, 0)) × (startPlace 10_800 ≡ (0x50, 8))
-      × (startPlace 345_599 ≡ (0x50, 248)) × (startPlace 345_600 ≡ (0x51, 0)) × (startPlace 5_529_599 ≡ (0x5F, 248))
-  pub tables : (tableLeast ≡ 0x50) × (tableMost ≡ 0x5F)
+  pub first-sections : (tableAndSection 0 ≡ (0x50, 0)) × (tableAndSection 10_799 ≡ (0x50, 0)) × (tableAndSection 10_800 ≡ (0x50, 8))
+      × (tableAndSection 345_599 ≡ (0x50, 248)) × (tableAndSection 345_600 ≡ (0x51, 0)) × (tableAndSection 5_529_599 ≡ (0x5F, 248))
+  pub tables : (tableFirst ≡ 0x50) × (tableMax ≡ 0x5F)
   pub firsts : (firstOf 7 ≡ 0) × (firstOf 8 ≡ 8) × (firstOf 255 ≡ 248)
   -- running_status 5 for off air, free_CA, and both
   pub event-bytes : (eventBytes 49_273 (marked true false) ≡ markedBytes 0xA0)
@@ -65,12 +65,12 @@ pub record Examples : Type 0 where
       ≡ 0x51 ∷ 0xF0 ∷ 0x0F ∷ 0x11 ∷ 0x22 ∷ 0xCB ∷ 0x09 ∷ 0x10 ∷ 0x33 ∷ 0x44 ∷ 0x55 ∷ 0x66 ∷ 0x0A ∷ 0x52
       ∷ 0x11 ∷ 0xA6 ∷ 0x7E ∷ 0x17 ∷ []
   pub one-event :
-      read broadcast 49_273 noon (9 ∷ 9 ∷ 9 ∷ 9 ∷ 9 ∷ 9 ∷ 9 ∷ [])
+      read broadcast 49_273 planSampleFile (9 ∷ 9 ∷ 9 ∷ 9 ∷ 9 ∷ 9 ∷ 9 ∷ [])
       ≡ record { answer = acceptedWith 1; buffer = 1 ∷ 45_900 ∷ 6_330 ∷ 0 ∷ 98 ∷ 0 ∷ 9 ∷ [] }
-  pub answered : says (section 0x50 0 0 0 0x50 (event 1 0x00 0x00)) ≡ acceptedWith 1
-  pub refused : says (section 0x50 0 0 0 0x50 [] ++ (0x50 ∷ [])) ≡ refusedWith 20 18
+  pub answered : checkAnswer (section 0x50 0 0 0 0x50 (eventAt 1 0x00 0x00)) ≡ acceptedWith 1
+  pub refused : checkAnswer (section 0x50 0 0 0 0x50 [] ++ (0x50 ∷ [])) ≡ refusedWith 20 18
   pub full-accepted :
-      says full
+      checkAnswer full
       ≡ record {
         number = 0;
         value = 8;
@@ -91,16 +91,16 @@ pub record Examples : Type 0 where
   pub held : (eventsCounted 49_273 rival 0 1 ≡ 1) × (eventsCounted 49_273 rival 0 8 ≡ 3)
   -- Read's refusals: current_next 0; a segment left out; an event of another segment; the id of an event in an
   -- earlier section; a broken event loop that also passes the limit of events
-  pub current-next : says (withBits 0xF0 0xC0) ≡ refusedWith 22 0
-  pub skipped-segment : says (section 0x50 0 16 0 0x50 [] ++ section 0x50 16 16 16 0x50 []) ≡ refusedWith 23 18
-  pub other-segment : says (section 0x50 0 0 0 0x50 (event 1 0x03 0x00)) ≡ refusedWith 24 0
+  pub current-next : checkAnswer (withBits 0xF0 0xC0) ≡ refusedWith 22 0
+  pub skipped-segment : checkAnswer (section 0x50 0 16 0 0x50 [] ++ section 0x50 16 16 16 0x50 []) ≡ refusedWith 23 18
+  pub other-segment : checkAnswer (section 0x50 0 0 0 0x50 (eventAt 1 0x03 0x00)) ≡ refusedWith 24 0
   pub same-id-apart :
-      says (section 0x50 0 8 0 0x50 (event 1 0x00 0x00) ++ section 0x50 8 8 8 0x50 (event 1 0x03 0x00)) ≡ refusedWith 24 30
+      checkAnswer (section 0x50 0 8 0 0x50 (eventAt 1 0x00 0x00) ++ section 0x50 8 8 8 0x50 (eventAt 1 0x03 0x00)) ≡ refusedWith 24 30
   pub broken-behind-limit :
       checkFile (record { «section_limit» = 4_096; «event_limit» = 1 }) 49_273
-      (section 0x50 0 8 0 0x50 (event 1 0x00 0x00 ++ event 2 0x00 0x30 ++ event 1 0x00 0x59))
+      (section 0x50 0 8 0 0x50 (eventAt 1 0x00 0x00 ++ eventAt 2 0x00 0x30 ++ eventAt 1 0x00 0x59))
       ≡ refusedWith 24 0
   -- a record buffer that is one number short stays
   pub buffer-short :
-      read broadcast 49_273 (withEvent one hour bare) (7 ∷ 7 ∷ 7 ∷ 7 ∷ 7 ∷ [])
+      read broadcast 49_273 (withEvent startAtOne oneHour noDescriptors) (7 ∷ 7 ∷ 7 ∷ 7 ∷ 7 ∷ [])
       ≡ record { answer = refusedWith 27 1; buffer = 7 ∷ 7 ∷ 7 ∷ 7 ∷ 7 ∷ [] }

@@ -13,15 +13,15 @@ abbrev pub withCrc : List ℕ → List ℕ
 withCrc bs = bs ++ bigEndian 4 (crc32 bs)
 
 -- a section with its version byte: table_id, section_number, last_section_number, segment_last_section_number, last_table_id, events
-abbrev pub versioned : ℕ → ℕ → ℕ → ℕ → ℕ → ℕ → List ℕ → List ℕ
-versioned version table number last segmentLast lastTable events =
+abbrev pub sectionWithVersion : ℕ → ℕ → ℕ → ℕ → ℕ → ℕ → List ℕ → List ℕ
+sectionWithVersion version table number last segmentLast lastTable events =
     withCrc
     ((table ∷ 0xF0 ∷ (15 + length events) ∷ 0x00 ∷ 0x01 ∷ version ∷ number ∷ last ∷ 0x00 ∷ 0x02 ∷ 0x00 ∷ 0x03
     ∷ segmentLast ∷ lastTable ∷ [])
     ++ events)
 
 abbrev pub section : ℕ → ℕ → ℕ → ℕ → ℕ → List ℕ → List ℕ
-section table number last segmentLast lastTable events = versioned 0xC1 table number last segmentLast lastTable events
+section table number last segmentLast lastTable events = sectionWithVersion 0xC1 table number last segmentLast lastTable events
 
 -- no events, with the bytes 1 and 5 given: the first of section_length's field, and the version's
 abbrev pub withBits : ℕ → ℕ → List ℕ
@@ -36,26 +36,26 @@ withIdentity service version stream network =
     (0x50 ∷ 0xF0 ∷ 0x0F ∷ 0x00 ∷ service ∷ version ∷ 0x08 ∷ 0x08 ∷ 0x00 ∷ stream ∷ 0x00 ∷ network ∷ 0x08 ∷ 0x50 ∷ [])
 
 -- an event of a second without descriptors: id, the hour and the minute of its start as two digits each
-abbrev pub event : ℕ → ℕ → ℕ → List ℕ
-event id hour minute = 0x00 ∷ id ∷ 0xC0 ∷ 0x79 ∷ hour ∷ minute ∷ 0x00 ∷ 0x00 ∷ 0x00 ∷ 0x01 ∷ 0x00 ∷ 0x00 ∷ []
+abbrev pub eventAt : ℕ → ℕ → ℕ → List ℕ
+eventAt id hour minute = 0x00 ∷ id ∷ 0xC0 ∷ 0x79 ∷ hour ∷ minute ∷ 0x00 ∷ 0x00 ∷ 0x00 ∷ 0x01 ∷ 0x00 ∷ 0x00 ∷ []
 
 -- one event, with all behind its id given: MJD and hhmmss, duration, then running_status, free_CA, chain length and chain
 abbrev pub withEvent : List ℕ → List ℕ → List ℕ → List ℕ
 withEvent start duration rest = section 0x50 0 0 0 0x50 (0x00 ∷ 0x01 ∷ [] ++ start ++ duration ++ rest)
 
 -- 01:00:00 of the base day, one hour, and no descriptors
-abbrev pub one : List ℕ
-one = 0xC0 ∷ 0x79 ∷ 0x01 ∷ 0x00 ∷ 0x00 ∷ []
+abbrev pub startAtOne : List ℕ
+startAtOne = 0xC0 ∷ 0x79 ∷ 0x01 ∷ 0x00 ∷ 0x00 ∷ []
 
-abbrev pub hour : List ℕ
-hour = 0x01 ∷ 0x00 ∷ 0x00 ∷ []
+abbrev pub oneHour : List ℕ
+oneHour = 0x01 ∷ 0x00 ∷ 0x00 ∷ []
 
-abbrev pub bare : List ℕ
-bare = 0x00 ∷ 0x00 ∷ []
+abbrev pub noDescriptors : List ℕ
+noDescriptors = 0x00 ∷ 0x00 ∷ []
 
 -- the file of document 01's sample of `plan`: an event of 01:45:30 at 12:45, and four empty segments before it; 102 bytes
-abbrev pub noon : List ℕ
-noon =
+abbrev pub planSampleFile : List ℕ
+planSampleFile =
     section 0x50 0 32 0 0x50 []
     ++ section 0x50 8 32 8 0x50 []
     ++ section 0x50 16 32 16 0x50 []
@@ -66,32 +66,32 @@ noon =
 -- a rival's: cut early, an empty segment behind the last event, and a later last_table_id
 abbrev pub rival : List ℕ
 rival =
-    section 0x50 0 8 1 0x51 (event 1 0x00 0x00)
-    ++ section 0x50 1 8 1 0x51 (event 2 0x01 0x00 ++ event 3 0x02 0x59)
+    section 0x50 0 8 1 0x51 (eventAt 1 0x00 0x00)
+    ++ section 0x50 1 8 1 0x51 (eventAt 2 0x01 0x00 ++ eventAt 3 0x02 0x59)
     ++ section 0x50 8 8 8 0x51 []
     ++ section 0x51 0 0 0 0x51 []
 
 -- empty tables, n of them from `table` on, with last_table_id 0x5F and version 31
 abbrev pub emptyTables : ℕ → ℕ → List ℕ
 emptyTables table zero = []
-emptyTables table (suc n) = versioned 0xFF table 0 0 0 0x5F [] ++ emptyTables (suc table) n
+emptyTables table (suc n) = sectionWithVersion 0xFF table 0 0 0 0x5F [] ++ emptyTables (suc table) n
 
 -- a segment of eight sections, and all sixteen tables
 abbrev pub full : List ℕ
 full =
-    versioned 0xFF 0x50 0 7 7 0x5F (event 1 0x00 0x00)
-    ++ versioned 0xFF 0x50 1 7 7 0x5F (event 2 0x00 0x10)
-    ++ versioned 0xFF 0x50 2 7 7 0x5F (event 3 0x00 0x20)
-    ++ versioned 0xFF 0x50 3 7 7 0x5F (event 4 0x00 0x30)
-    ++ versioned 0xFF 0x50 4 7 7 0x5F (event 5 0x00 0x40)
-    ++ versioned 0xFF 0x50 5 7 7 0x5F (event 6 0x00 0x50)
-    ++ versioned 0xFF 0x50 6 7 7 0x5F (event 7 0x01 0x00)
-    ++ versioned 0xFF 0x50 7 7 7 0x5F (event 8 0x02 0x59)
+    sectionWithVersion 0xFF 0x50 0 7 7 0x5F (eventAt 1 0x00 0x00)
+    ++ sectionWithVersion 0xFF 0x50 1 7 7 0x5F (eventAt 2 0x00 0x10)
+    ++ sectionWithVersion 0xFF 0x50 2 7 7 0x5F (eventAt 3 0x00 0x20)
+    ++ sectionWithVersion 0xFF 0x50 3 7 7 0x5F (eventAt 4 0x00 0x30)
+    ++ sectionWithVersion 0xFF 0x50 4 7 7 0x5F (eventAt 5 0x00 0x40)
+    ++ sectionWithVersion 0xFF 0x50 5 7 7 0x5F (eventAt 6 0x00 0x50)
+    ++ sectionWithVersion 0xFF 0x50 6 7 7 0x5F (eventAt 7 0x01 0x00)
+    ++ sectionWithVersion 0xFF 0x50 7 7 7 0x5F (eventAt 8 0x02 0x59)
     ++ emptyTables 0x51 15
 
--- what check says
-abbrev pub says : List ℕ → Answer
-says file = checkFile broadcast 49_273 file
+-- check's answer
+abbrev pub checkAnswer : List ℕ → Answer
+checkAnswer file = checkFile broadcast 49_273 file
 
 -- an answer apart from Read's own words for it: success with so many events under the identity above
 abbrev pub acceptedWith : ℕ → Answer

@@ -4,12 +4,12 @@ pub mod Section  -- a section as data
 pub mod Encode  -- its bytes, field by field
 pub mod Every  -- a property of every element of a list
 pub mod Rules  -- the rules of a file of sections
-pub mod Cut  -- bytes cut by the lengths that they state
+pub mod Split  -- bytes split by the lengths that they state
 pub mod Decode  -- the sections that the bytes of a file show
 pub mod Count  -- sections and events in a segment, counted from the bytes
-pub mod Places  -- the records of a file's events
-pub mod JudgeHeader  -- what Read asks of a section before its events: 20 to 23
-pub mod JudgeEvents  -- and of its events: 24 and 26
+pub mod Offsets  -- the records of a file's events
+pub mod HeaderTests  -- what Read asks of a section before its events: 20 to 23
+pub mod EventTests  -- and of its events: 24 and 26
 pub mod Walk  -- Read's walk over the sections
 pub mod Read  -- Read and check
 pub mod Exact  -- what "Read is exact" speaks of

@@ -7,15 +7,15 @@ use mathlib.Core.Option.{Option, none, some}
 use lib.Dec.{eqb, leb}
 use lib.ListN.{length}
 use Rattle.eit.specs.declared.Sizes.{Sizes}
-use Rattle.eit.specs.Limits.{baseMost}
-use Rattle.eit.specs.Identity.{noIdentity}
+use Rattle.eit.specs.Limits.{baseDayMax}
+use Rattle.eit.specs.Identity.{zeroIdentity}
 use Rattle.eit.specs.Overwrite.{overwrite}
 use Rattle.eit.specs.Records.{EventList, recordSize, numbersOfAll}
 use Rattle.eit.specs.declared.Identity.{Identity}
 use Rattle.eit.specs.declared.Record.{Record}
 use Rattle.sections.specs.Section.{Header, headerIdentity}
-use Rattle.sections.specs.Decode.{cutFile, cutSections}
-use Rattle.sections.specs.Places.{recordsFrom}
+use Rattle.sections.specs.Decode.{splitFile, sectionsIn}
+use Rattle.sections.specs.Offsets.{recordsFrom}
 use Rattle.sections.specs.Walk.{atStart, Verdict, passed, refused, walk}
 
 -- the file ends after last_table_id
@@ -25,7 +25,7 @@ isComplete (some h) = eqb (h .sectionNumber) (h .lastSectionNumber) && eqb (h .t
 
 -- the identity of the file, which every header has: that of the last
 abbrev pub identityOf : Option Header → Identity
-identityOf none = noIdentity
+identityOf none = zeroIdentity
 identityOf (some h) = headerIdentity h
 
 -- what is returned: number and value of the answer, the identity and the number of events. A refusal has identity 0 and count 0
@@ -37,7 +37,7 @@ pub record Answer : Type 0 where
 
 -- a refusal: its number and what it returns
 abbrev pub refusal : ℕ → ℕ → Answer
-refusal number value = record { number = number; value = value; identity = noIdentity; count = 0 }
+refusal number value = record { number = number; value = value; identity = zeroIdentity; count = 0 }
 
 -- success is number 0 and returns the number of events
 abbrev pub success : Identity → ℕ → Answer
@@ -51,9 +51,9 @@ atEnd size (passed p) =
 
 -- Read without a record buffer: 1; per section; at the end 25. It never says 27
 unfoldable pub checkFile : Sizes → ℕ → List ℕ → Answer
-unfolding walk cutFile
+unfolding walk splitFile
 checkFile sizes base file =
-    elim (leb base baseMost) [ true ↦ atEnd (length file) (walk sizes base atStart (cutFile file)) | false ↦ refusal 1 0 ]
+    elim (leb base baseDayMax) [ true ↦ atEnd (length file) (walk sizes base atStart (splitFile file)) | false ↦ refusal 1 0 ]
 
 -- what Read returns, and the record buffer after it
 pub record Reading : Type 0 where
@@ -62,8 +62,8 @@ pub record Reading : Type 0 where
 
 -- the records of the sections that a file's bytes show: those that Read returns of a file that it accepts
 unfoldable pub fileRecords : ℕ → List ℕ → List Record
-unfolding cutSections
-fileRecords base file = recordsFrom 0 (cutSections base file)
+unfolding sectionsIn
+fileRecords base file = recordsFrom 0 (sectionsIn base file)
 
 -- with a record buffer, after all else 27: record buffer short. Numbers beyond 6 × count stay; a refusal leaves all
 abbrev pub fill : List ℕ → List Record → Answer → Reading

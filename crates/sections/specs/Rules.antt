@@ -8,7 +8,7 @@ use mathlib.Core.List.{List, [], _∷_}
 use lib.Dec.{T}
 use lib.ListN.{length}
 use Rattle.eit.specs.declared.Sizes.{Sizes}
-use Rattle.eit.specs.Limits.{idMost, startLimit, durationLeast, durationMost, versionMost}
+use Rattle.eit.specs.Limits.{idMax, windowSeconds, durationMin, durationMax, versionMax}
 use Rattle.eit.specs.Fields.{Bytes}
 use Rattle.eit.specs.Among.{allDiffer}
 use Rattle.eit.specs.Chain.{isChain}
@@ -16,7 +16,7 @@ use Rattle.eit.specs.Events.{Event, rising}
 use Rattle.eit.specs.declared.Triplet.{Triplet}
 use Rattle.eit.specs.declared.Identity.{Identity}
 use Rattle.sections.specs.Every.{Every}
-use Rattle.sections.specs.Segment.{tableLeast, tableMost, segmentIndex, tableOf, firstSection, firstOf}
+use Rattle.sections.specs.Segment.{tableFirst, tableMax, segmentIndex, tableOf, firstSection, firstOf}
 use Rattle.sections.specs.Section.{Header, versionOf, Section, sectionSize, headersOf, sectionEvents, eventIds}
 
 -- ---- numbering. Let a section have section_number S, segment_last_section_number G, last_section_number L, and s0 = S − S mod 8
@@ -31,7 +31,7 @@ pub record Numbered (h : Header) : Type 0 where
 
 -- the first is table 0x50, section 0
 pub record First (h : Header) : Type 0 where
-  pub table : h .tableId ≡ tableLeast
+  pub table : h .tableId ≡ tableFirst
   pub section : h .sectionNumber ≡ 0
 
 -- in the same table
@@ -75,24 +75,24 @@ pub record TripletRules (triplet : Triplet) : Type 0 where
 -- .. and version 5 bits
 pub record IdentityRules (identity : Identity) : Type 0 where
   pub tripletRules : TripletRules (identity .triplet)
-  pub version : identity .version ≤ versionMost
+  pub version : identity .version ≤ versionMax
 
 -- identity and last_table_id are the same in every section; no table is past last_table_id; the numbers have a byte each
 pub record HeaderRules (identity : Identity) (lastTableId : ℕ) (h : Header) : Type 0 where
   pub sameTriplet : h .triplet ≡ identity .triplet
   pub sameVersion : h .version ≡ versionOf identity (h .tableId)
   pub sameLastTable : h .lastTableId ≡ lastTableId
-  pub least : tableLeast ≤ h .tableId
+  pub least : tableFirst ≤ h .tableId
   pub most : h .tableId ≤ lastTableId
   pub numbered : Numbered h
   pub byte : h .lastSectionNumber < 256
 
 -- start and duration stay in a record's range; a chain is bytes; each event starts in its section's segment
 pub record EventRules (h : Header) (e : Event) : Type 0 where
-  pub id : e .id ≤ idMost
-  pub start : e .start < startLimit
-  pub durationLow : durationLeast ≤ e .duration
-  pub durationHigh : e .duration ≤ durationMost
+  pub id : e .id ≤ idMax
+  pub start : e .start < windowSeconds
+  pub durationLow : durationMin ≤ e .duration
+  pub durationHigh : e .duration ≤ durationMax
   pub bytes : Bytes (e .chain)
   pub chain : T (isChain (e .chain))
   pub table : tableOf (segmentIndex (e .start)) ≡ h .tableId
@@ -116,7 +116,7 @@ pub record Rules (sizes : Sizes) (identity : Identity) (ss : List Section) : Typ
   pub identityRules : IdentityRules identity
   pub lastTableId : ℕ
   -- last_table_id (0x50 to 0x5F); not below 0x50, since no table is past it
-  pub lastTable : lastTableId ≤ tableMost
+  pub lastTable : lastTableId ≤ tableMax
   pub sections : Every (SectionRules sizes identity lastTableId) ss
   pub ordered : Ordered (headersOf ss)
   -- over the file starts rise strictly, ids differ, and events are at most 2,048

@@ -3,11 +3,11 @@
 use Prim.Native.Nat.{ℕ, _+_, _-_, _*_, _/_, _%_}
 
 -- table_id, 0x50 to 0x5F
-abbrev pub tableLeast : ℕ
-tableLeast = 0x50
+abbrev pub tableFirst : ℕ
+tableFirst = 0x50
 
-abbrev pub tableMost : ℕ
-tableMost = 0x5F
+abbrev pub tableMax : ℕ
+tableMax = 0x5F
 
 -- 01's term: segment index. Start ÷ 10,800, rounded down
 abbrev pub segmentIndex : ℕ → ℕ
@@ -15,7 +15,7 @@ segmentIndex start = start / 10_800
 
 -- table 0x50 + index ÷ 32
 abbrev pub tableOf : ℕ → ℕ
-tableOf index = tableLeast + index / 32
+tableOf index = tableFirst + index / 32
 
 -- 01's term: segment. Index mod 32; segments count from 0
 abbrev pub segmentOf : ℕ → ℕ

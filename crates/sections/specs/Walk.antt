@@ -8,9 +8,9 @@ use lib.ListN.{length}
 use Rattle.eit.specs.declared.Sizes.{Sizes}
 use Rattle.eit.specs.Events.{Event}
 use Rattle.sections.specs.Section.{Header}
-use Rattle.sections.specs.Decode.{eventIn, headerIn, cutEvents}
-use Rattle.sections.specs.JudgeHeader.{isFramed, isClosed, isHeader, isInPlace}
-use Rattle.sections.specs.JudgeEvents.{isEventLoop, isWithinLimit}
+use Rattle.sections.specs.Decode.{eventIn, headerIn, splitEvents}
+use Rattle.sections.specs.HeaderTests.{isFramed, hasRightCrc, isHeader, hasRightNumbering}
+use Rattle.sections.specs.EventTests.{isEventLoop, isWithinLimit}
 
 -- what is known before a section: its offset, the header before it, and the events so far, the latest first
 pub record Progress : Type 0 where
@@ -28,7 +28,7 @@ behind base p bs =
     record {
       offset = p .offset + length bs;
       before = some (headerIn bs);
-      seen = reverse (map (eventIn base) (cutEvents bs)) ++ p .seen;
+      seen = reverse (map (eventIn base) (splitEvents bs)) ++ p .seen;
     }
 
 -- behind some sections
@@ -50,9 +50,9 @@ require false number offset next = refused number offset
 unfoldable pub step : Sizes → ℕ → Progress → List ℕ → Verdict
 step sizes base p bs =
     require (isFramed sizes bs) 20 (p .offset)
-    (require (isClosed bs) 21 (p .offset)
+    (require (hasRightCrc bs) 21 (p .offset)
     (require (isHeader (p .before) bs) 22 (p .offset)
-    (require (isInPlace (p .before) (headerIn bs)) 23 (p .offset)
+    (require (hasRightNumbering (p .before) (headerIn bs)) 23 (p .offset)
     (require (isEventLoop base (p .seen) bs) 24 (p .offset)
     (require (isWithinLimit sizes (p .seen) bs) 26 (p .offset) (passed (behind base p bs)))))))
 

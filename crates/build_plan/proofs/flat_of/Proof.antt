@@ -4,7 +4,7 @@ use Prim.Native.Nat.{ℕ, _≤_, _<_, _-_}
 use native.Mathlib.Omega.{arith}
 use lib.ListN.{length, getD, length-set}
 use Rattle.schedule.specs.Plan.{planned}
-use Rattle.build_plan.proofs.TableLaws.{told-tables, next-count, joined-are}
+use Rattle.build_plan.proofs.TableLaws.{array-tables, next-count, joined-are}
 use Rattle.build_plan.proofs.flat_of.Statement.{statement}
 use Rattle.build_plan.proofs.flat_of.Tie as tie
 
@@ -50,7 +50,7 @@ returns : tie.Need-returns Inv-loop μ-loop
 returns c =
     let l = c .before .loop in
     let end : l .index ≡ 512 = omega arith in
-    joined-are (c .before .before .args .t1) (told-tables (c .before .before .args .t1) _ (c .before .before .good .0))
+    joined-are (c .before .before .args .t1) (array-tables (c .before .before .args .t1) _ (c .before .before .good .0))
     (l .counts) (l .inv .1) (λ index few. l .inv .2 index (omega arith))
 
 pub flat-of-spec : {M : Type 1} → statement M

@@ -10,7 +10,7 @@ use Rattle.eit.specs.Fields.{field}
 use Rattle.eit.proofs.Fields.{bytes-all}
 use Rattle.codec.proofs.FieldLaws.{field-read}
 use Rattle.codec.proofs.WriteLaws.{is-inside, is-outside}
-use Rattle.codec_time.proofs.TimeReadLaws.{start-cut, start-no-time, start-early, start-late, start-shown}
+use Rattle.codec_time.proofs.TimeReadLaws.{start-truncated, start-no-time, start-early, start-late, start-shown}
 use Rattle.codec_time.proofs.read_start.Statement.{statement}
 use Rattle.codec_time.proofs.read_start.Tie as tie
 
@@ -21,7 +21,7 @@ returns : tie.Need-returns
 returns c =
     let a = c .before .before .before .args in
     let outside = is-outside (a .at) 5 (length (now (a .bytes))) (c .before .is-within .ensures) (c .if1 .taken) in
-    sym (start-cut (a .base-day) (a .at) (now (a .bytes)) outside)
+    sym (start-truncated (a .base-day) (a .at) (now (a .bytes)) outside)
 
 -- the five bytes are there
 inside : (c : tie.Else1) → c .before .before .before .args .at + 5 ≤ length (now (c .before .before .before .args .bytes))

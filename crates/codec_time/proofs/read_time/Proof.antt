@@ -6,7 +6,7 @@ use denote.Ref.{now}
 use borrow.Author.Needs.{needs}
 use lib.ListN.{length}
 use Rattle.codec.proofs.WriteLaws.{is-inside, is-outside}
-use Rattle.codec_time.proofs.TimeReadLaws.{time-cut, time-if, time-unless}
+use Rattle.codec_time.proofs.TimeReadLaws.{time-truncated, time-if, time-unless}
 use Rattle.codec_time.proofs.read_time.Statement.{statement}
 use Rattle.codec_time.proofs.read_time.Tie as tie
 
@@ -17,7 +17,7 @@ returns : tie.Need-returns
 returns c =
     let a = c .before .before .before .args in
     let outside = is-outside (a .at) 3 (length (now (a .bytes))) (c .before .is-within .ensures) (c .if1 .taken) in
-    sym (time-cut (a .most) (a .at) (now (a .bytes)) outside)
+    sym (time-truncated (a .most) (a .at) (now (a .bytes)) outside)
 
 -- the three bytes are there
 inside : (c : tie.Else1) → c .before .before .before .args .at + 3 ≤ length (now (c .before .before .before .args .bytes))

@@ -5,7 +5,7 @@ use mathlib.Core.Bool.{_&&_, and-assoc}
 use lib.Dec.{leb, ltb}
 use borrow.Author.Needs.{needs}
 use borrow.Author.Tests.{le-leb, lt-leb}
-use Rattle.eit.specs.Limits.{idMost, startLimit, durationLeast, durationMost, marksMost}
+use Rattle.eit.specs.Limits.{idMax, windowSeconds, durationMin, durationMax, marksMax}
 use Rattle.eit.specs.Sound.{inRange}
 use Rattle.list_sound.proofs.is_in_range.Statement.{statement}
 use Rattle.list_sound.proofs.is_in_range.Tie as tie
@@ -17,7 +17,7 @@ is-duration-requires : tie.Need-is-duration-requires
 is-duration-requires c κs = search needs
 
 -- the id and the start
-two-tests : (c : tie.Joined1) → (let event = c .before .before .args .event in c .if1 .if2 ≡ (leb (event .id) idMost && ltb (event .start) startLimit))
+two-tests : (c : tie.Joined1) → (let event = c .before .before .args .event in c .if1 .if2 ≡ (leb (event .id) idMax && ltb (event .start) windowSeconds))
 two-tests c =
     ⊎-elim
     (λ w. rw (le-leb _ _ (w .0 .taken)) (w .2 ∙ w .1 .ensures))
@@ -27,7 +27,7 @@ two-tests c =
 -- and the duration
 four-tests : (c : tie.Joined2)
     → (let event = c .before .before .before .args .event in
-    c .if2 .if3 ≡ (c .before .if1 .if2 && (leb durationLeast (event .duration) && leb (event .duration) durationMost)))
+    c .if2 .if3 ≡ (c .before .if1 .if2 && (leb durationMin (event .duration) && leb (event .duration) durationMax)))
 four-tests c =
     ⊎-elim
     (λ w. rw (w .0 .taken) (w .2 ∙ w .1 .ensures))
@@ -35,7 +35,7 @@ four-tests c =
     (c .if2 .came)
 
 -- and the marks
-all-tests : (c : tie.Joined2) → (let event = c .before .before .before .args .event in (c .if2 .if3 && leb (event .marks) marksMost) ≡ inRange event)
+all-tests : (c : tie.Joined2) → (let event = c .before .before .before .args .event in (c .if2 .if3 && leb (event .marks) marksMax) ≡ inRange event)
 all-tests c = rw (four-tests c, two-tests (c .before)) (simp and-assoc)
 
 returns : tie.Need-returns

@@ -6,15 +6,15 @@ use native.Mathlib.Omega.{arith}
 use borrow.Author.Needs.{needs}
 use lib.Seq.{length-take-le}
 use Rattle.io.specs.Counts.{Counts}
-use Rattle.plan.specs.Reading.{isInside}
+use Rattle.plan.specs.Reading.{isReadInto}
 use Rattle.plan.specs.declared.Input.the-variants.{Bytes}
 use Rattle.plan.specs.declared.Input.{Input}
 use Rattle.plan.proofs.main.Statement.{statement}
 use Rattle.plan.proofs.main.Tie as tie
 
 -- what was read stands in the script's buffer
-counts : (buffer : List ℕ) (n : ℕ) {read : Input} → read ≡ Bytes n → isInside read buffer → Counts n buffer
-counts buffer n is inside = subst (λ (r : Input). isInside r buffer) is inside
+counts : (buffer : List ℕ) (n : ℕ) {read : Input} → read ≡ Bytes n → isReadInto read buffer → Counts n buffer
+counts buffer n is inside = subst (λ (r : Input). isReadInto r buffer) is inside
 
 slice-aggregate-read-input : tie.Need-slice-aggregate-read-input
 slice-aggregate-read-input c = search needs

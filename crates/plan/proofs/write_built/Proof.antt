@@ -9,7 +9,7 @@ use lib.ListN.{length, take}
 use lib.Seq.{length-take-le}
 use Rattle.eit.proofs.Fields.{bytes-all, bytes-take}
 use Rattle.eit.specs.Sizes.{broadcast}
-use Rattle.eit.specs.Identity.{noIdentity}
+use Rattle.eit.specs.Identity.{zeroIdentity}
 use Rattle.eit.specs.Records.{lentList}
 use Rattle.eit.specs.declared.Identity.{Identity}
 use Rattle.schedule.specs.Build.{Built, build}
@@ -24,26 +24,26 @@ use Rattle.plan.proofs.write_built.Tie as tie
 abbrev builds : tie.After-number-of → tie.After-build
 builds c = c .before .before .before
 
-abbrev given : tie.After-number-of → tie.After-no-identity
+abbrev given : tie.After-number-of → tie.After-zero-identity
 given c = builds c .before .before .before .before
 
 abbrev start : tie.After-number-of → tie.Start
 start c = given c .before .before .before .before
 
 -- Build under the identity given is Build under that of zeros
-under-none : (c : tie.After-number-of) {built : Built}
+under-zeros : (c : tie.After-number-of) {built : Built}
     → (let a = start c .args in
-    build broadcast noPools (lentList (now (a .list)) (a .count)) baseDay (given c .no-identity .result) (now (a .output)) ≡ built)
+    build broadcast noPools (lentList (now (a .list)) (a .count)) baseDay (given c .zero-identity .result) (now (a .output)) ≡ built)
     → (let a = start c .args in
-    build broadcast noPools (lentList (now (a .list)) (a .count)) baseDay noIdentity (now (a .output)) ≡ built)
-under-none c is =
+    build broadcast noPools (lentList (now (a .list)) (a .count)) baseDay zeroIdentity (now (a .output)) ≡ built)
+under-zeros c is =
     let a = start c .args in
     ap (λ (i : Identity). build broadcast noPools (lentList (now (a .list)) (a .count)) baseDay i (now (a .output)))
-    (sym (given c .no-identity .ensures))
+    (sym (given c .zero-identity .ensures))
     ∙ is
 
-no-identity-requires : tie.Need-no-identity-requires
-no-identity-requires c κs = search needs
+zero-identity-requires : tie.Need-zero-identity-requires
+zero-identity-requires c κs = search needs
 
 slice-aggregate-build : tie.Need-slice-aggregate-build
 slice-aggregate-build c = search needs
@@ -72,7 +72,7 @@ returns c =
     let numbered = refused .before .before .before in
     let a = start numbered .args in
     written-as (now (a .text)) _
-    (list-refused (now (a .output)) (lentList (now (a .list)) (a .count)) _ (under-none numbered (builds numbered .build .ensures))
+    (list-refused (now (a .output)) (lentList (now (a .list)) (a .count)) _ (under-zeros numbered (builds numbered .build .ensures))
     (numbered .number-of .ensures) (refused .before .before .if1 .taken))
     (refused .write-refused .ensures)
     (omega (arith, refused-length (numbered .number-of .result) (omega arith)))
@@ -85,8 +85,8 @@ inside : (c : tie.After-value-of) → c .value-of .result ≤ length (now (start
 inside c =
     let numbered = c .before .before in
     let a = start numbered .args in
-    built-inside broadcast noPools (lentList (now (a .list)) (a .count)) baseDay noIdentity (now (a .output)) _
-    (under-none numbered (builds numbered .build .ensures))
+    built-inside broadcast noPools (lentList (now (a .list)) (a .count)) baseDay zeroIdentity (now (a .output)) _
+    (under-zeros numbered (builds numbered .build .ensures))
     (numbered .number-of .ensures) (c .value-of .ensures) (c .before .if1 .left)
 
 slice-reshare-prefix-write-listing : tie.Need-slice-reshare-prefix-write-listing
@@ -116,7 +116,7 @@ returns-2 c =
     let bytes = bytes-take size output (bytes-all output (λ k. numbered .before .slice-known3 .given k .fits)) in
     let length-is = length-take-le size output (omega (arith, inside valued)) in
     written-as (now (a .text)) _
-    (list-built (now (a .output)) (lentList (now (a .list)) (a .count)) _ (under-none numbered (builds numbered .build .ensures))
+    (list-built (now (a .output)) (lentList (now (a .list)) (a .count)) _ (under-zeros numbered (builds numbered .build .ensures))
     (numbered .number-of .ensures) (valued .value-of .ensures) (valued .before .if1 .left))
     (listed .write-listing .ensures)
     (omega (arith, inside valued, length-is, listing-length (take size output) bytes (omega (arith, length-is))))
@@ -125,7 +125,7 @@ pub write-built-spec : {M : Type 1} → statement M
 write-built-spec =
     tie.close
     (tie.spec
-    no-identity-requires
+    zero-identity-requires
     slice-aggregate-build
     slice-aggregate-build-2
     build-requires

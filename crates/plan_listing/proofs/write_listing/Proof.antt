@@ -16,11 +16,11 @@ use Rattle.plan_listing.proofs.write_listing.Statement.{statement}
 use Rattle.plan_listing.proofs.write_listing.Tie as tie
 
 abbrev Inv-loop : tie.InvT-loop
-Inv-loop out₀ file place₀ offset₀ t8 out place offset =
-    (offset ≤ length file) × Unwritten out₀ place₀ (linesFrom file 0) out place (linesFrom file offset)
+Inv-loop out₀ file to₀ offset₀ t8 out to offset =
+    (offset ≤ length file) × Unwritten out₀ to₀ (linesFrom file 0) out to (linesFrom file offset)
 
 abbrev μ-loop : tie.MeasureT-loop
-μ-loop out₀ file place₀ offset₀ t8 out place offset = length file - offset
+μ-loop out₀ file to₀ offset₀ t8 out to offset = length file - offset
 
 slice-aggregate-write-text : tie.Need-slice-aggregate-write-text Inv-loop μ-loop
 slice-aggregate-write-text c = search needs

@@ -2,7 +2,7 @@
 use mathlib.Core.Path.{sym, ap, _∙_}
 use mathlib.Core.Logic.{⊎-elim}
 use borrow.Author.Tests.{eq-eqb, ne-eqb, not-true, not-false}
-use Rattle.read_answer.specs.Told.{told}
+use Rattle.read_answer.specs.Outcome.{outcomeOf}
 use Rattle.read_check.proofs.EndLaws.{ends-empty, ends-early, ends-whole}
 use borrow.Author.Needs.{needs}
 use Rattle.read_check.proofs.at_end.Statement.{statement}
@@ -19,7 +19,7 @@ refused-requires c κs = search needs
 
 returns : tie.Need-returns
 returns c p offset words tracks =
-    ends-empty tracks _ (c .before .enum-told .given .1) ∙ sym (ap told (c .refused .ensures))
+    ends-empty tracks _ (c .before .enum-told .given .1) ∙ sym (ap outcomeOf (c .refused .ensures))
 
 refused-requires-2 : tie.Need-refused-requires-2
 refused-requires-2 c κs = search needs
@@ -31,7 +31,7 @@ returns-2 c p offset words tracks =
     ⊎-elim (λ w. early (rw (ne-eqb _ _ (w .taken))))
     (λ w. early (rw (eq-eqb _ _ (w .0 .left)) (not-true _ (w .2 .taken))))
     (c .before .if1 .came)
-    ∙ sym (ap told (c .refused2 .ensures))
+    ∙ sym (ap outcomeOf (c .refused2 .ensures))
 
 returns-3 : tie.Need-returns-3
 returns-3 c p offset words tracks =

@@ -4,7 +4,7 @@ use mathlib.Core.Path.{sym, ap, _∙_}
 use Prim.Native.Nat.{_-_}
 use lib.ListN.{length}
 use Rattle.sections.proofs.Read.{check-base}
-use Rattle.read_answer.specs.Told.{told}
+use Rattle.read_answer.specs.Outcome.{outcomeOf}
 use Rattle.read_walk.proofs.SectionAtLaws.{end-past}
 use Rattle.read_check.proofs.WalkLaws.{WalkSoFar, walk-start, walk-stops, walk-more, walk-done}
 use native.Mathlib.Omega.{arith}
@@ -23,7 +23,7 @@ refused-requires : tie.Need-refused-requires Inv-loop μ-loop
 refused-requires c κs = search needs
 
 returns : tie.Need-returns Inv-loop μ-loop
-returns c = check-base _ _ _ (c .before .if1 .taken) ∙ sym (ap told (c .refused .ensures))
+returns c = check-base _ _ _ (c .before .if1 .taken) ∙ sym (ap outcomeOf (c .refused .ensures))
 
 tables-requires : tie.Need-tables-requires Inv-loop μ-loop
 tables-requires c κs = search needs
@@ -40,8 +40,8 @@ slice-aggregate-check-section c = search needs
 check-section-requires : tie.Need-check-section-requires Inv-loop μ-loop
 check-section-requires c κs = search needs
 
-enum-known-said : tie.Need-enum-known-said Inv-loop μ-loop
-enum-known-said c = search needs
+enum-known-answer : tie.Need-enum-known-answer Inv-loop μ-loop
+enum-known-answer c = search needs
 
 refused-requires-2 : tie.Need-refused-requires-2 Inv-loop μ-loop
 refused-requires-2 c κs = search needs
@@ -52,8 +52,8 @@ returns-2 c =
     let turn = verdict .before .before .before .before .before in
     walk-stops (turn .loop .inv) (verdict .before .before .before .before .loop-test .taken)
     (verdict .before .before .before .read-section .ensures)
-    _ _ (verdict .check-section .ensures _ (turn .loop .inv .tracks)) (c .before .before .said .given .1) (turn .before .before .if1 .left)
-    ∙ sym (ap told (c .refused2 .ensures))
+    _ _ (verdict .check-section .ensures _ (turn .loop .inv .tracks)) (c .before .before .answer .given .1) (turn .before .before .if1 .left)
+    ∙ sym (ap outcomeOf (c .refused2 .ensures))
 
 enum-known-next : tie.Need-enum-known-next Inv-loop μ-loop
 enum-known-next c = search needs
@@ -98,7 +98,7 @@ check-within-spec =
     read-section-requires
     slice-aggregate-check-section
     check-section-requires
-    enum-known-said
+    enum-known-answer
     refused-requires-2
     returns-2
     enum-known-next

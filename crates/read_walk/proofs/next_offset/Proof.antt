@@ -97,14 +97,14 @@ module _ {M : Type 1} (𝓤 : URA M) (H : Heap 𝓤) (A : Atoms 𝓤) (W : Given
     abbrev Own : Fml
     Own = Slice .own file (v ∷ [])
 
-    abbrev passed : Vals next-offset.signature (κ, tt)
-    passed = (v ∷ [], (vint w64 offset ∷ [], tt))
+    abbrev arguments : Vals next-offset.signature (κ, tt)
+    arguments = (v ∷ [], (vint w64 offset ∷ [], tt))
 
     abbrev here : walkOf 𝓤 H A next-offset.ended stayed Said .Ghost
-    here = (((κ, tt), (q, tt), tt, (file, (offset, tt)), passed), tt)
+    here = (((κ, tt), (q, tt), tt, (file, (offset, tt)), arguments), tt)
 
     abbrev Entry : SProp 𝓤
-    Entry = onEntry 𝓤 H A next-offset.signature (κ, tt) (q, tt) (file, (offset, tt)) passed
+    Entry = onEntry 𝓤 H A next-offset.signature (κ, tt) (q, tt) (file, (offset, tt)) arguments
 
     abbrev Post : Val → SProp 𝓤
     Post = walkOf 𝓤 H A next-offset.ended stayed Said .post here
@@ -115,16 +115,16 @@ module _ {M : Type 1} (𝓤 : URA M) (H : Heap 𝓤) (A : Atoms 𝓤) (W : Given
 
     -- the call of `reader_at`: what it is passed, what it asks, and what is known of its result
     abbrev to-reader : ReaderAt .Ghost
-    to-reader = (((κ, tt), (q, tt), tt, (file, (offset, tt)), passed), tt)
+    to-reader = (((κ, tt), (q, tt), tt, (file, (offset, tt)), arguments), tt)
 
     asked-reader : ent 𝓤 Entry (ReaderAt .pre to-reader)
     asked-reader =
-        qed W ((‵ (flft κ q) ⊛ ‵ ftrue) ∷ ‵ (owns (Slice ∷ usize ∷ []) (file, (offset, tt)) passed) ∷ []) ∵
+        qed W ((‵ (flft κ q) ⊛ ‵ ftrue) ∷ ‵ (owns (Slice ∷ usize ∷ []) (file, (offset, tt)) arguments) ∷ []) ∵
         join ! $ frame ! $ done !
 
     goes-reader : ent 𝓤 Entry (sep 𝓤 (ReaderAt .pre to-reader) (sem 𝓤 H A Own))
     goes-reader =
-        qed W ((‵ (flft κ q) ⊛ ‵ ftrue) ∷ ‵ (owns (Slice ∷ usize ∷ []) (file, (offset, tt)) passed) ∷ []) ∵
+        qed W ((‵ (flft κ q) ⊛ ‵ ftrue) ∷ ‵ (owns (Slice ∷ usize ∷ []) (file, (offset, tt)) arguments) ∷ []) ∵
         move ! (1 ∷ []) $ fsplit ! $
         use1 W (‵ Own ⊛ ‵ Own) (shr-slice-copy 𝓤 H A W (named 0) κ u8 .twice file (v ∷ [])) $ split ! $
         move ! (0 ∷ 2 ∷ []) $ fjoin ! $ move ! (2 ∷ 0 ∷ []) $ use2 W (raw (ReaderAt .pre to-reader)) asked-reader $

@@ -71,21 +71,21 @@ module _ {M : Type 1} (𝓤 : URA M) (H : Heap 𝓤) (A : Atoms 𝓤) (W : Given
     abbrev made : SectionReader
     made = record { file = file; offset = offset }
 
-    abbrev passed : Vals reader-at.signature (κ, tt)
-    passed = (v ∷ [], (vint w64 offset ∷ [], tt))
+    abbrev arguments : Vals reader-at.signature (κ, tt)
+    arguments = (v ∷ [], (vint w64 offset ∷ [], tt))
 
     abbrev here : walkOf 𝓤 H A reader-at.ended stayed Said .Ghost
-    here = (((κ, tt), (q, tt), tt, (file, (offset, tt)), passed), tt)
+    here = (((κ, tt), (q, tt), tt, (file, (offset, tt)), arguments), tt)
 
     abbrev Entry : SProp 𝓤
-    Entry = onEntry 𝓤 H A reader-at.signature (κ, tt) (q, tt) (file, (offset, tt)) passed
+    Entry = onEntry 𝓤 H A reader-at.signature (κ, tt) (q, tt) (file, (offset, tt)) arguments
 
     abbrev Post : Val → SProp 𝓤
     Post = walkOf 𝓤 H A reader-at.ended stayed Said .post here
 
     exits : ent 𝓤 Entry (Post (T′.lowered made))
     exits =
-        qed W ((‵ (flft κ q) ⊛ ‵ ftrue) ∷ ‵ (owns (Slice ∷ usize ∷ []) (file, (offset, tt)) passed) ∷ []) ∵
+        qed W ((‵ (flft κ q) ⊛ ‵ ftrue) ∷ ‵ (owns (Slice ∷ usize ∷ []) (file, (offset, tt)) arguments) ∷ []) ∵
         suffices ! _
         (ends-at 𝓤 H A reader-at.ended stayed Said W here (T′.lowered made) made (tt, (tt, tt)) (tt, (tt, tt))) $
         says ! (refl, refl) $ frame ! $ fsplit ! $

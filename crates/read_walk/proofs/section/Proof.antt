@@ -109,15 +109,15 @@ module _ {M : Type 1} (𝓤 : URA M) (H : Heap 𝓤) (A : Atoms 𝓤) (W : Given
     Post = walkOf 𝓤 H A section.ended stayed Said .post here
 
     -- what the callee is passed, and what it asks
-    abbrev passed : Vals section-at.signature (κ, tt)
-    passed = (sliceVal (d .file .ptr) (length (d .file .now)) ∷ [], (vint w64 (d .offset) ∷ [], tt))
+    abbrev arguments : Vals section-at.signature (κ, tt)
+    arguments = (sliceVal (d .file .ptr) (length (d .file .now)) ∷ [], (vint w64 (d .offset) ∷ [], tt))
 
     abbrev to : SectionAt .Ghost
-    to = (((κ, tt), (q, tt), tt, (d .file, (d .offset, tt)), passed), tt)
+    to = (((κ, tt), (q, tt), tt, (d .file, (d .offset, tt)), arguments), tt)
 
-    asked : ent 𝓤 (onEntry 𝓤 H A section-at.signature (κ, tt) (q, tt) (d .file, (d .offset, tt)) passed) (SectionAt .pre to)
+    asked : ent 𝓤 (onEntry 𝓤 H A section-at.signature (κ, tt) (q, tt) (d .file, (d .offset, tt)) arguments) (SectionAt .pre to)
     asked =
-        qed W ((‵ (flft κ q) ⊛ ‵ ftrue) ∷ ‵ (owns (Slice ∷ usize ∷ []) (d .file, (d .offset, tt)) passed) ∷ []) ∵
+        qed W ((‵ (flft κ q) ⊛ ‵ ftrue) ∷ ‵ (owns (Slice ∷ usize ∷ []) (d .file, (d .offset, tt)) arguments) ∷ []) ∵
         join ! $ frame ! $ done !
 
     -- what the struct owns gives what the callee asks, and is kept

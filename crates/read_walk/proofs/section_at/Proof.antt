@@ -27,7 +27,7 @@ module _ (file : List ℕ) (offset : ℕ) where
       ap (λ (n : ℕ). take n rest) stated ∙ ap (λ (bs : List ℕ). take (statedSectionSize bs) bs) (rest-whole file offset)
 
   short : (size : ℕ) → size ≡ statedSectionSize rest → length rest ≤ size → rest ≡ sectionAt file offset
-  short size stated cut = sym (take-all size rest cut) ∙ whole size stated
+  short size stated truncated = sym (take-all size rest truncated) ∙ whole size stated
 
 sub-result : tie.Need-sub-result
 sub-result c = search needs

@@ -12,13 +12,13 @@ use Rattle.build.proofs.file.write_segment.Statement.{statement}
 use Rattle.build.proofs.file.write_segment.Tie as tie
 
 abbrev Inv-loop : tie.InvT-loop
-Inv-loop out₀ at first sections base-day list from end day series room crc-tables header₀ place₀ next₀ k₀ out
-    header place next k =
-    SegmentSoFar (lentPools day series) list room first sections end base-day out₀ at from out header place next k
+Inv-loop out₀ at first sections base-day list from end day series room crc-tables header₀ offset₀ next₀ k₀ out
+    header offset next k =
+    SegmentSoFar (lentPools day series) list room first sections end base-day out₀ at from out header offset next k
 
 abbrev μ-loop : tie.MeasureT-loop
-μ-loop out₀ at first sections base-day list from end day series room crc-tables header₀ place₀ next₀ k₀ out
-    header place next k =
+μ-loop out₀ at first sections base-day list from end day series room crc-tables header₀ offset₀ next₀ k₀ out
+    header offset next k =
     sections - k
 
 loop-holds : tie.Need-loop-holds Inv-loop μ-loop
@@ -39,7 +39,7 @@ start c = c .before .before .before .before .before
 
 -- the turn's section has room
 section-room : (c : tie.After-next-cut Inv-loop μ-loop)
-    → turn c .loop .place + (sectionOverhead + c .next-cut .result .bytes) ≤ length (turn c .loop .out)
+    → turn c .loop .offset + (sectionOverhead + c .next-cut .result .bytes) ≤ length (turn c .loop .out)
 section-room c =
     segment-fits _ _ _ _ _ _ (turn c .loop .inv) (c .before .before .loop-test .taken) (c .next-cut .result)
     (c .next-cut .ensures)
@@ -57,8 +57,8 @@ write-section-requires c κs =
       start (turn cut) .pre .2,
     )
 
-add-place : tie.Need-add-place Inv-loop μ-loop
-add-place c =
+add-offset : tie.Need-add-offset Inv-loop μ-loop
+add-offset c =
     let cut = c .before .before .before .before .before in
     omega (arith, section-room cut, turn cut .loop .inv .left .size, start (turn cut) .good)
 
@@ -91,7 +91,7 @@ write-segment-spec =
     next-cut-requires
     add-size
     write-section-requires
-    add-place
+    add-offset
     add-k
     loop-less
     loop-again

@@ -1,4 +1,4 @@
--- `build::section::write_events` meets its contract: in each turn the events from i on are left to write, from `place` on.
+-- `build::section::write_events` meets its contract: in each turn the events from i on are left to write, from `offset` on.
 -- Assumes nothing.
 use Prim.Native.Nat.{_+_, _-_, _≤_}
 use native.Mathlib.Omega.{arith}
@@ -16,13 +16,13 @@ use Rattle.build.proofs.section.write_events.Statement.{statement}
 use Rattle.build.proofs.section.write_events.Tie as tie
 
 abbrev Inv-loop : tie.InvT-loop
-Inv-loop out₀ at base-day list from to day series place₀ i₀ out place i =
+Inv-loop out₀ at base-day list from to day series offset₀ i₀ out offset i =
     let pools = lentPools day series in
-    Left out₀ at (eventLoopBytes base-day (eventsBetween pools list from to)) out place
+    Left out₀ at (eventLoopBytes base-day (eventsBetween pools list from to)) out offset
     (eventLoopBytes base-day (eventsBetween pools list i to))
 
 abbrev μ-loop : tie.MeasureT-loop
-μ-loop out₀ at base-day list from to day series place₀ i₀ out place i = to - i
+μ-loop out₀ at base-day list from to day series offset₀ i₀ out offset i = to - i
 
 loop-holds : tie.Need-loop-holds Inv-loop μ-loop
 loop-holds c =
@@ -50,15 +50,15 @@ start c = c .before .before .before .before .before
 
 -- the turn's event has room
 room : (c : tie.After-choose Inv-loop μ-loop)
-    → turn c .loop .place + (eventOverhead + length (c .choose .result .now)) ≤ length (turn c .loop .out)
+    → turn c .loop .offset + (eventOverhead + length (c .choose .result .now)) ≤ length (turn c .loop .out)
 room c =
     next-fits _ _ _ _ _ (turn c .loop .inv) (c .before .before .loop-test .taken) (c .before .record-at .ensures) (c .choose .ensures)
 
-add-place : tie.Need-add-place Inv-loop μ-loop
-add-place c = omega (arith, room (c .before .before .before .before))
+add-offset : tie.Need-add-offset Inv-loop μ-loop
+add-offset c = omega (arith, room (c .before .before .before .before))
 
-add-place-2 : tie.Need-add-place-2 Inv-loop μ-loop
-add-place-2 c = omega (arith, room (c .before .before .before .before))
+add-offset-2 : tie.Need-add-offset-2 Inv-loop μ-loop
+add-offset-2 c = omega (arith, room (c .before .before .before .before))
 
 add-i : tie.Need-add-i Inv-loop μ-loop
 add-i c = omega arith
@@ -92,8 +92,8 @@ write-events-spec =
     record-at-requires
     choose-requires
     write-event-requires
-    add-place
-    add-place-2
+    add-offset
+    add-offset-2
     add-i
     loop-less
     loop-again

@@ -8,7 +8,7 @@ use denote.Ref.{now}
 use borrow.Author.Needs.{needs}
 use lib.ListN.{length, take, drop}
 use Rattle.eit.specs.Fields.{valueOf, bytesAt}
-use Rattle.codec.proofs.FieldLaws.{field-whole, field-cut, field-none, read-more, read-fits}
+use Rattle.codec.proofs.FieldLaws.{field-whole, field-truncated, field-none, read-more, read-fits}
 use Rattle.codec.proofs.fields.read_field.Statement.{statement}
 use Rattle.codec.proofs.fields.read_field.Tie as tie
 
@@ -38,7 +38,7 @@ loop-holds c =
     let a = c .before .before .before .args in
     ⊎-elim
     (λ w. rw (w .1) (omega arith, omega arith, field-whole (now (a .bytes)) (a .at) (a .width), refl))
-    (λ w. rw (w .1) (omega arith, omega arith, field-cut (now (a .bytes)) (a .at) (a .width) (omega arith), refl))
+    (λ w. rw (w .1) (omega arith, omega arith, field-truncated (now (a .bytes)) (a .at) (a .width) (omega arith), refl))
     (c .if2 .came)
 
 shared-slice-read-value : tie.Need-shared-slice-read-value Inv-loop μ-loop

@@ -9,7 +9,7 @@ use Rattle.eit.specs.Fields.{Bytes}
 use Rattle.eit.proofs.Fields.{bytes-all}
 use Rattle.sections.specs.Decode.{statusField}
 use Rattle.codec.proofs.FieldLaws.{field-read}
-use Rattle.codec_section.proofs.EventReadLaws.{event-cut, event-no-status, event-no-start, event-no-duration, event-no-chain, event-shown}
+use Rattle.codec_section.proofs.EventReadLaws.{event-truncated, event-no-status, event-no-start, event-no-duration, event-no-chain, event-shown}
 use Rattle.codec_section.proofs.event.read_event.Statement.{statement}
 use Rattle.codec_section.proofs.event.read_event.Tie as tie
 
@@ -34,7 +34,7 @@ word-is c =
 returns : tie.Need-returns
 returns c =
     let a = c .before .before .before .args in
-    sym (event-cut (a .base-day) (now (a .bytes)) (word-is (c .before)) (c .if1 .taken))
+    sym (event-truncated (a .base-day) (now (a .bytes)) (word-is (c .before)) (c .if1 .taken))
 
 is-status-requires : tie.Need-is-status-requires
 is-status-requires c κs = search needs

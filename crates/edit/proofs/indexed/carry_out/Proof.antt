@@ -3,7 +3,7 @@ use mathlib.Core.Path.{ap}
 use denote.Ref.{now}
 use borrow.Author.Needs.{needs}
 use Rattle.eit.specs.Records.{EventList}
-use Rattle.edit_scan.specs.Commands.{commandTold}
+use Rattle.edit_scan.specs.Commands.{modelCommand}
 use Rattle.edit.specs.Run.{runOne}
 use Rattle.edit.proofs.IndexedLaws.{leaves-same}
 use Rattle.edit.proofs.RenewLaws.{renewed-kept}
@@ -39,7 +39,7 @@ returns c =
     leaves-same
     (ap
     (λ (list : EventList).
-    runOne (start .sizes) (now (start .day)) (now (start .series)) list (commandTold (start .at) (start .command)))
+    runOne (start .sizes) (now (start .day)) (now (start .series)) list (modelCommand (start .at) (start .command)))
     (anew .renew .ensures .same))
     (done .carry-out-indexed .ensures)
 

@@ -9,7 +9,7 @@ use lib.Dec.{ltb}
 use borrow.Author.Needs.{needs}
 use borrow.Author.Tests.{not-true, not-false}
 use Rattle.eit.specs.Sizes.{broadcast}
-use Rattle.eit.specs.Limits.{startLimit}
+use Rattle.eit.specs.Limits.{windowSeconds}
 use Rattle.edit.proofs.IndexedLaws.{kept-ordered, id-small, its-place, some-records}
 use Rattle.edit.proofs.MoveLaws.{move-outside, move-absent, move-taken, free-other, free-own, id-within, move-goes}
 use Rattle.edit.proofs.indexed.move_indexed.Statement.{statement}
@@ -20,7 +20,7 @@ module _ (c : tie.Else1) where
   abbrev entry : tie.Start
   entry = c .before .before .before .before .before .before
 
-  in-range : ltb (entry .args .start) startLimit ≡ true
+  in-range : ltb (entry .args .start) windowSeconds ≡ true
   in-range = sym (c .before .is-start .ensures) ∙ not-false (c .before .is-start .result) (c .if1 .left)
 
 -- the record was found

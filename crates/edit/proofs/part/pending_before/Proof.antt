@@ -9,7 +9,7 @@ use lib.Dec.{T, eqb, ltb}
 use lib.ListN.{length, getD, take}
 use borrow.Author.Needs.{needs}
 use Rattle.script.specs.Form.{operandBytes}
-use Rattle.script.specs.Struck.{passed}
+use Rattle.script.specs.Struck.{pendingBefore}
 use Rattle.edit_scan.specs.Commands.{isWholeAt, commandsAt}
 use Rattle.edit_scan.proofs.CommandLaws.{whole-here, whole-inside}
 use Rattle.edit_scan.proofs.PartLaws.{commands-fit, part-whole, count-next}
@@ -21,7 +21,7 @@ use Rattle.edit.proofs.part.pending_before.Tie as tie
 abbrev Inv-loop : tie.InvT-loop
 Inv-loop script at k undos over₀ kept₀ i₀ left₀ over kept i left =
     (left ≤ length (commandsAt i script)) × (over + kept + left ≤ k)
-    × (passed undos (take k (commandsAt at script)) ≡ pendingAfter over kept undos (take left (commandsAt i script)))
+    × (pendingBefore undos (take k (commandsAt at script)) ≡ pendingAfter over kept undos (take left (commandsAt i script)))
 
 abbrev μ-loop : tie.MeasureT-loop
 μ-loop script at k undos over₀ kept₀ i₀ left₀ over kept i left = left
@@ -123,7 +123,7 @@ loop-again c =
 ended : (c : tie.After-loop Inv-loop μ-loop)
     → let head = c .before in
     let start = head .before .before .args in
-    passed (start .undos) (take (start .k) (commandsAt (start .at) (bytes head))) ≡ head .loop .over + (start .undos - head .loop .kept)
+    pendingBefore (start .undos) (take (start .k) (commandsAt (start .at) (bytes head))) ≡ head .loop .over + (start .undos - head .loop .kept)
 ended c =
     let head = c .before in
     let start = head .before .before .args in

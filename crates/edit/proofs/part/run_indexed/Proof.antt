@@ -10,7 +10,7 @@ use denote.Ref.{now}
 use borrow.Author.Needs.{needs}
 use Rattle.eit.specs.Records.{EventList}
 use Rattle.script.specs.Form.{Command, operandBytes}
-use Rattle.edit_scan.specs.Commands.{commandTold, commandsAt}
+use Rattle.edit_scan.specs.Commands.{modelCommand, commandsAt}
 use Rattle.edit_index.specs.Index.{indexedList}
 use Rattle.edit.proofs.PlaceLaws.{Stands, stands-first, stands-here, stands-inside, stands-next, stands-split}
 use Rattle.edit.proofs.ForwardLaws.{carried-all, carried-ends}
@@ -101,7 +101,7 @@ returns c =
     let leaves = carries .carry-out .ensures in (
       carried-ends (start .sizes) (now (start .day)) (now (start .series)) _
           (now (start .live-places)) (take (start .k) (commandsAt (start .at) (now (start .script)))) (head .loop .inv .1 .carried) (among turn)
-          (commandTold (head .loop .i) (reads .command-at .result))
+          (modelCommand (head .loop .i) (reads .command-at .result))
           (stands-split (head .loop .inv .0) (turn .loop-test .taken) _ (reads .command-at .ensures))
           (sym (asked .is-seen .ensures) ∙ reads .before .if1 .taken) _ (leaves .says)
           (λ z. c .if2 .taken (c .before .number-of .ensures ∙ z)),
@@ -159,7 +159,7 @@ loop-again c =
           (λ w.
           running-same (start .sizes) (now (start .day)) (now (start .series)) first places cs (w .17) (w .18) (w .19) (w .20) (w .21) (w .22)
           (running-on (start .sizes) (now (start .day)) (now (start .series)) first places cs (head .loop .inv .1) (among (turn c))
-          (commandTold (head .loop .i) (w .1 .result)) (stands-split stands some _ (w .1 .ensures)) (sym (asked .is-seen .ensures) ∙ w .0 .taken)
+          (modelCommand (head .loop .i) (w .1 .result)) (stands-split stands some _ (w .1 .ensures)) (sym (asked .is-seen .ensures) ∙ w .0 .taken)
           _ _ _ _ _ (w .6 .ensures) (w .7 .given) (sym (w .15 .ensures) ∙ w .16 .left)))
           (λ w.
           running-same (start .sizes) (now (start .day)) (now (start .series)) first places cs (w .1) (w .2) (w .3) (w .4) (w .5) (w .6)

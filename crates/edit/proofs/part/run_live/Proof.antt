@@ -9,7 +9,7 @@ use borrow.Author.Needs.{needs}
 use Rattle.eit.specs.Pools.{lentPools}
 use Rattle.eit.specs.Records.{EventList, lentList, recordSize}
 use Rattle.eit.specs.Sound.{sound}
-use Rattle.edit_answer.specs.Told.{told}
+use Rattle.edit_answer.specs.Outcome.{outcomeOf}
 use Rattle.edit_index.specs.Index.{indexedList}
 use Rattle.edit.specs.Run.{runPart}
 use Rattle.edit.proofs.ForwardLaws.{sound-held}
@@ -93,7 +93,7 @@ returns c = λ undos are.
     runPart (start .sizes) (now (start .day)) (now (start .series)) list undos (start .k) (start .at) (now (start .script)))
     (sym (stands made))
     ∙ runs .run-indexed .ensures .0 undos are
-    ∙ ap (told (runs .run-indexed .result)) (sym (c .before .before .store .ensures))
+    ∙ ap (outcomeOf (runs .run-indexed .result)) (sym (c .before .before .store .ensures))
 
 pub run-live-spec : {M : Type 1} → statement M
 run-live-spec =

@@ -9,7 +9,7 @@ use lib.Dec.{T}
 use lib.ListN.{length, drop}
 use borrow.Author.Needs.{needs}
 use Rattle.script.specs.Form.{formFrom, formOf}
-use Rattle.edit_scan.specs.Commands.{formTold, isWholeAt}
+use Rattle.edit_scan.specs.Commands.{formFound, isWholeAt}
 use Rattle.edit_scan.specs.declared.scan.Form.the-variants.{Whole}
 use Rattle.edit_scan.proofs.CommandLaws.{whole-holds, whole-fails, whole-here, whole-inside}
 use Rattle.edit_scan.proofs.CommandLaws.{formAfter, after-none, form-next, form-stop, form-all}
@@ -17,7 +17,7 @@ use Rattle.edit_scan.proofs.scan.form_of.Statement.{statement}
 use Rattle.edit_scan.proofs.scan.form_of.Tie as tie
 
 abbrev Inv-loop : tie.InvT-loop
-Inv-loop script count₀ at₀ count at = (count ≤ at) × (formTold (formOf script) ≡ formAfter count (formFrom 0 at (drop at script)))
+Inv-loop script count₀ at₀ count at = (count ≤ at) × (formFound (formOf script) ≡ formAfter count (formFrom 0 at (drop at script)))
 
 abbrev μ-loop : tie.MeasureT-loop
 μ-loop script count₀ at₀ count at = length script - at
@@ -78,8 +78,8 @@ returns : tie.Need-returns Inv-loop μ-loop
 returns c =
     let asked = c .before .before .is-whole-at in
     let head = c .before .before .before in
-    let cut = whole-fails (head .loop .at) (bytes head) (asked .result) (asked .ensures) (c .before .if1 .left) in
-    sym (head .loop .inv .1 ∙ ap (formAfter (head .loop .count)) (form-stop (head .loop .at) (bytes head) (c .if2 .taken) cut))
+    let truncated = whole-fails (head .loop .at) (bytes head) (asked .result) (asked .ensures) (c .before .if1 .left) in
+    sym (head .loop .inv .1 ∙ ap (formAfter (head .loop .count)) (form-stop (head .loop .at) (bytes head) (c .if2 .taken) truncated))
 
 returns-2 : tie.Need-returns-2 Inv-loop μ-loop
 returns-2 c =

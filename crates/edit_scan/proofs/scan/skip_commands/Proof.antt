@@ -35,8 +35,8 @@ returns : tie.Need-returns Inv-loop μ-loop
 returns c =
     let asked = c .before .is-whole-at in
     let head = c .before .before .before in
-    let cut = whole-fails (head .loop .i) (bytes head) (asked .result) (asked .ensures) (not-true (asked .result) (c .if1 .taken)) in
-    sym (head .loop .inv ∙ behind-stop (bytes head) (head .loop .left) (head .loop .i) cut)
+    let truncated = whole-fails (head .loop .i) (bytes head) (asked .result) (asked .ensures) (not-true (asked .result) (c .if1 .taken)) in
+    sym (head .loop .inv ∙ behind-stop (bytes head) (head .loop .left) (head .loop .i) truncated)
 
 whole : (c : tie.Else1 Inv-loop μ-loop) → T (isWholeAt (c .before .before .before .loop .i) (bytes (c .before .before .before)))
 whole c =

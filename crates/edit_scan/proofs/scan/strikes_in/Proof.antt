@@ -10,7 +10,7 @@ use lib.ListN.{length, getD}
 use borrow.Author.Needs.{needs}
 use Rattle.script.specs.Form.{operandBytes}
 use Rattle.script.specs.Struck.{unstruckIn}
-use Rattle.edit_scan.specs.Commands.{strikesTold, isWholeAt, commandsAt}
+use Rattle.edit_scan.specs.Commands.{strikesFound, isWholeAt, commandsAt}
 use Rattle.edit_scan.proofs.CommandLaws.{whole-holds, whole-fails, whole-here, whole-inside}
 use Rattle.edit_scan.proofs.StrikeLaws.{strikesAfter, strikes-all, strikes-nothing, strikes-on, strikes-stop, byte-few}
 use Rattle.edit_scan.proofs.scan.strikes_in.Statement.{statement}
@@ -18,7 +18,7 @@ use Rattle.edit_scan.proofs.scan.strikes_in.Tie as tie
 
 abbrev Inv-loop : tie.InvT-loop
 Inv-loop script kept₀ at₀ kept at =
-    (kept ≤ at) × (strikesTold (unstruckIn (commandsAt 0 script)) ≡ strikesAfter kept (commandsAt at script))
+    (kept ≤ at) × (strikesFound (unstruckIn (commandsAt 0 script)) ≡ strikesAfter kept (commandsAt at script))
 
 abbrev μ-loop : tie.MeasureT-loop
 μ-loop script kept₀ at₀ kept at = length script - at
@@ -108,8 +108,8 @@ returns-2 : tie.Need-returns-2 Inv-loop μ-loop
 returns-2 c =
     let asked = c .before .is-whole-at in
     let head = c .before .before in
-    let cut = whole-fails (head .loop .at) (bytes head) (asked .result) (asked .ensures) (c .if1 .left) in
-    sym (head .loop .inv .1 ∙ strikes-stop (head .loop .kept) (head .loop .at) (bytes head) cut)
+    let truncated = whole-fails (head .loop .at) (bytes head) (asked .result) (asked .ensures) (c .if1 .left) in
+    sym (head .loop .inv .1 ∙ strikes-stop (head .loop .kept) (head .loop .at) (bytes head) truncated)
 
 pub strikes-in-spec : {M : Type 1} → statement M
 strikes-in-spec =

@@ -1,4 +1,4 @@
--- `plan_listing::text::write_text` meets its contract: in each turn the text from i on is left to write, from `place` on.
+-- `plan_listing::text::write_text` meets its contract: in each turn the text from i on is left to write, from `to` on.
 -- Assumes nothing.
 use mathlib.Core.Path.{_≡_}
 use Prim.Native.Nat.{ℕ, suc, _+_, _-_, _<_}
@@ -17,10 +17,10 @@ next-byte : (text : List ℕ) (i : ℕ) → i < length text → drop i text ≡ 
 next-byte text i inside = let next : suc i ≡ i + 1 = omega arith in rw (drop-cons text i 0 inside, next)
 
 abbrev Inv-loop : tie.InvT-loop
-Inv-loop out₀ at text place₀ i₀ out place i = Unwritten out₀ at text out place (drop i text)
+Inv-loop out₀ at text to₀ i₀ out to i = Unwritten out₀ at text out to (drop i text)
 
 abbrev μ-loop : tie.MeasureT-loop
-μ-loop out₀ at text place₀ i₀ out place i = length text - i
+μ-loop out₀ at text to₀ i₀ out to i = length text - i
 
 loop-holds : tie.Need-loop-holds Inv-loop μ-loop
 loop-holds c = unwritten-all _ _ _
@@ -31,10 +31,10 @@ shared-slice-read-out c = search needs
 slice-write-out : tie.Need-slice-write-out Inv-loop μ-loop
 slice-write-out c = search needs
 
-add-place : tie.Need-add-place Inv-loop μ-loop
-add-place c =
+add-to : tie.Need-add-to Inv-loop μ-loop
+add-to c =
     let turn = c .before .before .before .loop in
-    omega (arith, ltb-true (turn .place) (length (turn .out)) (c .before .if1 .taken), turn .inv .size)
+    omega (arith, ltb-true (turn .to) (length (turn .out)) (c .before .if1 .taken), turn .inv .size)
 
 add-i : tie.Need-add-i Inv-loop μ-loop
 add-i c = search needs
@@ -47,7 +47,7 @@ loop-again c =
     let turn = c .before .before .before .loop in
     let text = c .before .before .before .before .args .text .now in
     unwritten-more (turn .inv) (getD text (turn .i) 0 ∷ []) (drop (turn .i + 1) text) (next-byte text (turn .i) (omega arith))
-    (filled-byte (turn .out) (turn .place) (getD text (turn .i) 0) (ltb-true _ _ (c .before .if1 .taken)))
+    (filled-byte (turn .out) (turn .to) (getD text (turn .i) 0) (ltb-true _ _ (c .before .if1 .taken)))
 
 same-length : tie.Need-same-length Inv-loop μ-loop
 same-length c = c .before .before .loop .inv .size
@@ -72,7 +72,7 @@ write-text-spec =
     loop-holds
     shared-slice-read-out
     slice-write-out
-    add-place
+    add-to
     add-i
     loop-less
     loop-again

@@ -9,13 +9,13 @@ use borrow.Author.Tests.{ltb-true, ltb-false, not-true, not-false}
 use Rattle.eit.specs.Fields.{Bytes}
 use Rattle.eit.proofs.Fields.{bytes-all}
 use Rattle.sections.specs.Decode.{statedEventSize, eventLoop}
-use Rattle.sections.specs.Cut.{cut}
+use Rattle.sections.specs.Split.{splitBy}
 use Rattle.codec_crc.specs.CrcTables.{crcTables}
 use Rattle.codec_section.specs.HeaderRead.{heldHeader}
-use Rattle.read_checks.specs.Kept.{keptHeader, checkedHeader}
+use Rattle.read_checks.specs.HeaderBefore.{headerBefore, checkedHeader}
 use Rattle.read_events.specs.EventPass.{checkedEvents, passOf}
-use Rattle.read_checks.specs.declared.header.Kept.the-variants.{Header as Behind}
-use Rattle.read_check.proofs.StepLaws.{says-20, says-21, says-22, says-23, says-24, says-26, goes-on}
+use Rattle.read_checks.specs.declared.header.HeaderBefore.the-variants.{Header as Behind}
+use Rattle.read_check.proofs.StepLaws.{refuses-20, refuses-21, refuses-22, refuses-23, refuses-24, refuses-26, goes-on}
 use native.Mathlib.Omega.{arith}
 use borrow.Author.Needs.{needs}
 use Rattle.read_check.proofs.section.check_section.Statement.{statement}
@@ -35,13 +35,13 @@ at-most : {m n k : ℕ} → m ≤ n → n < k → m < k
 at-most few fits = omega arith
 
 -- a section whose header passed
-module _ (c : tie.After-is-in-place) where
+module _ (c : tie.After-has-right-numbering) where
   abbrev entry : tie.Start
   entry = c .before .before .before .before .before .before .before .before .before .before .before
 
-  header-kept : keptHeader (Behind (c .before .before .shown .given .0 .0))
-      ≡ checkedHeader (keptHeader (entry .args .state .before)) (now (entry .args .section))
-  header-kept = sym (ap keptHeader (c .before .before .shown .given .1)) ∙ c .before .before .before .before .check-header .ensures
+  header-passes : headerBefore (Behind (c .before .before .shown .given .0 .0))
+      ≡ checkedHeader (headerBefore (entry .args .state .before)) (now (entry .args .section))
+  header-passes = sym (ap headerBefore (c .before .before .shown .given .1)) ∙ c .before .before .before .before .check-header .ensures
 
 -- and whose events were looked at
 events-checked : (c : tie.After-check-events)
@@ -49,7 +49,7 @@ events-checked : (c : tie.After-check-events)
     passOf (c .check-events .result) (c .check-events .last .1 .1 .1 .1 .0)
     ≡ checkedEvents (a .base-day) (heldHeader (c .before .before .before .before .before .before .shown .given .0 .0))
     (a .state .least) (now (a .seen))
-    (cut statedEventSize (eventLoop (now (a .section))))
+    (splitBy statedEventSize (eventLoop (now (a .section))))
 events-checked c =
     let a = entry (c .before .before .before .before) .args in
     c .check-events .ensures
@@ -57,21 +57,21 @@ events-checked c =
     (λ (events : List ℕ).
     checkedEvents (a .base-day) (heldHeader (c .before .before .before .before .before .before .shown .given .0 .0))
     (a .state .least) (now (a .seen))
-    (cut statedEventSize events))
+    (splitBy statedEventSize events))
     (c .before .before .event-loop .ensures)
 
 returns : tie.Need-returns
 returns c p tracks =
-    (says-20 tracks _ _ _ (c .before .is-framed .ensures) (not-true _ (c .if1 .taken)), refl)
+    (refuses-20 tracks _ _ _ (c .before .is-framed .ensures) (not-true _ (c .if1 .taken)), refl)
 
-is-closed-requires : tie.Need-is-closed-requires
-is-closed-requires c κs = search needs
+has-right-crc-requires : tie.Need-has-right-crc-requires
+has-right-crc-requires c κs = search needs
 
 returns-2 : tie.Need-returns-2
 returns-2 c p tracks =
     let framed = c .before .before .before in (
-      says-21 tracks _ _ _ (section-bytes framed) (framed .is-framed .ensures) (not-false _ (c .before .before .if1 .left))
-          (lent-tables framed) (c .before .is-closed .ensures) (not-true _ (c .if2 .taken)),
+      refuses-21 tracks _ _ _ (section-bytes framed) (framed .is-framed .ensures) (not-false _ (c .before .before .if1 .left))
+          (lent-tables framed) (c .before .has-right-crc .ensures) (not-true _ (c .if2 .taken)),
       refl,
     )
 
@@ -87,26 +87,26 @@ enum-told c = search needs
 returns-3 : tie.Need-returns-3
 returns-3 c p tracks =
     let kept = c .before .before in
-    let closed = kept .before .before in
-    let framed = closed .before .before in (
-      says-22 tracks _ _ _ (section-bytes framed) (framed .is-framed .ensures) (not-false _ (closed .before .if1 .left)) (lent-tables framed)
-          (closed .is-closed .ensures) (not-false _ (kept .before .if2 .left))
-          (sym (ap keptHeader (c .enum-told .given .1)) ∙ kept .check-header .ensures),
+    let crc-right = kept .before .before in
+    let framed = crc-right .before .before in (
+      refuses-22 tracks _ _ _ (section-bytes framed) (framed .is-framed .ensures) (not-false _ (crc-right .before .if1 .left)) (lent-tables framed)
+          (crc-right .has-right-crc .ensures) (not-false _ (kept .before .if2 .left))
+          (sym (ap headerBefore (c .enum-told .given .1)) ∙ kept .check-header .ensures),
       refl,
     )
 
-is-in-place-requires : tie.Need-is-in-place-requires
-is-in-place-requires c κs = search needs
+has-right-numbering-requires : tie.Need-has-right-numbering-requires
+has-right-numbering-requires c κs = search needs
 
 returns-4 : tie.Need-returns-4
 returns-4 c p tracks =
-    let placed = c .before in
-    let kept = placed .before .before .before .before in
-    let closed = kept .before .before in
-    let framed = closed .before .before in (
-      says-23 tracks _ _ _ (section-bytes framed) (framed .is-framed .ensures) (not-false _ (closed .before .if1 .left)) (lent-tables framed)
-          (closed .is-closed .ensures) (not-false _ (kept .before .if2 .left)) (header-kept placed)
-          (placed .is-in-place .ensures) (not-true _ (c .if3 .taken)),
+    let numbered = c .before in
+    let kept = numbered .before .before .before .before in
+    let crc-right = kept .before .before in
+    let framed = crc-right .before .before in (
+      refuses-23 tracks _ _ _ (section-bytes framed) (framed .is-framed .ensures) (not-false _ (crc-right .before .if1 .left)) (lent-tables framed)
+          (crc-right .has-right-crc .ensures) (not-false _ (kept .before .if2 .left)) (header-passes numbered)
+          (numbered .has-right-numbering .ensures) (not-true _ (c .if3 .taken)),
       refl,
     )
 
@@ -123,13 +123,13 @@ returns-5 : tie.Need-returns-5
 returns-5 c p tracks =
     let checked = c .before .before .before .before in
     let looped = checked .before .before in
-    let placed = looped .before .before in
-    let kept = placed .before .before .before .before in
-    let closed = kept .before .before in
-    let framed = closed .before .before in (
-      says-24 tracks _ _ _ (section-bytes framed) (framed .is-framed .ensures) (not-false _ (closed .before .if1 .left)) (lent-tables framed)
-          (closed .is-closed .ensures) (not-false _ (kept .before .if2 .left)) (header-kept placed)
-          (placed .is-in-place .ensures) (not-false _ (looped .before .if3 .left)) (events-checked checked)
+    let numbered = looped .before .before in
+    let kept = numbered .before .before .before .before in
+    let crc-right = kept .before .before in
+    let framed = crc-right .before .before in (
+      refuses-24 tracks _ _ _ (section-bytes framed) (framed .is-framed .ensures) (not-false _ (crc-right .before .if1 .left)) (lent-tables framed)
+          (crc-right .has-right-crc .ensures) (not-false _ (kept .before .if2 .left)) (header-passes numbered)
+          (numbered .has-right-numbering .ensures) (not-false _ (looped .before .if3 .left)) (events-checked checked)
           (not-true _ (c .if4 .taken)),
       refl,
     )
@@ -142,18 +142,18 @@ returns-6 c p tracks =
     let whole = c .before .before in
     let checked = whole .before .before .before .before in
     let looped = checked .before .before in
-    let placed = looped .before .before in
-    let kept = placed .before .before .before .before in
-    let closed = kept .before .before in
-    let framed = closed .before .before in
-    let a = entry placed .args in
+    let numbered = looped .before .before in
+    let kept = numbered .before .before .before .before in
+    let crc-right = kept .before .before in
+    let framed = crc-right .before .before in
+    let a = entry numbered .args in
     let many : a .sizes .«event_limit» < checked .check-events .result .events + a .state .count =
     ⊎-elim (λ w. omega (arith, w .taken))
     (λ w. omega (arith, w .0 .left, ltb-true (a .sizes .«event_limit» - checked .check-events .result .events) (a .state .count) (w .3 .taken)))
     (c .if5 .came) in (
-      says-26 tracks _ _ _ (section-bytes framed) (framed .is-framed .ensures) (not-false _ (closed .before .if1 .left)) (lent-tables framed)
-          (closed .is-closed .ensures) (not-false _ (kept .before .if2 .left)) (header-kept placed)
-          (placed .is-in-place .ensures) (not-false _ (looped .before .if3 .left)) (events-checked checked)
+      refuses-26 tracks _ _ _ (section-bytes framed) (framed .is-framed .ensures) (not-false _ (crc-right .before .if1 .left)) (lent-tables framed)
+          (crc-right .has-right-crc .ensures) (not-false _ (kept .before .if2 .left)) (header-passes numbered)
+          (numbered .has-right-numbering .ensures) (not-false _ (looped .before .if3 .left)) (events-checked checked)
           (not-false _ (whole .if4 .left)) many,
       refl,
     )
@@ -181,14 +181,14 @@ returns-7 c p tracks =
     let whole = room .before .before .before .before .before in
     let checked = whole .before .before .before .before in
     let looped = checked .before .before in
-    let placed = looped .before .before in
-    let kept = placed .before .before .before .before in
-    let closed = kept .before .before in
-    let framed = closed .before .before in
-    let a = entry placed .args in
-    goes-on tracks _ _ _ (section-bytes framed) (framed .is-framed .ensures) (not-false _ (closed .before .if1 .left)) (lent-tables framed)
-    (closed .is-closed .ensures) (not-false _ (kept .before .if2 .left)) (header-kept placed)
-    (placed .is-in-place .ensures) (not-false _ (looped .before .if3 .left)) (events-checked checked)
+    let numbered = looped .before .before in
+    let kept = numbered .before .before .before .before in
+    let crc-right = kept .before .before in
+    let framed = crc-right .before .before in
+    let a = entry numbered .args in
+    goes-on tracks _ _ _ (section-bytes framed) (framed .is-framed .ensures) (not-false _ (crc-right .before .if1 .left)) (lent-tables framed)
+    (crc-right .has-right-crc .ensures) (not-false _ (kept .before .if2 .left)) (header-passes numbered)
+    (numbered .has-right-numbering .ensures) (not-false _ (looped .before .if3 .left)) (events-checked checked)
     (not-false _ (whole .if4 .left))
     (omega (
       arith,
@@ -202,13 +202,13 @@ check-section-spec =
     (tie.spec
     is-framed-requires
     returns
-    is-closed-requires
+    has-right-crc-requires
     returns-2
     check-header-requires
     enum-known-shown
     enum-told
     returns-3
-    is-in-place-requires
+    has-right-numbering-requires
     returns-4
     event-loop-requires
     check-events-requires

@@ -6,9 +6,9 @@ use denote.Ref.{now}
 use borrow.Author.Needs.{needs}
 use borrow.Author.Tests.{ltb-true, ltb-false}
 use Rattle.eit.proofs.Fields.{bytes-all}
-use Rattle.sections.specs.JudgeHeader.{isTable}
+use Rattle.sections.specs.HeaderTests.{isTable}
 use Rattle.codec.proofs.FieldLaws.{field-exact}
-use Rattle.read_checks.proofs.FrameLaws.{framed-cut, framed-short, framed-long, framed-table}
+use Rattle.read_checks.proofs.FrameLaws.{framed-truncated, framed-short, framed-long, framed-table}
 use Rattle.read_checks.proofs.frame.is_framed.Statement.{statement}
 use Rattle.read_checks.proofs.frame.is_framed.Tie as tie
 
@@ -18,7 +18,7 @@ stated-size-requires c κs = search needs
 returns : tie.Need-returns
 returns c =
     let a = c .before .before .before .args in
-    sym (framed-cut (a .sizes) (now (a .section)) (c .before .stated-size .ensures) (c .if1 .taken))
+    sym (framed-truncated (a .sizes) (now (a .section)) (c .before .stated-size .ensures) (c .if1 .taken))
 
 cast-if3 : tie.Need-cast-if3
 cast-if3 c = search needs

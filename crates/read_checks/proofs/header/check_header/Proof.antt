@@ -7,11 +7,11 @@ use denote.Ref.{now}
 use borrow.Author.Needs.{needs}
 use borrow.Author.Tests.{not-true, not-false}
 use Rattle.sections.specs.Decode.{headerIn}
-use Rattle.sections.specs.JudgeHeader.{isTable, hasFixedBits}
-use Rattle.codec_section.specs.HeaderRead.{heldHeader, headerTold}
+use Rattle.sections.specs.HeaderTests.{isTable, hasFixedBits}
+use Rattle.codec_section.specs.HeaderRead.{heldHeader, headerOrNone}
 use Rattle.codec_section.proofs.HeaderLaws.{header-only, short-only}
-use Rattle.read_checks.specs.Kept.{keptHeader}
-use Rattle.read_checks.proofs.HeaderCheckLaws.{header-short, header-unfixed, header-no-table, header-other, header-kept}
+use Rattle.read_checks.specs.HeaderBefore.{headerBefore}
+use Rattle.read_checks.proofs.HeaderCheckLaws.{header-short, header-unfixed, header-no-table, header-other, header-passes}
 use Rattle.read_checks.proofs.header.check_header.Statement.{statement}
 use Rattle.read_checks.proofs.header.check_header.Tie as tie
 
@@ -30,8 +30,8 @@ returns c =
     let a = read .before .before .args in
     let bs = now (a .section) in
     sym
-    (header-short (keptHeader (a .before)) bs
-    (short-only bs (ap headerTold (sym (c .enum-told .given .1)) ∙ read .read-header .ensures)))
+    (header-short (headerBefore (a .before)) bs
+    (short-only bs (ap headerOrNone (sym (c .enum-told .given .1)) ∙ read .read-header .ensures)))
 
 has-fixed-bits-requires : tie.Need-has-fixed-bits-requires
 has-fixed-bits-requires c κs = search needs
@@ -48,7 +48,7 @@ shown-is : (c : tie.After-shown)
 shown-is c =
     let read = c .before .before in
     header-only (now (read .before .before .args .section))
-    (ap headerTold (sym (c .shown .given .1)) ∙ read .read-header .ensures) .1
+    (ap headerOrNone (sym (c .shown .given .1)) ∙ read .read-header .ensures) .1
 
 returns-2 : tie.Need-returns-2
 returns-2 c =
@@ -58,9 +58,9 @@ returns-2 c =
     let bits = sym (c .before .has-fixed-bits .ensures) in
     sym
     (⊎-elim
-    (λ w. header-unfixed (keptHeader (a .before)) bs (bits ∙ not-true _ (w .taken)))
+    (λ w. header-unfixed (headerBefore (a .before)) bs (bits ∙ not-true _ (w .taken)))
     (λ w.
-    header-no-table (keptHeader (a .before)) bs (bits ∙ not-false _ (w .0 .left)) (shown-is shown)
+    header-no-table (headerBefore (a .before)) bs (bits ∙ not-false _ (w .0 .left)) (shown-is shown)
     (sym (w .2 .ensures) ∙ not-true _ (w .3 .taken)))
     (c .if1 .came))
 
@@ -83,7 +83,7 @@ returns-3 c =
     let shown = fixed .before .before .before in
     let a = shown .before .before .before .before .args in
     let other = sym (c .before .is-same-file .ensures) ∙ not-true _ (c .if3 .taken) in
-    sym (header-other (keptHeader (a .before)) (now (a .section)) (fixed-is fixed) (shown-is shown) (table-is tabled) other)
+    sym (header-other (headerBefore (a .before)) (now (a .section)) (fixed-is fixed) (shown-is shown) (table-is tabled) other)
 
 returns-4 : tie.Need-returns-4
 returns-4 c =
@@ -92,7 +92,7 @@ returns-4 c =
     let shown = fixed .before .before .before in
     let a = shown .before .before .before .before .args in
     let same = sym (c .before .is-same-file .ensures) ∙ not-false _ (c .if3 .left) in
-    sym (header-kept (keptHeader (a .before)) (now (a .section)) (fixed-is fixed) (shown-is shown) (table-is tabled) same)
+    sym (header-passes (headerBefore (a .before)) (now (a .section)) (fixed-is fixed) (shown-is shown) (table-is tabled) same)
 
 pub check-header-spec : {M : Type 1} → statement M
 check-header-spec =

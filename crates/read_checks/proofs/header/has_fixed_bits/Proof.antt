@@ -10,7 +10,7 @@ use borrow.Author.Needs.{needs}
 use borrow.Author.Tests.{eq-eqb, ne-eqb}
 use lib.Dec.{eqb}
 use Rattle.eit.proofs.Fields.{bytes-all}
-use Rattle.sections.specs.JudgeHeader.{hasFixedBits}
+use Rattle.sections.specs.HeaderTests.{hasFixedBits}
 use Rattle.codec.proofs.FieldLaws.{field-exact}
 use Rattle.read_checks.proofs.header.has_fixed_bits.Statement.{statement}
 use Rattle.read_checks.proofs.header.has_fixed_bits.Tie as tie

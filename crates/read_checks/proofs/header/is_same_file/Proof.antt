@@ -6,11 +6,11 @@ use mathlib.Core.Option.{some}
 use mathlib.Core.Path.{_≡_, sym, ap, _∙_}
 use borrow.Author.Needs.{needs}
 use lib.Dec.{eqb}
-use Rattle.sections.specs.JudgeHeader.{isTriplet, isSameFile}
+use Rattle.sections.specs.HeaderTests.{isTriplet, isSameFile}
 use Rattle.codec_section.specs.HeaderRead.{heldHeader}
 use Rattle.codec_section.specs.declared.header.SectionHeader.{SectionHeader}
-use Rattle.read_checks.specs.Kept.{keptHeader}
-use Rattle.read_checks.specs.declared.header.Kept.{Kept}
+use Rattle.read_checks.specs.HeaderBefore.{headerBefore}
+use Rattle.read_checks.specs.declared.header.HeaderBefore.{HeaderBefore}
 use Rattle.read_checks.proofs.header.is_same_file.Statement.{statement}
 use Rattle.read_checks.proofs.header.is_same_file.Tie as tie
 
@@ -40,8 +40,8 @@ shown c = kept c .before .before .args .header
 two-tests : (c : tie.Joined1)
     → c .if1 .if2 ≡ (isTriplet (last c .triplet) (shown c .triplet) && eqb (shown c .version) (last c .version))
 two-tests c =
-    let told = sym (c .before .is-triplet .ensures) in
-    ⊎-elim (λ w. rw (told ∙ w .0 .taken) (w .3)) (λ w. rw (told ∙ w .0 .left) (w .1 ∙ w .0 .left)) (c .if1 .came)
+    let outcomeOf = sym (c .before .is-triplet .ensures) in
+    ⊎-elim (λ w. rw (outcomeOf ∙ w .0 .taken) (w .3)) (λ w. rw (outcomeOf ∙ w .0 .left) (w .1 ∙ w .0 .left)) (c .if1 .came)
 
 -- and last_table_id
 three-tests : (g h : SectionHeader) {two : Bool} → two ≡ (isTriplet (g .triplet) (h .triplet) && eqb (h .version) (g .version))
@@ -50,10 +50,10 @@ three-tests g h is = rw is (simp and-assoc)
 
 all-tests : (c : tie.Joined1) {two : Bool} → c .if1 .if2 ≡ two
     → (two && eqb (shown c .«last_table_id») (last c .«last_table_id»))
-    ≡ isSameFile (keptHeader (kept c .before .before .args .before)) (heldHeader (shown c))
+    ≡ isSameFile (headerBefore (kept c .before .before .args .before)) (heldHeader (shown c))
 all-tests c flag =
     three-tests (last c) (shown c) (sym flag ∙ two-tests c)
-    ∙ ap (λ (k : Kept). isSameFile (keptHeader k) (heldHeader (shown c))) (sym (kept c .before2 .given .1))
+    ∙ ap (λ (k : HeaderBefore). isSameFile (headerBefore k) (heldHeader (shown c))) (sym (kept c .before2 .given .1))
 
 returns-2 : tie.Need-returns-2
 returns-2 c = all-tests (c .before .before .before) (c .before .before .if2 .taken)

@@ -5,7 +5,7 @@ use mathlib.Core.Logic.{⊎-elim}
 use mathlib.Core.Path.{_≡_, _∙_}
 use borrow.Author.Tests.{eq-eqb, ne-eqb}
 use lib.Dec.{eqb}
-use Rattle.sections.specs.JudgeHeader.{isTriplet}
+use Rattle.sections.specs.HeaderTests.{isTriplet}
 use Rattle.read_checks.proofs.header.is_triplet.Statement.{statement}
 use Rattle.read_checks.proofs.header.is_triplet.Tie as tie
 

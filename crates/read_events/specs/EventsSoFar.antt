@@ -1,5 +1,5 @@
 -- What is kept of the events so far: a least start and a set of ids (01, "The file of sections": over the file starts rise
--- strictly, ids differ). Laws: proofs/EventKeptLaws.antt. Assumes nothing.
+-- strictly, ids differ). Laws: proofs/EventsSoFarLaws.antt. Assumes nothing.
 use mathlib.Core.Path.{_≡_}
 use mathlib.Core.List.{List, [], _∷_}
 use Prim.Native.Nat.{ℕ}
@@ -14,7 +14,7 @@ leastAfter [] = 0
 leastAfter (d ∷ seen) = leastBehind d
 
 -- a least start and a set are those of the events so far; the set has a bit for each id
-pub record KeptOf (least : ℕ) (words : List ℕ) (seen : List Event) : Type 0 where
+pub record EventsSoFar (least : ℕ) (words : List ℕ) (seen : List Event) : Type 0 where
   pub least-is : least ≡ leastAfter seen
   pub ids : SeenAre words (eventIds seen)
   pub room : length words ≡ 1024

@@ -24,5 +24,5 @@ answerValue (Unpackable index) = index
 answerValue (OutputShort need) = need
 
 -- the answer and the output as Build's definition has them
-abbrev pub told : BuildAnswer → List ℕ → Built
-told r output = record { number = answerNumber r; value = answerValue r; output = output }
+abbrev pub outcomeOf : BuildAnswer → List ℕ → Built
+outcomeOf r output = record { number = answerNumber r; value = answerValue r; output = output }

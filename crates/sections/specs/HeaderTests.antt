@@ -11,13 +11,13 @@ use Rattle.eit.specs.declared.Sizes.{Sizes}
 use Rattle.eit.specs.Fields.{field}
 use Rattle.eit.specs.Crc.{crc32}
 use Rattle.eit.specs.declared.Triplet.{Triplet}
-use Rattle.sections.specs.Segment.{tableLeast, tableMost, firstOf}
+use Rattle.sections.specs.Segment.{tableFirst, tableMax, firstOf}
 use Rattle.sections.specs.Section.{Header}
 use Rattle.sections.specs.Decode.{statedSectionSize, headerIn}
 
 -- table_id, 0x50 to 0x5F; last_table_id (0x50 to 0x5F)
 abbrev pub isTable : ℕ → Bool
-isTable table = leb tableLeast table && leb table tableMost
+isTable table = leb tableFirst table && leb table tableMax
 
 -- 20: section cut, table_id or length out of range. section_length, 15 to 4,093, counts all bytes but the first three
 unfoldable pub isFramed : Sizes → List ℕ → Bool
@@ -26,8 +26,8 @@ isFramed sizes bs =
     && (leb sectionOverhead (length bs) && (leb (length bs) (sizes .«section_limit») && isTable (field 0 1 bs)))
 
 -- 21: over the whole section CRC_32 leaves 0
-unfoldable pub isClosed : List ℕ → Bool
-isClosed bs = eqb (crc32 bs) 0
+unfoldable pub hasRightCrc : List ℕ → Bool
+hasRightCrc bs = eqb (crc32 bs) 0
 
 -- bits 1111 before section_length; bits 11 before the version, and current_next 1 behind it
 abbrev pub hasFixedBits : List ℕ → Bool
@@ -64,9 +64,9 @@ abbrev pub isAt : ℕ → ℕ → ℕ → Header → Bool
 isAt table number last h =
     eqb (h .tableId) table && (eqb (h .sectionNumber) number && eqb (h .lastSectionNumber) last)
 
--- the place of a section behind the one before it; the first is table 0x50, section 0
+-- the numbers of a section behind the one before it; the first is table 0x50, section 0
 abbrev pub isNext : Option Header → Header → Bool
-isNext none h = eqb (h .tableId) tableLeast && eqb (h .sectionNumber) 0
+isNext none h = eqb (h .tableId) tableFirst && eqb (h .sectionNumber) 0
 isNext (some g) h =
     elim (ltb (g .sectionNumber) (g .segmentLastSectionNumber)) [
       | true ↦
@@ -79,5 +79,5 @@ isNext (some g) h =
     ]
 
 -- 23: numbering, or table past last_table_id
-unfoldable pub isInPlace : Option Header → Header → Bool
-isInPlace before h = isNumbered h && (isNext before h && leb (h .tableId) (h .lastTableId))
+unfoldable pub hasRightNumbering : Option Header → Header → Bool
+hasRightNumbering before h = isNumbered h && (isNext before h && leb (h .tableId) (h .lastTableId))

@@ -8,7 +8,7 @@ use mathlib.Core.List.{List, [], _∷_, _++_, append-assoc, map-append}
 use lib.Dec.{T}
 use lib.ListN.{length, length-append}
 use lib.Seq.{take-append-seam, drop-append-seam}
-use Rattle.eit.specs.Limits.{marksMost}
+use Rattle.eit.specs.Limits.{marksMax}
 use Rattle.eit.specs.Fields.{bigEndian}
 use Rattle.eit.specs.Time.{startBytes, durationBytes}
 use Rattle.eit.specs.Crc.{crc32}
@@ -25,7 +25,7 @@ use Rattle.sections.specs.Section.{eventSize, sectionSize, sectionEvents
 use Rattle.sections.specs.Encode.{bitOf, statusWord, eventBytes, headerBytes}
 use Rattle.sections.specs.Encode.{eventLoopBytes, coveredBytes, sectionBytes, fileBytes}
 use Rattle.sections.specs.Rules.{EventRules}
-use Rattle.sections.specs.Places.{recordAt, recordsAt, recordsFrom, filePools}
+use Rattle.sections.specs.Offsets.{recordAt, recordsAt, recordsFrom, filePools}
 use Rattle.sections.proofs.Lengths.{event-length, header-length, section-length}
 
 -- ---- as many records as events, with their ids
@@ -60,7 +60,7 @@ records-ids at (s ∷ ss) =
 record Stands (file : List ℕ) (at : ℕ) (bs : List ℕ) : Type 0 where
   front : List ℕ
   rest : List ℕ
-  place : length front ≡ at
+  offset-is : length front ≡ at
   whole : file ≡ front ++ (bs ++ rest)
 
 module _ (file : List ℕ) (at : ℕ) where
@@ -69,7 +69,7 @@ module _ (file : List ℕ) (at : ℕ) where
       record {
         front = h .front;
         rest = cs ++ h .rest;
-        place = h .place;
+        offset-is = h .offset-is;
         whole = h .whole ∙ ap (λ (ds : List ℕ). h .front ++ ds) (append-assoc bs cs (h .rest));
       }
 
@@ -78,7 +78,7 @@ module _ (file : List ℕ) (at : ℕ) where
       record {
         front = h .front ++ bs;
         rest = h .rest;
-        place = length-append (h .front) bs ∙ ap (λ (n : ℕ). n + length bs) (h .place);
+        offset-is = length-append (h .front) bs ∙ ap (λ (n : ℕ). n + length bs) (h .offset-is);
         whole =
             h .whole
             ∙ ap (λ (ds : List ℕ). h .front ++ ds) (append-assoc bs cs (h .rest))
@@ -86,12 +86,12 @@ module _ (file : List ℕ) (at : ℕ) where
       }
 
   stands-inside : (bs : List ℕ) → Stands file at bs → at + length bs ≤ length file
-  stands-inside bs h = rw (h .whole) (simp length-append (omega (arith, h .place)))
+  stands-inside bs h = rw (h .whole) (simp length-append (omega (arith, h .offset-is)))
 
   stands-part : (bs : List ℕ) → Stands file at bs → part file at (length bs) ≡ bs
   stands-part bs h =
       part-inside file at (length bs) (stands-inside bs h)
-      ∙ rw (h .whole, ← h .place, drop-append-seam (h .front) (bs ++ h .rest)) (take-append-seam bs (h .rest))
+      ∙ rw (h .whole, ← h .offset-is, drop-append-seam (h .front) (bs ++ h .rest)) (take-append-seam bs (h .rest))
 
 -- ---- an event
 
@@ -115,7 +115,7 @@ marks-off true false = refl
 marks-off false true = refl
 marks-off false false = refl
 
-marks-few : (freeCa offAir : Bool) → bitOf freeCa + bitOf offAir * 4 ≤ marksMost
+marks-few : (freeCa offAir : Bool) → bitOf freeCa + bitOf offAir * 4 ≤ marksMax
 marks-few true true = omega arith
 marks-few true false = omega arith
 marks-few false true = omega arith
@@ -240,7 +240,7 @@ pub records-events : (base : ℕ) (before : List ℕ) (ss : List Section) (after
     → eventsIn (filePools (before ++ (fileBytes base ss ++ after)) series) (recordsFrom (length before) ss) ≡ sectionEvents ss
 records-events base before ss after series =
     from-events (before ++ (fileBytes base ss ++ after)) series base (length before) ss
-    (record { front = before; rest = after; place = refl; whole = refl })
+    (record { front = before; rest = after; offset-is = refl; whole = refl })
 
 -- and the records are valid
 pub records-valid : (base : ℕ) (before : List ℕ) (ss : List Section) (after series : List ℕ)
@@ -248,4 +248,4 @@ pub records-valid : (base : ℕ) (before : List ℕ) (ss : List Section) (after 
     → T (allValid (filePools (before ++ (fileBytes base ss ++ after)) series) (recordsFrom (length before) ss))
 records-valid base before ss after series =
     from-valid (before ++ (fileBytes base ss ++ after)) series base (length before) ss
-    (record { front = before; rest = after; place = refl; whole = refl })
+    (record { front = before; rest = after; offset-is = refl; whole = refl })

@@ -13,7 +13,7 @@ use Rattle.eit.specs.Among.{isAmong}
 use Rattle.eit.specs.Events.{Event, follows}
 use Rattle.sections.specs.Segment.{segmentIndex, tableOf, firstSection, firstOf}
 use Rattle.sections.specs.Section.{Header, eventOverhead, eventIds}
-use Rattle.sections.specs.Decode.{statusField, statedEventSize, eventIn, headerIn, cutEvents}
+use Rattle.sections.specs.Decode.{statusField, statedEventSize, eventIn, headerIn, splitEvents}
 
 -- an event starts in its section's segment
 abbrev pub isInSegment : Header → ℕ → Bool
@@ -54,10 +54,10 @@ areNew seen (e ∷ es) = isNew seen e && areNew (e ∷ seen) es
 -- 24: event loop breaks a rule, the 2,048 aside
 unfoldable pub isEventLoop : ℕ → List Event → List ℕ → Bool
 isEventLoop base seen bs =
-    let events = cutEvents bs in
+    let events = splitEvents bs in
     areEvents base (headerIn bs) events
     && (isFilledOrAlone (headerIn bs) events && areNew seen (map (eventIn base) events))
 
 -- 26: event 2,049
 unfoldable pub isWithinLimit : Sizes → List Event → List ℕ → Bool
-isWithinLimit sizes seen bs = leb (length seen + length (cutEvents bs)) (sizes .«event_limit»)
+isWithinLimit sizes seen bs = leb (length seen + length (splitEvents bs)) (sizes .«event_limit»)

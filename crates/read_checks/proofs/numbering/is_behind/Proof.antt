@@ -1,13 +1,13 @@
--- `is_behind` meets its contract: the numbers of the section before choose the place; the tests of that place decide.
+-- `is_behind` meets its contract: the numbers of the section before choose the numbers that must follow; the tests of these decide.
 -- Assumes nothing.
 use Prim.Native.Nat.{_+_}
 use mathlib.Core.Path.{sym, _∙_}
 use borrow.Author.Needs.{needs}
 use borrow.Author.Tests.{eq-eqb, ne-eqb}
 use Rattle.codec_section.specs.HeaderRead.{heldHeader}
-use Rattle.read_checks.proofs.PlaceLaws.{next-section, next-segment, next-table}
-use Rattle.read_checks.proofs.place.is_behind.Statement.{statement}
-use Rattle.read_checks.proofs.place.is_behind.Tie as tie
+use Rattle.read_checks.proofs.NumberingLaws.{next-section, next-segment, next-table}
+use Rattle.read_checks.proofs.numbering.is_behind.Statement.{statement}
+use Rattle.read_checks.proofs.numbering.is_behind.Tie as tie
 
 cast-table : tie.Need-cast-table
 cast-table c = search needs

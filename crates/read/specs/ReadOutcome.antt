@@ -2,8 +2,8 @@
 use mathlib.Core.List.{List}
 use Prim.Native.Nat.{ℕ}
 use Rattle.sections.specs.Read.{Reading}
-use Rattle.read_answer.specs.Told.{told}
+use Rattle.read_answer.specs.Outcome.{outcomeOf}
 use Rattle.read_answer.specs.declared.CheckedFile.{CheckedFile}
 
-abbrev pub readTold : CheckedFile → List ℕ → Reading
-readTold r buffer = record { answer = told r; buffer = buffer }
+abbrev pub readOutcome : CheckedFile → List ℕ → Reading
+readOutcome r buffer = record { answer = outcomeOf r; buffer = buffer }

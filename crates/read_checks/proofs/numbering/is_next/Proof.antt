@@ -2,9 +2,9 @@
 -- Assumes nothing.
 use borrow.Author.Needs.{needs}
 use borrow.Author.Tests.{eq-eqb, ne-eqb}
-use Rattle.sections.specs.Segment.{tableLeast}
-use Rattle.read_checks.proofs.place.is_next.Statement.{statement}
-use Rattle.read_checks.proofs.place.is_next.Tie as tie
+use Rattle.sections.specs.Segment.{tableFirst}
+use Rattle.read_checks.proofs.numbering.is_next.Statement.{statement}
+use Rattle.read_checks.proofs.numbering.is_next.Tie as tie
 
 enum-told : tie.Need-enum-told
 enum-told c = search needs
@@ -22,13 +22,13 @@ returns : tie.Need-returns
 returns c =
     let nothing = c .before .before .before in
     let header = nothing .before .before .args .header in
-    rw (nothing .enum-told .given .1, eq-eqb (header .«table_id») tableLeast (c .before .if1 .taken))
+    rw (nothing .enum-told .given .1, eq-eqb (header .«table_id») tableFirst (c .before .if1 .taken))
 
 returns-2 : tie.Need-returns-2
 returns-2 c =
     let nothing = c .before .before in
     let header = nothing .before .before .args .header in
-    rw (nothing .enum-told .given .1, ne-eqb (header .«table_id») tableLeast (c .if1 .left))
+    rw (nothing .enum-told .given .1, ne-eqb (header .«table_id») tableFirst (c .if1 .left))
 
 returns-3 : tie.Need-returns-3
 returns-3 c = rw (c .before .before .before2 .given .1) (c .is-behind .ensures)

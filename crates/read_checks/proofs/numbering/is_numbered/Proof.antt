@@ -7,10 +7,10 @@ use mathlib.Core.Path.{_≡_, _∙_}
 use borrow.Author.Needs.{needs}
 use borrow.Author.Tests.{le-leb, lt-leb, eq-eqb, ne-eqb}
 use lib.Dec.{leb, eqb}
-use Rattle.sections.specs.JudgeHeader.{isNumbered}
+use Rattle.sections.specs.HeaderTests.{isNumbered}
 use Rattle.codec_section.specs.HeaderRead.{heldHeader}
-use Rattle.read_checks.proofs.place.is_numbered.Statement.{statement}
-use Rattle.read_checks.proofs.place.is_numbered.Tie as tie
+use Rattle.read_checks.proofs.numbering.is_numbered.Statement.{statement}
+use Rattle.read_checks.proofs.numbering.is_numbered.Tie as tie
 
 first-of-requires : tie.Need-first-of-requires
 first-of-requires c κs = search needs

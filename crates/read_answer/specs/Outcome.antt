@@ -56,8 +56,8 @@ answerCount (EventLimit offset) = 0
 answerCount (RecordsShort events) = 0
 
 -- the answer as Read's definition has it
-abbrev pub told : CheckedFile → Answer
-told r =
+abbrev pub outcomeOf : CheckedFile → Answer
+outcomeOf r =
     record {
       number = answerNumber (r .answer);
       value = answerValue (r .answer);

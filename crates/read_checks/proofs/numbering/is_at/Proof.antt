@@ -5,10 +5,10 @@ use mathlib.Core.Path.{_≡_, _∙_}
 use borrow.Author.Needs.{needs}
 use borrow.Author.Tests.{eq-eqb, ne-eqb}
 use lib.Dec.{eqb}
-use Rattle.sections.specs.JudgeHeader.{isAt}
+use Rattle.sections.specs.HeaderTests.{isAt}
 use Rattle.codec_section.specs.HeaderRead.{heldHeader}
-use Rattle.read_checks.proofs.place.is_at.Statement.{statement}
-use Rattle.read_checks.proofs.place.is_at.Tie as tie
+use Rattle.read_checks.proofs.numbering.is_at.Statement.{statement}
+use Rattle.read_checks.proofs.numbering.is_at.Tie as tie
 
 cast-if1 : tie.Need-cast-if1
 cast-if1 c = search needs

@@ -1,18 +1,18 @@
--- The header that is kept from one section to the next (01, "The file of sections"). Assumes nothing.
+-- The header of the section before (01, "The file of sections"). Assumes nothing.
 use mathlib.Core.Bool.{true, false}
 use mathlib.Core.List.{List}
 use mathlib.Core.Option.{Option, none, some}
 use Prim.Native.Nat.{ℕ}
 use Rattle.sections.specs.Section.{Header}
 use Rattle.sections.specs.Decode.{headerIn}
-use Rattle.sections.specs.JudgeHeader.{isHeader}
+use Rattle.sections.specs.HeaderTests.{isHeader}
 use Rattle.codec_section.specs.HeaderRead.{heldHeader}
-use Rattle.read_checks.specs.declared.header.Kept.{Kept}
-use Rattle.read_checks.specs.declared.header.Kept.the-variants.{Header as Behind, Nothing}
+use Rattle.read_checks.specs.declared.header.HeaderBefore.{HeaderBefore}
+use Rattle.read_checks.specs.declared.header.HeaderBefore.the-variants.{Header as Behind, Nothing}
 
-abbrev pub keptHeader : Kept → Option Header
-keptHeader (Behind h) = some (heldHeader h)
-keptHeader Nothing = none
+abbrev pub headerBefore : HeaderBefore → Option Header
+headerBefore (Behind h) = some (heldHeader h)
+headerBefore Nothing = none
 
 -- 22: the header of a section that passes, given the one before it
 abbrev pub checkedHeader : Option Header → List ℕ → Option Header

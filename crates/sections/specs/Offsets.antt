@@ -1,5 +1,5 @@
 -- The records of sections that stand in a file: where each chain lies (01, "Build, Read": "marks never have 2, offsets are into the
--- file"). Laws: proofs/Places.antt. Assumes nothing.
+-- file"). Laws: proofs/Offsets.antt. Assumes nothing.
 use Prim.Native.Nat.{ℕ, _+_, _*_}
 use mathlib.Core.List.{List, [], _∷_, _++_}
 use lib.ListN.{length}

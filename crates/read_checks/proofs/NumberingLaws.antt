@@ -1,4 +1,4 @@
--- The place behind a section, case by case: the next of its segment, the first of the next segment, the first of the next table.
+-- The numbers behind a section, case by case: the next of its segment, the first of the next segment, the first of the next table.
 -- Assumes nothing.
 use Prim.Native.Nat.{_+_, _≤_, _<_}
 use mathlib.Core.Bool.{_&&_}
@@ -8,7 +8,7 @@ use borrow.Author.Tests.{lt-ltb, le-ltb}
 use lib.Dec.{eqb}
 use Rattle.sections.specs.Segment.{firstOf}
 use Rattle.sections.specs.Section.{Header}
-use Rattle.sections.specs.JudgeHeader.{isAt, isNext}
+use Rattle.sections.specs.HeaderTests.{isAt, isNext}
 
 module _ (g h : Header) where
   pub next-section : g .sectionNumber < g .segmentLastSectionNumber

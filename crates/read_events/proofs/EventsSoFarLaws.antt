@@ -1,5 +1,5 @@
 -- The pass that keeps a least start and a set of ids judges as 24 does, which looks back at the events themselves: the least
--- start is that behind the latest event, and the set holds the ids of all (`KeptOf`). Assumes nothing.
+-- start is that behind the latest event, and the set holds the ids of all (`EventsSoFar`). Assumes nothing.
 use mathlib.Core.Path.{_≡_, refl, sym, ap, subst, _∙_}
 use mathlib.Core.Logic.{⊎-elim}
 use mathlib.Core.Bool.{not, _&&_}
@@ -16,28 +16,28 @@ use Rattle.eit.proofs.Fields.{bytes-parts, bytes-take, bytes-drop}
 use Rattle.eit.proofs.Test.{and-left, and-right, and-both, true-is, false-is, test-or, both-ways}
 use Rattle.eit.proofs.Events.{follows-least}
 use Rattle.sections.specs.Section.{Header, headerSize, eventIds}
-use Rattle.sections.specs.Decode.{statedEventSize, eventIn, headerIn, eventLoop, cutEvents}
-use Rattle.sections.specs.Cut.{cut}
-use Rattle.sections.specs.JudgeEvents.{isEvent, areEvents, isFilledOrAlone, isNew, areNew, isEventLoop}
+use Rattle.sections.specs.Decode.{statedEventSize, eventIn, headerIn, eventLoop, splitEvents}
+use Rattle.sections.specs.Split.{splitBy}
+use Rattle.sections.specs.EventTests.{isEvent, areEvents, isFilledOrAlone, isNew, areNew, isEventLoop}
 use Rattle.sections.proofs.EventBytes.{event-forth}
-use Rattle.sections.proofs.Cut.{cut-joined}
+use Rattle.sections.proofs.Split.{split-joined}
 use Rattle.codec.specs.Seen.{isSeen, withSeen}
 use Rattle.codec.proofs.SeenLaws.{seen-empty, seen-more, seen-length}
 use Rattle.read_events.specs.EventPass.{EventPass, isTaken, takeEvents, checkedEvents}
-use Rattle.read_events.specs.EventsKept.{KeptOf}
+use Rattle.read_events.specs.EventsSoFar.{EventsSoFar}
 use Rattle.read_events.proofs.EventPassLaws.{take-none, take-more, take-stops}
 
-pub kept-start : KeptOf 0 (replicate 1024 0) []
-kept-start = record { least-is = refl; ids = seen-empty 1024; room = length-replicate {A = ℕ} 1024 0 }
+pub so-far-start : EventsSoFar 0 (replicate 1024 0) []
+so-far-start = record { least-is = refl; ids = seen-empty 1024; room = length-replicate {A = ℕ} 1024 0 }
 
 -- one event
 module _ {least : ℕ} {words : List ℕ} (e : Event) (id : e .id < 65_536) where
-  kept-new : (seen : List Event) → KeptOf least words seen → (leb least (e .start) && not (isSeen words (e .id))) ≡ isNew seen e
-  kept-new [] kept = rw (kept .least-is, le-leb 0 (e .start) (omega arith), kept .ids (e .id) (omega (arith, kept .room)))
-  kept-new (d ∷ seen) kept = rw (kept .least-is, follows-least d e, kept .ids (e .id) (omega (arith, kept .room)))
+  so-far-new : (seen : List Event) → EventsSoFar least words seen → (leb least (e .start) && not (isSeen words (e .id))) ≡ isNew seen e
+  so-far-new [] kept = rw (kept .least-is, le-leb 0 (e .start) (omega arith), kept .ids (e .id) (omega (arith, kept .room)))
+  so-far-new (d ∷ seen) kept = rw (kept .least-is, follows-least d e, kept .ids (e .id) (omega (arith, kept .room)))
 
-  kept-more : {seen : List Event} → KeptOf least words seen → KeptOf (leastBehind e) (withSeen words (e .id)) (e ∷ seen)
-  kept-more {seen} kept = record {
+  so-far-more : {seen : List Event} → EventsSoFar least words seen → EventsSoFar (leastBehind e) (withSeen words (e .id)) (e ∷ seen)
+  so-far-more {seen} kept = record {
     least-is = refl;
     ids = seen-more words (eventIds seen) (e .id) (kept .ids) (omega (arith, kept .room));
     room = seen-length words (e .id) ∙ kept .room;
@@ -58,10 +58,10 @@ module _ (base : ℕ) (h : Header) where
     pub are : T (areEvents base h pieces)
     pub new : T (areNew seen (map (eventIn base) pieces))
     pub events : pass .events ≡ n + length pieces
-    pub kept : KeptOf (pass .least) (pass .words) (reverse (map (eventIn base) pieces) ++ seen)
+    pub kept : EventsSoFar (pass .least) (pass .words) (reverse (map (eventIn base) pieces) ++ seen)
 
   take-forth : (n : ℕ) {least : ℕ} {words : List ℕ} (pieces : List (List ℕ)) (seen : List Event) → Bytes (flatten pieces)
-      → KeptOf least words seen → T (takeEvents base h n least words pieces .isWhole)
+      → EventsSoFar least words seen → T (takeEvents base h n least words pieces .isWhole)
       → Taken n pieces seen (takeEvents base h n least words pieces)
   unfolding flatten
   take-forth n {least} {words} [] seen bytes kept whole =
@@ -75,21 +75,21 @@ module _ (base : ℕ) (h : Header) where
       let goes-on = take-more base h n least words bs rest (true-is _ taken) in
       let event : T (isEvent base h bs) = and-left (isEvent base h bs) _ taken in
       let id = id-below bs front event in
-      let new : T (isNew seen e) = subst T (kept-new e id seen kept) (and-right (isEvent base h bs) _ taken) in
-      let others = take-forth (n + 1) rest (e ∷ seen) behind (kept-more e id kept) (subst (λ (p : EventPass). T (p .isWhole)) goes-on whole) in
+      let new : T (isNew seen e) = subst T (so-far-new e id seen kept) (and-right (isEvent base h bs) _ taken) in
+      let others = take-forth (n + 1) rest (e ∷ seen) behind (so-far-more e id kept) (subst (λ (p : EventPass). T (p .isWhole)) goes-on whole) in
       subst (Taken n (bs ∷ rest) seen) (sym goes-on)
       (record {
         are = and-both (isEvent base h bs) (areEvents base h rest) event (others .are);
         new = and-both (isNew seen e) (areNew (e ∷ seen) (map (eventIn base) rest)) new (others .new);
         events = omega (arith, others .events);
-        kept = subst (KeptOf _ _) (latest-first e (map (eventIn base) rest) seen) (others .kept);
+        kept = subst (EventsSoFar _ _) (latest-first e (map (eventIn base) rest) seen) (others .kept);
       }))
       (λ (left : T (not (isTaken base h least words bs))).
       absurd (subst (λ (p : EventPass). T (p .isWhole)) (take-stops base h n least words bs rest (false-is _ left)) whole))
       (test-or (isTaken base h least words bs))
 
   take-back : (n : ℕ) {least : ℕ} {words : List ℕ} (pieces : List (List ℕ)) (seen : List Event) → Bytes (flatten pieces)
-      → KeptOf least words seen → T (areEvents base h pieces) → T (areNew seen (map (eventIn base) pieces))
+      → EventsSoFar least words seen → T (areEvents base h pieces) → T (areNew seen (map (eventIn base) pieces))
       → T (takeEvents base h n least words pieces .isWhole)
   unfolding flatten
   take-back n {least} {words} [] seen bytes kept are new = rw (take-none base h n least words) tt
@@ -100,19 +100,19 @@ module _ (base : ℕ) (h : Header) where
       let id = id-below bs front event in
       let first : T (isNew seen e) = and-left (isNew seen e) _ new in
       let taken : T (isTaken base h least words bs) =
-      and-both (isEvent base h bs) _ event (subst T (sym (kept-new e id seen kept)) first) in
+      and-both (isEvent base h bs) _ event (subst T (sym (so-far-new e id seen kept)) first) in
       rw (take-more base h n least words bs rest (true-is _ taken))
-      (take-back (n + 1) rest (e ∷ seen) behind (kept-more e id kept) (and-right (isEvent base h bs) (areEvents base h rest) are)
+      (take-back (n + 1) rest (e ∷ seen) behind (so-far-more e id kept) (and-right (isEvent base h bs) (areEvents base h rest) are)
       (and-right (isNew seen e) _ new))
 
 -- a section's event loop
-module _ (base : ℕ) (bs : List ℕ) (bytes : Bytes bs) {least : ℕ} {words : List ℕ} (seen : List Event) (kept : KeptOf least words seen) where
+module _ (base : ℕ) (bs : List ℕ) (bytes : Bytes bs) {least : ℕ} {words : List ℕ} (seen : List Event) (kept : EventsSoFar least words seen) where
   abbrev loop : List (List ℕ)
-  loop = cut statedEventSize (eventLoop bs)
+  loop = splitBy statedEventSize (eventLoop bs)
 
   loop-bytes : Bytes (flatten loop)
   loop-bytes =
-      subst Bytes (sym (cut-joined statedEventSize (λ piece. omega arith) (eventLoop bs)))
+      subst Bytes (sym (split-joined statedEventSize (λ piece. omega arith) (eventLoop bs)))
       (bytes-take (length bs - sectionOverhead) (drop headerSize bs) (bytes-drop headerSize bs bytes))
 
   abbrev taking : EventPass
@@ -122,7 +122,7 @@ module _ (base : ℕ) (bs : List ℕ) (bytes : Bytes bs) {least : ℕ} {words : 
   pass = checkedEvents base (headerIn bs) least words loop
 
   pub loop-checked : pass .isWhole ≡ isEventLoop base seen bs
-  unfolding isEventLoop cutEvents
+  unfolding isEventLoop splitEvents
   loop-checked =
       both-ways (pass .isWhole) (isEventLoop base seen bs)
       (λ whole.
@@ -136,9 +136,9 @@ module _ (base : ℕ) (bs : List ℕ) (bytes : Bytes bs) {least : ℕ} {words : 
       (and-right (isFilledOrAlone (headerIn bs) loop) _ rest))
       (and-left (isFilledOrAlone (headerIn bs) loop) _ rest))
 
-  pub loop-kept : T (pass .isWhole)
-      → (pass .events ≡ length (cutEvents bs)) × KeptOf (pass .least) (pass .words) (reverse (map (eventIn base) (cutEvents bs)) ++ seen)
-  unfolding cutEvents
-  loop-kept whole =
+  pub loop-so-far : T (pass .isWhole)
+      → (pass .events ≡ length (splitEvents bs)) × EventsSoFar (pass .least) (pass .words) (reverse (map (eventIn base) (splitEvents bs)) ++ seen)
+  unfolding splitEvents
+  loop-so-far whole =
       let taken = take-forth base (headerIn bs) 0 loop seen loop-bytes kept (and-left (taking .isWhole) _ whole) in
       (omega (arith, taken .events), taken .kept)

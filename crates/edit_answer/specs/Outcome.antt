@@ -33,6 +33,6 @@ answerValue count (ListFull at) = at
 answerValue count (NoChain at) = at
 
 -- the answer, the count and the buffer as Edit's definition has them
-abbrev pub told : Edited → List ℕ → model.Edited
-told r buffer =
+abbrev pub outcomeOf : Edited → List ℕ → model.Edited
+outcomeOf r buffer =
     record { number = answerNumber (r .answer); value = answerValue (r .count) (r .answer); list = lentList buffer (r .count) }

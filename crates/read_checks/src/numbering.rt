@@ -1,14 +1,14 @@
-// A section's numbers, and its place behind the section before it (01, "The file of sections"): S is section_number, G is
+// A section's numbers, and how they follow those of the section before it (01, "The file of sections"): S is section_number, G is
 // segment_last_section_number, L is last_section_number.
-use crate::frame::TABLE_LEAST;
-use crate::header::Kept;
+use crate::frame::TABLE_FIRST;
+use crate::header::HeaderBefore;
 use codec_section::header::SectionHeader;
 ghost use mathlib.Core.Path.{_≡_};
 ghost use Rattle.codec_section.specs.HeaderRead.{heldHeader};
 ghost use mathlib.Core.Option.{some};
 ghost use Rattle.sections.specs.Segment.{firstOf};
-ghost use Rattle.sections.specs.JudgeHeader.{isNumbered, isAt, isNext, isInPlace};
-ghost use Rattle.read_checks.specs.Kept.{keptHeader};
+ghost use Rattle.sections.specs.HeaderTests.{isNumbered, isAt, isNext, hasRightNumbering};
+ghost use Rattle.read_checks.specs.HeaderBefore.{headerBefore};
 
 // s0 = S − S mod 8: the first section of the segment that S belongs to.
 pub fn first_of(number: u8) -> u32
@@ -64,19 +64,20 @@ fn is_behind(last: SectionHeader, header: SectionHeader) -> bool
     header.table_id as u32 == table + 1 && header.section_number == 0
 }
 
-// The place behind the section before; the first section is section 0 of the first table.
-fn is_next(before: Kept, header: SectionHeader) -> bool
-    ensures { λ r. ⌜ r ≡ isNext (keptHeader before) (heldHeader header) ⌝ }
+// The numbers behind the section before; the first section is section 0 of the first table.
+fn is_next(before: HeaderBefore, header: SectionHeader) -> bool
+    ensures { λ r. ⌜ r ≡ isNext (headerBefore before) (heldHeader header) ⌝ }
 {
     match before {
-        Kept::Nothing => header.table_id as u32 == TABLE_LEAST && header.section_number == 0,
-        Kept::Header(last) => is_behind(last, header),
+        HeaderBefore::Nothing => header.table_id as u32 == TABLE_FIRST
+            && header.section_number == 0,
+        HeaderBefore::Header(last) => is_behind(last, header),
     }
 }
 
-// 23: the section's numbers and its place, and no table past last_table_id.
-pub fn is_in_place(before: Kept, header: SectionHeader) -> bool
-    ensures { λ r. ⌜ r ≡ isInPlace (keptHeader before) (heldHeader header) ⌝ }
+// 23: the section's numbers, how they follow those before, and no table past last_table_id.
+pub fn has_right_numbering(before: HeaderBefore, header: SectionHeader) -> bool
+    ensures { λ r. ⌜ r ≡ hasRightNumbering (headerBefore before) (heldHeader header) ⌝ }
 {
     is_numbered(header) && is_next(before, header) && header.table_id <= header.last_table_id
 }
