@@ -29,7 +29,8 @@ use Rattle.schedule.proofs.SoundEvents.{EventFacts, SoundEvents, sound-events}
 use Rattle.schedule.proofs.Packable.{packable-or}
 use Rattle.schedule.proofs.Plan.{plan-sound}
 use Rattle.schedule.proofs.ByIndex.{flat-plan}
-use Rattle.schedule.proofs.Build.{build-unsound, build-sound, events-refused, events-written, written-short, written-fits}
+use Rattle.schedule.proofs.Build.{build-unsound, build-sound, events-refused, events-written, written-short}
+use Rattle.schedule.proofs.Build.{written-fits}
 use Rattle.build_counts.specs.Counting.{indexOr512, needOf, countedOf}
 use Rattle.build_counts.specs.declared.count.Counted.{Counted}
 use Rattle.build_counts.proofs.WalkLaws.{events-are}
@@ -54,14 +55,16 @@ module _ (sizes : Sizes) (pools : Pools) (numbers : List ℕ) (count : ℕ) (cou
   answer-unsound fails =
       let unsound : sound sizes pools list ≡ false =
       sym (counted-sound sizes pools list) ∙ sym (ap (λ (c : Counted). c .«is_sound») is-counted) ∙ fails in
-      build-unsound sizes pools list base identity output legalBase legalVersion (subst (λ (b : Bool). T (not b)) (sym unsound) tt)
+      build-unsound sizes pools list base identity output legalBase legalVersion
+      (subst (λ (b : Bool). T (not b)) (sym unsound) tt)
 
   module _ (is : counted .«is_sound» ≡ true) where
     abbrev es : List Event
     es = eventsOf pools list
 
     holds : T (sound sizes pools list)
-    holds = subst T (sym (sym (counted-sound sizes pools list) ∙ sym (ap (λ (c : Counted). c .«is_sound») is-counted) ∙ is)) tt
+    holds = subst T
+        (sym (sym (counted-sound sizes pools list) ∙ sym (ap (λ (c : Counted). c .«is_sound») is-counted) ∙ is)) tt
 
     found : counted
         ≡ soundWith (flatten (plan sizes pools list)) (indexOr512 (lowestUnpackable sizes es)) (needOf sizes es)
@@ -76,10 +79,12 @@ module _ (sizes : Sizes) (pools : Pools) (numbers : List ℕ) (count : ℕ) (cou
     built-events : answer ≡ buildEvents sizes base identity es output
     built-events = build-sound sizes pools list base identity output legalBase legalVersion holds
 
-    pub answer-unpackable : counted .lowest < 512 → answer ≡ record { number = 10; value = counted .lowest; output = output }
+    pub answer-unpackable : counted .lowest < 512
+        → answer ≡ record { number = 10; value = counted .lowest; output = output }
     answer-unpackable few =
         built-events
-        ∙ events-refused sizes base identity es output (counted .lowest) (index-found (lowestUnpackable sizes es) lowest-found few)
+        ∙ events-refused sizes base identity es output (counted .lowest)
+        (index-found (lowestUnpackable sizes es) lowest-found few)
 
     module _ (day : Bytes (pools .day)) (series : Bytes (pools .series)) (none-found : 512 ≤ counted .lowest) where
       facts : SoundEvents sizes es
@@ -95,7 +100,8 @@ module _ (sizes : Sizes) (pools : Pools) (numbers : List ℕ) (count : ℕ) (cou
       built-sections : answer ≡ written base (sectionsOf sizes identity es) output
       built-sections = built-events ∙ events-written sizes base identity es output (none-unpackable .0)
 
-      pub answer-short : length output < counted .need → answer ≡ record { number = 11; value = counted .need; output = output }
+      pub answer-short : length output < counted .need
+          → answer ≡ record { number = 11; value = counted .need; output = output }
       answer-short short =
           built-sections
           ∙ written-short base (sectionsOf sizes identity es) output (omega (arith, need-found))
@@ -113,7 +119,8 @@ module _ (sizes : Sizes) (pools : Pools) (numbers : List ℕ) (count : ℕ) (cou
       pub answer-writable : counted .need ≤ length output
           → Writable sizes identity (eventsIn pools (recordsIn count numbers)) (counted .counts) output
       answer-writable fits =
-          subst (λ (fs : List Event). Writable sizes identity fs (counted .counts) output) (events-are pools numbers count)
+          subst (λ (fs : List Event). Writable sizes identity fs (counted .counts) output)
+          (events-are pools numbers count)
           (record {
             rises = facts .rises;
             starts = starts;

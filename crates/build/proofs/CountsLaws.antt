@@ -1,5 +1,5 @@
--- What the section counts of all segments tell before the file is written: which segments are inside the range, and L of each
--- table, which is the number of the last section of the last segment that has sections. Assumes nothing.
+-- What the section counts of all segments tell before the file is written: which segments are inside the range, and L
+-- of each table, which is the number of the last section of the last segment that has sections. Assumes nothing.
 use mathlib.Core.Path.{_≡_, sym, ap, _∙_}
 use mathlib.Core.Bool.{not}
 use mathlib.Core.Logic.{inr, ⊎-elim}
@@ -56,7 +56,8 @@ module _ {sizes : Sizes} {identity : Identity} {es : List Event} {counts d : Lis
       -- so the count tells which it is
       pub counted-inside : 0 < getD counts index 0 → T (isInside es index)
       counted-inside some =
-          ⊎-elim (λ inside. inside) (λ outside. absurd (omega (arith, count-none outside))) (test-or (isInside es index))
+          ⊎-elim (λ inside. inside) (λ outside. absurd (omega (arith, count-none outside)))
+          (test-or (isInside es index))
 
       pub counted-outside : getD counts index 0 ≤ 0 → T (not (isInside es index))
       counted-outside none =
@@ -70,7 +71,8 @@ module _ {sizes : Sizes} {identity : Identity} {es : List Event} {counts d : Lis
 
       pub row-is : IsRow (drop index counts)
       row-is =
-          let zeroth : getD counts (index + 0) 0 ≡ getD counts index 0 = ap (λ (k : ℕ). getD counts k 0) (omega arith) in
+          let zeroth : getD counts (index + 0) 0 ≡ getD counts index 0 =
+          ap (λ (k : ℕ). getD counts k 0) (omega arith) in
           record {
             long = omega (arith, length-drop index counts, counts-length);
             some = omega (arith, row-at 0);

@@ -1,5 +1,5 @@
--- The file written segment by segment: each segment inside the range adds its part, the events behind it are those of later
--- segments, and what is left to write shrinks. Assumes nothing.
+-- The file written segment by segment: each segment inside the range adds its part, the events behind it are those of
+-- later segments, and what is left to write shrinks. Assumes nothing.
 use mathlib.Core.Path.{_≡_, sym, ap, ap₂, subst, _∙_}
 use mathlib.Core.Bool.{not}
 use mathlib.Core.List.{List, _++_, flatten}
@@ -44,7 +44,8 @@ pub record FileSoFar (pools : Pools) (numbers : List ℕ) (count : ℕ) (sizes :
     : Type 0 where
   pub left :
       let es = heldEvents pools numbers count in
-      Left d 0 (fileBytes base (sectionsOf sizes identity es)) out at (fileBytes base (sectionsAfter sizes identity es index))
+      Left d 0 (fileBytes base (sectionsOf sizes identity es)) out at
+      (fileBytes base (sectionsAfter sizes identity es index))
   pub walk : SegmentWalk pools numbers count from index
   pub few : index ≤ 512
   -- behind the first segment of a table L is known
@@ -58,9 +59,11 @@ pub file-same : {pools : Pools} {numbers : List ℕ} {count : ℕ} {sizes : Size
     → out′ ≡ out → last′ ≡ last → at′ ≡ at → from′ ≡ from
     → FileSoFar pools numbers count sizes identity base d out last at from index
     → FileSoFar pools numbers count sizes identity base d out′ last′ at′ from′ index
-file-same {pools} {numbers} {count} {sizes} {identity} {base} {d} {out} {out′} {last} {last′} {at} {at′} {from} {from′} {index}
+file-same {pools} {numbers} {count} {sizes} {identity} {base} {d} {out} {out′} {last} {last′} {at} {at′} {from} {from′}
+    {index}
     o l a f so-far =
-    let So : List ℕ → ℕ → ℕ → ℕ → Type 0 = λ bs k m n. FileSoFar pools numbers count sizes identity base d bs k m n index in
+    let So : List ℕ → ℕ → ℕ → ℕ → Type 0 =
+    λ bs k m n. FileSoFar pools numbers count sizes identity base d bs k m n index in
     subst (So out′ last′ at′) (sym f)
     (subst (λ (m : ℕ). So out′ last′ m from) (sym a)
     (subst (λ (k : ℕ). So out′ k at from) (sym l) (subst (λ (bs : List ℕ). So bs last at from) (sym o) so-far)))
@@ -118,14 +121,16 @@ module _ (pools : Pools) (numbers : List ℕ) (count : ℕ) {sizes : Sizes} {ide
 
           -- ---- a segment outside the range has no part, and no later one of its table has
 
-          pub file-skip : getD counts index 0 ≤ 0 → FileSoFar pools numbers count sizes identity base d out last at from (index + 1)
+          pub file-skip : getD counts index 0 ≤ 0
+              → FileSoFar pools numbers count sizes identity base d out last at from (index + 1)
           file-skip none =
               let outside : T (not (isInside es index)) = counted-outside ready index few none in
               record {
                 left =
                     subst (Left d 0 (fileBytes base (sectionsOf sizes identity es)) out at)
                     (ap (fileBytes base)
-                    (next-part ∙ ap (λ (ss : List Section). ss ++ behind) (part-outside sizes identity es index outside)))
+                    (next-part
+                    ∙ ap (λ (ss : List Section). ss ++ behind) (part-outside sizes identity es index outside)))
                     (so-far .left);
                 walk = walk-past pools numbers count (ready .rises) (so-far .walk) outside;
                 few = omega arith;
@@ -162,7 +167,8 @@ module _ (pools : Pools) (numbers : List ℕ) (count : ℕ) {sizes : Sizes} {ide
                   written-is : sections ≡ insidePart sizes identity es index
                   written-is =
                       let n : ℕ = getD counts index 0 in
-                      let parts : n ≡ length (packedSegment sizes es index) = count-parts ready index few inside-range in
+                      let parts : n ≡ length (packedSegment sizes es index) =
+                      count-parts ready index few inside-range in
                       let held : Header = headerOf sizes identity es index (firstSection index) in
                       ap₂ (λ (r : ℕ) (h : Header). sectionsFrom r h n (eventsBetween pools numbers from end)) is-room
                       (ap heldHeader is-header ∙ header-is sizes identity es index parts is-last is-id)

@@ -1,5 +1,5 @@
--- A segment's part of Build's file is what the code writes for it: greedy packing takes what fits, as often as there are
--- parts, and the code's header holds the numbers S, G and L of the definition. Assumes nothing.
+-- A segment's part of Build's file is what the code writes for it: greedy packing takes what fits, as often as there
+-- are parts, and the code's header holds the numbers S, G and L of the definition. Assumes nothing.
 use mathlib.Core.Path.{_≡_, refl, sym, ap, ap₂, _∙_}
 use mathlib.Core.List.{List, [], _∷_}
 use Prim.Native.Nat.{ℕ, zero, suc, _+_, _-_, _/_}
@@ -15,7 +15,8 @@ use Rattle.sections.specs.Count.{segmentEvents}
 use Rattle.sections.proofs.Version.{version-of}
 use Rattle.codec_section.specs.HeaderRead.{heldHeader}
 use Rattle.schedule.specs.Extent.{lastTableIdOf}
-use Rattle.schedule.specs.SectionsOf.{packed, packedSegment, segmentLast, tableLast, headerOf, numberedFrom, sectionsOfSegment}
+use Rattle.schedule.specs.SectionsOf.{packed, packedSegment, segmentLast, tableLast, headerOf, numberedFrom}
+use Rattle.schedule.specs.SectionsOf.{sectionsOfSegment}
 use Rattle.schedule.proofs.Numbers.{segment-last-is}
 use Rattle.build.specs.Sections.{firstHeader, sectionsFrom}
 
@@ -26,7 +27,8 @@ module _ (sizes : Sizes) (identity : Identity) (es : List Event) (index : ℕ) w
       → sections ≡ length (packedSegment sizes es index)
       → last ≡ tableLast sizes es (index / 32)
       → lastId ≡ lastTableIdOf es
-      → heldHeader (firstHeader index sections last lastId identity) ≡ headerOf sizes identity es index (firstSection index)
+      → heldHeader (firstHeader index sections last lastId identity)
+      ≡ headerOf sizes identity es index (firstSection index)
   header-is {sections} {last} {lastId} counted is-last is-id =
       let held : ℕ → ℕ → ℕ → ℕ → Header =
       λ v G L i.
@@ -43,7 +45,8 @@ module _ (sizes : Sizes) (identity : Identity) (es : List Event) (index : ℕ) w
       let is-number : firstSection index + (sections - 1) ≡ segmentLast sizes es index =
       ap (λ (n : ℕ). firstSection index + (n - 1)) counted ∙ sym (segment-last-is sizes es index) in
       let is-version : identity .version ≡ version = sym (version-of identity (tableOf index)) in
-      ap₂ (λ (v G : ℕ). held v G last lastId) is-version is-number ∙ ap₂ (held version (segmentLast sizes es index)) is-last is-id
+      ap₂ (λ (v G : ℕ). held v G last lastId) is-version is-number
+      ∙ ap₂ (held version (segmentLast sizes es index)) is-last is-id
 
   -- ---- the sections
 
@@ -69,7 +72,8 @@ module _ (sizes : Sizes) (identity : Identity) (es : List Event) (index : ℕ) w
   packed-from S (x ∷ xs) = greedy-from S 8 (x ∷ xs)
 
   pub segment-is : sectionsOfSegment sizes identity es index
-      ≡ sectionsFrom (room sizes) (headerOf sizes identity es index (firstSection index)) (length (packedSegment sizes es index))
+      ≡ sectionsFrom (room sizes) (headerOf sizes identity es index (firstSection index))
+      (length (packedSegment sizes es index))
       (segmentEvents index es)
   unfolding sectionsOfSegment packedSegment
   segment-is = packed-from (firstSection index) (segmentEvents index es)

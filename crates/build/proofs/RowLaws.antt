@@ -1,5 +1,5 @@
--- The last section of a table, searched downwards from its last segment: behind the segment that is looked at none of the
--- table has sections. Assumes nothing.
+-- The last section of a table, searched downwards from its last segment: behind the segment that is looked at none of
+-- the table has sections. Assumes nothing.
 use mathlib.Core.Path.{_≡_, refl, sym, ap, _∙_}
 use mathlib.Core.Logic.{_⊎_, inl, inr, ⊎-elim}
 use mathlib.Core.List.{List}

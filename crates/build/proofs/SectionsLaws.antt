@@ -1,4 +1,5 @@
--- The sections of a segment, written one after the other: each takes what fits of the events that are left. Assumes nothing.
+-- The sections of a segment, written one after the other: each takes what fits of the events that are left.
+-- Assumes nothing.
 use mathlib.Core.Path.{_≡_, refl, sym, ap, ap₂, subst, _∙_}
 use mathlib.Core.List.{List, [], _∷_, _++_}
 use Prim.Native.Nat.{ℕ, suc, _+_, _-_, _≤_, _<_}
@@ -60,7 +61,8 @@ module _ (pools : Pools) (numbers : List ℕ) (room : ℕ) (first : SectionHeade
       (eventsBetween pools numbers next end)
 
   -- k sections are written; the header differs from the first one's in section_number only
-  pub record SegmentSoFar (base : ℕ) (d : List ℕ) (at from : ℕ) (out : List ℕ) (header : SectionHeader) (offset next k : ℕ)
+  pub record SegmentSoFar (base : ℕ) (d : List ℕ) (at from : ℕ) (out : List ℕ) (header : SectionHeader)
+      (offset next k : ℕ)
       : Type 0 where
     pub left : Left d at (fileBytes base (allSections from)) out offset (fileBytes base (sectionsBehind k next))
     pub few : k ≤ sections
@@ -75,7 +77,8 @@ module _ (pools : Pools) (numbers : List ℕ) (room : ℕ) (first : SectionHeade
       record {
         left =
             subst (Left d at all d at)
-            (ap₂ (λ (n m : ℕ). fileBytes base (sectionsFrom room (heldHeader (numbered first n)) m (eventsBetween pools numbers from end)))
+            (ap₂ (λ (n m : ℕ). fileBytes base
+            (sectionsFrom room (heldHeader (numbered first n)) m (eventsBetween pools numbers from end)))
             zeroth every)
             (left-all d at all (omega (arith, file-length base (allSections from))));
         few = omega arith;
@@ -93,11 +96,13 @@ module _ (pools : Pools) (numbers : List ℕ) (room : ℕ) (first : SectionHeade
           let none : sections - k ≡ 0 = omega arith in
           let (written, ends) =
           left-end (so-far .left)
-          (ap (λ (n : ℕ). fileBytes base (sectionsFrom room h n es)) none ∙ ap (fileBytes base) (no-sections room h es) ∙ file-none base) in
+          (ap (λ (n : ℕ). fileBytes base (sectionsFrom room h n es)) none ∙ ap (fileBytes base) (no-sections room h es)
+          ∙ file-none base) in
           (written, omega (arith, ends, file-length base (allSections from)))
 
       -- the next section takes as many of the next events as fit
-      module _ (more : k < sections) (taken : Cut) (cut : taken ≡ cutOf next room (eventsBetween pools numbers next end))
+      module _ (more : k < sections) (taken : Cut)
+          (cut : taken ≡ cutOf next room (eventsBetween pools numbers next end))
         where
           abbrev number : ℕ
           number = first .«section_number» + k

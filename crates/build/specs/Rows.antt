@@ -1,5 +1,6 @@
--- The last section of a table, by the section counts of its thirty-two segments (01, "Build, Read": "Each table ends with its last
--- segment that has events, or with section 0 if it has none"). Laws: proofs/RowLaws.antt. Assumes nothing.
+-- The last section of a table, by the section counts of its thirty-two segments (01, "Build, Read": "Each table ends
+-- with its last segment that has events, or with section 0 if it has none"). Laws: proofs/RowLaws.antt.
+-- Assumes nothing.
 use Prim.Native.Nat.{ℕ, zero, suc, _+_, _-_, _*_, _≤_, _<_}
 use mathlib.Core.Bool.{true, false}
 use mathlib.Core.List.{List}

@@ -1,5 +1,5 @@
--- Sections with the next events that fit, one after the other, as they are written (01, "Build, Read": the packing rule). Laws:
--- proofs/SectionsLaws.antt. Assumes nothing.
+-- Sections with the next events that fit, one after the other, as they are written (01, "Build, Read": the packing
+-- rule). Laws: proofs/SectionsLaws.antt. Assumes nothing.
 use Prim.Native.Nat.{ℕ, zero, suc, _+_, _-_}
 use mathlib.Core.List.{List, [], _∷_}
 use lib.ListN.{take, drop}

@@ -31,8 +31,8 @@ const TABLE_FIRST: usize = 0x50;
 
 const SEGMENT_SECTIONS: usize = 8;
 
-// The sections of a segment, as many as `sections` says, with the events from `from` to `end`: each takes as many of the next events
-// as fit, and is numbered from the first header's section_number on. Returns the offset behind them.
+// The sections of a segment, as many as `sections` says, with the events from `from` to `end`: each takes as many of
+// the next events as fit, and is numbered from the first header's section_number on. Returns the offset behind them.
 fn write_segment<'a>(
     out: &mut [u8],
     at: usize,
@@ -50,7 +50,8 @@ fn write_segment<'a>(
     requires { ⌜
         (at
         + sectionSizes
-        (sectionsFrom room (heldHeader first) sections (eventsBetween (lentPools (now day) (now series)) (now list) from end))
+        (sectionsFrom room (heldHeader first) sections
+        (eventsBetween (lentPools (now day) (now series)) (now list) from end))
         ≤ length (now out))
         × (first .«section_number» + sections ≤ 256)
         × (now «crc_tables» ≡ crcTables) ⌝ }

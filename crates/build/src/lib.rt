@@ -102,7 +102,8 @@ pub fn build<'a>(
     out: &mut [u8],
 ) -> BuildAnswer
     ensures { λ r. ⌜
-        build broadcast (lentPools (now (day .entry)) (now (series .entry))) (lentList (now (list .entry)) count) «base_day» identity
+        build broadcast (lentPools (now (day .entry)) (now (series .entry))) (lentList (now (list .entry)) count)
+        «base_day» identity
         (now (out .entry))
         ≡ outcomeOf r (now (out .exit)) ⌝ }
 {

@@ -1,5 +1,5 @@
-// One section written: its header, its events, CRC_32 (01, "The file of sections"). Each chain goes straight from its pool to the
-// output.
+// One section written: its header, its events, CRC_32 (01, "The file of sections"). Each chain goes straight from its
+// pool to the output.
 use codec::fields;
 use codec::pools;
 use codec_crc::CRC_FIRST;
@@ -32,12 +32,15 @@ fn write_events<'a>(
     day: &'a [u8],
     series: &'a [u8],
 ) -> usize
-    requires { ⌜ at + eventSizes (eventsBetween (lentPools (now day) (now series)) (now list) from to) ≤ length (now out) ⌝ }
+    requires { ⌜ at + eventSizes (eventsBetween (lentPools (now day) (now series)) (now list) from to) ≤ length
+        (now out) ⌝ }
     ensures { λ r. ⌜
         now (out .exit)
         ≡ overwrite (now (out .entry)) at
-        (eventLoopBytes «base_day» (eventsBetween (lentPools (now (day .entry)) (now (series .entry))) (now (list .entry)) from to))
-        × (r ≡ at + eventSizes (eventsBetween (lentPools (now (day .entry)) (now (series .entry))) (now (list .entry)) from to)) ⌝ }
+        (eventLoopBytes «base_day»
+        (eventsBetween (lentPools (now (day .entry)) (now (series .entry))) (now (list .entry)) from to))
+        × (r ≡ at + eventSizes
+        (eventsBetween (lentPools (now (day .entry)) (now (series .entry))) (now (list .entry)) from to)) ⌝ }
 {
     let mut offset = at;
     let mut i = from;
@@ -73,7 +76,8 @@ pub fn write_section<'a>(
         now (out .exit)
         ≡ overwrite (now (out .entry)) at
         (sectionBytes «base_day»
-        (sectionOf header (eventsBetween (lentPools (now (day .entry)) (now (series .entry))) (now (list .entry)) from to))) ⌝ }
+        (sectionOf header
+        (eventsBetween (lentPools (now (day .entry)) (now (series .entry))) (now (list .entry)) from to))) ⌝ }
 {
     header::write_header(out, at, size, header);
     let end = write_events(out, at + HEADER_SIZE, base_day, list, from, to, day, series);

@@ -29,4 +29,5 @@ module _ (sizes : Sizes) (pools : Pools) (list : EventList) (base : ℕ) (identi
   pub built-inside : (built : Built) → build sizes pools list base identity output ≡ built
       → {number size : ℕ} → number ≡ built .number → size ≡ built .value → number ≡ 0 → size ≤ length output
   built-inside built is {number} {size} number-is value success =
-      let inside : Inside output built = subst (Inside output) is build-inside in omega (arith, inside (sym number-is ∙ success))
+      let inside : Inside output built =
+      subst (Inside output) is build-inside in omega (arith, inside (sym number-is ∙ success))

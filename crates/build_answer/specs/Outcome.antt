@@ -3,7 +3,8 @@ use Prim.Native.Nat.{ℕ}
 use mathlib.Core.List.{List}
 use Rattle.schedule.specs.Build.{Built}
 use Rattle.build_answer.specs.declared.BuildAnswer.{BuildAnswer}
-use Rattle.build_answer.specs.declared.BuildAnswer.the-variants.{Done, BaseDay, Version, Unsound, Unpackable, OutputShort}
+use Rattle.build_answer.specs.declared.BuildAnswer.the-variants.{Done, BaseDay, Version, Unsound, Unpackable}
+use Rattle.build_answer.specs.declared.BuildAnswer.the-variants.{OutputShort}
 
 -- Build's refusals and their numbers
 abbrev pub answerNumber : BuildAnswer → ℕ

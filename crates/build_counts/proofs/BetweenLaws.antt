@@ -70,10 +70,12 @@ module _ (pools : Pools) (numbers : List ℕ) where
   unfolding eventsBetween
   between-end i end behind = ap (eventsIn pools) (records-end end numbers i behind)
 
-  pub between-drop : (i end n : ℕ) → drop n (eventsBetween pools numbers i end) ≡ eventsBetween pools numbers (i + n) end
+  pub between-drop : (i end n : ℕ)
+      → drop n (eventsBetween pools numbers i end) ≡ eventsBetween pools numbers (i + n) end
   unfolding eventsBetween
   between-drop i end n =
-      sym (events-drop pools n (drop i (recordsIn end numbers))) ∙ ap (eventsIn pools) (drop-drop n i (recordsIn end numbers))
+      sym (events-drop pools n (drop i (recordsIn end numbers)))
+      ∙ ap (eventsIn pools) (drop-drop n i (recordsIn end numbers))
 
   pub between-length : (i end : ℕ) → length (eventsBetween pools numbers i end) ≡ end - i
   unfolding eventsBetween

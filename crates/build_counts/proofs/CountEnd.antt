@@ -1,5 +1,5 @@
--- What the pass over all segments has found at its end is what Build asks of a sound list; of an unsound one there is Plan alone.
--- Assumes nothing.
+-- What the pass over all segments has found at its end is what Build asks of a sound list; of an unsound one there is
+-- Plan alone. Assumes nothing.
 use mathlib.Core.Path.{_≡_, refl, sym, ap, ap₂, subst, _∙_}
 use mathlib.Core.Bool.{Bool, true, false, not}
 use mathlib.Core.Logic.{⊎-elim}
@@ -50,7 +50,8 @@ module _ (sizes : Sizes) (pools : Pools) (list : EventList) where
   unfolding countedOf
   sound-is is = rw (countedOf, true-is (sound sizes pools list) is)
 
-  unsound-is : T (not (sound sizes pools list)) → countedOf sizes pools list ≡ unsoundWith (flatten (plan sizes pools list))
+  unsound-is : T (not (sound sizes pools list))
+      → countedOf sizes pools list ≡ unsoundWith (flatten (plan sizes pools list))
   unfolding countedOf
   unsound-is fails = rw (countedOf, false-is (sound sizes pools list) fails)
 
@@ -64,7 +65,8 @@ module _ (sizes : Sizes) (pools : Pools) (list : EventList) where
 
   pub counted-counts : countedOf sizes pools list .counts ≡ flatten (plan sizes pools list)
   counted-counts =
-      ⊎-elim (λ is. ap (λ (c : Counted). c .counts) (sound-is is)) (λ fails. ap (λ (c : Counted). c .counts) (unsound-is fails))
+      ⊎-elim (λ is. ap (λ (c : Counted). c .counts) (sound-is is))
+      (λ fails. ap (λ (c : Counted). c .counts) (unsound-is fails))
       (test-or (sound sizes pools list))
 
 -- ---- an unsound list
@@ -86,7 +88,8 @@ counted-unsound sizes pools list is-false =
 
 -- ---- a sound list
 
-module _ (sizes : Sizes) (pools : Pools) (numbers : List ℕ) (count : ℕ) (day : Bytes (pools .day)) (series : Bytes (pools .series))
+module _ (sizes : Sizes) (pools : Pools) (numbers : List ℕ) (count : ℕ) (day : Bytes (pools .day))
+    (series : Bytes (pools .series))
     (is-sound : T (sound sizes pools (lentList numbers count))) where
   abbrev list : EventList
   list = lentList numbers count
@@ -97,7 +100,8 @@ module _ (sizes : Sizes) (pools : Pools) (numbers : List ℕ) (count : ℕ) (day
   pub sound-rises : T (rising (heldEvents pools numbers count))
   sound-rises = facts .rises
 
-  module _ {counts : List ℕ} {low need from index : ℕ} (end : CountedSoFar sizes pools numbers count counts low need from index)
+  module _ {counts : List ℕ} {low need from index : ℕ}
+      (end : CountedSoFar sizes pools numbers count counts low need from index)
       (behind : 512 ≤ index) where
     abbrev es : List Event
     es = heldEvents pools numbers count
@@ -137,7 +141,8 @@ module _ (sizes : Sizes) (pools : Pools) (numbers : List ℕ) (count : ℕ) (day
         ∙ end .bytes-are
         ∙ omega (arith, bytes-end sizes es index none-left)
 
-    pub count-end : record { «is_sound» = true; counts = counts; lowest = low; need = need } ≡ countedOf sizes pools list
+    pub count-end : record { «is_sound» = true; counts = counts; lowest = low; need = need }
+        ≡ countedOf sizes pools list
     count-end =
         sym
         (sound-is sizes pools list is-sound

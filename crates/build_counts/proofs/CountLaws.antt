@@ -50,7 +50,8 @@ bytes-from sizes es index few =
     ap (λ (n : ℕ). sectionSizes (flatten (each f index n))) left
     ∙ ap sectionSizes (joined-more f index (512 - (index + 1)))
     ∙ sizes-append (f index) (flatten (each f (suc index) (512 - (index + 1))))
-    ∙ ap (λ (i : ℕ). sectionSizes (f index) + sectionSizes (flatten (each f i (512 - (index + 1))))) (sym (add-one index))
+    ∙ ap (λ (i : ℕ). sectionSizes (f index) + sectionSizes (flatten (each f i (512 - (index + 1)))))
+    (sym (add-one index))
 
 pub bytes-end : (sizes : Sizes) (es : List Event) (index : ℕ) → 512 - index ≡ 0 → bytesFrom sizes es index ≡ 0
 unfolding each flatten
@@ -62,12 +63,17 @@ parts-small : (bytes : ℕ) (ps : List (List Event)) → bytes < 0x1_0000 → Al
 parts-small bytes [] narrow fit = omega arith
 parts-small bytes (p ∷ ps) narrow fit = omega (arith, fit .0, sizes-same p, parts-small bytes ps narrow (fit .1))
 
-pub packed-small : (bytes : ℕ) (es : List Event) → bytes < 0x1_0000 → packedSizes (packed bytes es) ≤ 8 * (sectionOverhead + 0xFFFF)
+pub packed-small : (bytes : ℕ) (es : List Event) → bytes < 0x1_0000
+    → packedSizes (packed bytes es) ≤ 8 * (sectionOverhead + 0xFFFF)
 unfolding packed
 packed-small bytes [] narrow = omega arith
 packed-small bytes (e ∷ es) narrow =
     let parts : List (List Event) = greedy eventSize bytes 8 (e ∷ es) in
-    omega (arith, parts-small bytes parts narrow (greedy-fits eventSize bytes 8 (e ∷ es)), greedy-count eventSize bytes 8 (e ∷ es))
+    omega (
+      arith,
+      parts-small bytes parts narrow (greedy-fits eventSize bytes 8 (e ∷ es)),
+      greedy-count eventSize bytes 8 (e ∷ es),
+    )
 
 module _ (sizes : Sizes) (es : List Event) (rises : T (rising es)) (index : ℕ) (inside : T (isInside es index)) where
   -- what is counted of a segment inside the range: its entry in Plan, 255 exactly if it is unpackable, and its bytes
@@ -83,13 +89,15 @@ module _ (sizes : Sizes) (es : List Event) (rises : T (rising es)) (index : ℕ)
       ∙ sym (count-unpackable sizes es index rises fails))
       (λ fits.
       ap counted (sym same ∙ false-is (isUnpackable sizes es index) fits)
-      ∙ sym (count-inside sizes es index inside fits ∙ ap (λ (ps : List (List Event)). length ps) (parts-are sizes es index)))
+      ∙ sym (count-inside sizes es index inside fits
+      ∙ ap (λ (ps : List (List Event)). length ps) (parts-are sizes es index)))
       (test-or (isUnpackable sizes es index))
 
   pub unpackable-is : isUnpackable sizes es index ≡ eqb (sectionCount sizes es index) 255
   unpackable-is =
       ⊎-elim
-      (λ fails. true-is (isUnpackable sizes es index) fails ∙ sym (eq-eqb _ 255 (count-unpackable sizes es index rises fails)))
+      (λ fails. true-is (isUnpackable sizes es index) fails
+      ∙ sym (eq-eqb _ 255 (count-unpackable sizes es index rises fails)))
       (λ fits.
       let few : sectionCount sizes es index ≡ 255 → ⊥ =
       λ e. omega (arith, count-inside sizes es index inside fits, parts-few sizes es index) in
@@ -104,11 +112,13 @@ module _ (sizes : Sizes) (es : List Event) (rises : T (rising es)) (index : ℕ)
       ∙ ap packedSizes (part-parts sizes zeroIdentity es index ∙ parts-are sizes es index))
 
 -- outside the range there is nothing to count
-module _ (sizes : Sizes) (es : List Event) (rises : T (rising es)) (index : ℕ) (outside : T (not (isInside es index))) where
+module _ (sizes : Sizes) (es : List Event) (rises : T (rising es)) (index : ℕ)
+    (outside : T (not (isInside es index))) where
   pub outside-packable : T (not (isUnpackable sizes es index))
   outside-packable =
       ⊎-elim
-      (λ fails. absurd (omega (arith, count-unpackable sizes es index rises fails, count-outside sizes es index outside)))
+      (λ fails. absurd
+      (omega (arith, count-unpackable sizes es index rises fails, count-outside sizes es index outside)))
       (λ fits. fits)
       (test-or (isUnpackable sizes es index))
 

@@ -1,4 +1,5 @@
--- The pass over all segments: where it stands before a segment, what the next segment adds, and what its end says. Assumes nothing.
+-- The pass over all segments: where it stands before a segment, what the next segment adds, and what its end says.
+-- Assumes nothing.
 use mathlib.Core.Path.{_≡_, refl, sym, ap, ap₂, subst, _∙_}
 use mathlib.Core.Bool.{Bool, true, false, not}
 use mathlib.Core.Logic.{⊎-elim}
@@ -25,7 +26,8 @@ use Rattle.schedule.proofs.Plan.{count-outside}
 use Rattle.build_counts.specs.Between.{eventsBetween, leading, isNextInside}
 use Rattle.build_counts.specs.Counting.{packedOf, indexOr512}
 use Rattle.build_counts.specs.declared.count.Packed.{Packed}
-use Rattle.build_counts.proofs.WalkLaws.{SegmentWalk, heldEvents, walk-start, walk-inside, walk-past, walk-events, walk-on}
+use Rattle.build_counts.proofs.WalkLaws.{SegmentWalk, heldEvents, walk-start, walk-inside, walk-past}
+use Rattle.build_counts.proofs.WalkLaws.{walk-events, walk-on}
 use Rattle.build_counts.proofs.CountLaws.{bytesFrom, segmentBytes, bytes-from, bytes-outside, packed-small}
 use Rattle.build_counts.proofs.CountLaws.{packed-count, packed-bytes, unpackable-is, outside-packable}
 
@@ -55,7 +57,8 @@ module _ (p : ℕ → Bool) (low index : ℕ) (few : index < 512) where
   unfolding lowest
   lowest-none fails =
       let m : ℕ = 512 - (index + 1) in
-      let next : lowest p index (suc m) ≡ lowest p (index + 1) m = rw (lowest, false-is (p index) fails, add-one index) in
+      let next : lowest p index (suc m) ≡ lowest p (index + 1) m =
+      rw (lowest, false-is (p index) fails, add-one index) in
       ap (λ (i : Option ℕ). elim (eqb low 512) [ true ↦ indexOr512 i | false ↦ low ]) (next-lowest ∙ next)
 
   lowest-found : low ≡ 512 → T (p index) → lowestLeft p low index ≡ lowestLeft p index (index + 1)
@@ -71,7 +74,8 @@ module _ (sizes : Sizes) (pools : Pools) (numbers : List ℕ) (count : ℕ) wher
   abbrev es : List Event
   es = heldEvents pools numbers count
 
-  -- the segments before `index` are counted, the others are not; `low` is the lowest unpackable one so far, 512 for none
+  -- the segments before `index` are counted, the others are not; `low` is the lowest unpackable one so far, 512 for
+  -- none
   pub record CountedSoFar (counts : List ℕ) (low need from index : ℕ) : Type 0 where
     pub walk : SegmentWalk pools numbers count from index
     pub within : index ≤ 512
@@ -95,10 +99,12 @@ module _ (sizes : Sizes) (pools : Pools) (numbers : List ℕ) (count : ℕ) wher
         small = omega arith;
       }
 
-  module _ (rises : T (rising es)) {counts : List ℕ} {low need from index : ℕ} (so-far : CountedSoFar counts low need from index)
+  module _ (rises : T (rising es)) {counts : List ℕ} {low need from index : ℕ}
+      (so-far : CountedSoFar counts low need from index)
       (few : index < 512) where
     -- a segment outside the range
-    pub count-past : isNextInside index (eventsBetween pools numbers from count) ≡ false → CountedSoFar counts low need from (index + 1)
+    pub count-past : isNextInside index (eventsBetween pools numbers from count) ≡ false
+        → CountedSoFar counts low need from (index + 1)
     count-past fails =
         let outside : T (not (isInside es index)) =
         subst (λ (b : Bool). T (not b)) (sym (walk-inside pools numbers count rises (so-far .walk) ∙ fails)) tt in
@@ -112,18 +118,26 @@ module _ (sizes : Sizes) (pools : Pools) (numbers : List ℕ) (count : ℕ) wher
               ⊎-elim
               (λ here.
               let same : k ≡ index = omega arith in
-              so-far .others k here (omega arith) ∙ sym (ap (sectionCount sizes es) same ∙ count-outside sizes es index outside))
+              so-far .others k here (omega arith)
+              ∙ sym (ap (sectionCount sizes es) same ∙ count-outside sizes es index outside))
               (λ before. so-far .counted k before)
               (le-or-lt index k);
           others = λ k least less. so-far .others k (omega arith) less;
           lowest-is = so-far .lowest-is ∙ lowest-none (isUnpackable sizes es) low index few fits;
-          bytes-are = omega (arith, so-far .bytes-are, bytes-from sizes es index few, bytes-outside sizes es rises index outside);
+          bytes-are =
+              omega (
+                arith,
+                so-far .bytes-are,
+                bytes-from sizes es index few,
+                bytes-outside sizes es rises index outside,
+              );
           small = omega (arith, so-far .small);
         }
 
     -- a segment inside the range
     module _ (passes : isNextInside index (eventsBetween pools numbers from count) ≡ true) (end : ℕ)
-        (is-end : end ≡ from + leading index (eventsBetween pools numbers from count)) (space : ℕ) (is-space : space ≡ room sizes)
+        (is-end : end ≡ from + leading index (eventsBetween pools numbers from count)) (space : ℕ)
+        (is-space : space ≡ room sizes)
         (narrow : room sizes < 0x1_0000) (packed : Packed)
         (is-packed : packed ≡ packedOf space (eventsBetween pools numbers from end)) where
       inside : T (isInside es index)
@@ -140,13 +154,18 @@ module _ (sizes : Sizes) (pools : Pools) (numbers : List ℕ) (count : ℕ) wher
 
       pub need-small : packed .bytes ≤ 8 * (sectionOverhead + 0xFFFF)
       need-small =
-          omega (arith, ap (λ (q : Packed). q .bytes) packed-is, packed-small (room sizes) (segmentEvents index es) narrow)
+          omega (
+            arith,
+            ap (λ (q : Packed). q .bytes) packed-is,
+            packed-small (room sizes) (segmentEvents index es) narrow,
+          )
 
       full-is : isUnpackable sizes es index ≡ eqb (packed .sections) 255
       full-is = unpackable-is sizes es rises index inside ∙ ap (λ (n : ℕ). eqb n 255) (sym count-is)
 
       -- with the lowest unpackable one so far
-      count-on : (low₁ : ℕ) → lowestLeft (isUnpackable sizes es) low index ≡ lowestLeft (isUnpackable sizes es) low₁ (index + 1)
+      count-on : (low₁ : ℕ)
+          → lowestLeft (isUnpackable sizes es) low index ≡ lowestLeft (isUnpackable sizes es) low₁ (index + 1)
           → CountedSoFar (set counts index (packed .sections)) low₁ (need + packed .bytes) end (index + 1)
       count-on low₁ same-lowest =
           record {
@@ -162,11 +181,13 @@ module _ (sizes : Sizes) (pools : Pools) (numbers : List ℕ) (count : ℕ) wher
                 ∙ getD-set-same counts index (packed .sections) 0 (omega (arith, so-far .long))
                 ∙ count-is
                 ∙ ap (sectionCount sizes es) (sym same))
-                (λ before. getD-set-other counts index k (packed .sections) 0 (λ e. omega arith) ∙ so-far .counted k before)
+                (λ before. getD-set-other counts index k (packed .sections) 0 (λ e. omega arith)
+                ∙ so-far .counted k before)
                 (le-or-lt index k);
             others =
                 λ k least less.
-                getD-set-other counts index k (packed .sections) 0 (λ e. omega arith) ∙ so-far .others k (omega arith) less;
+                getD-set-other counts index k (packed .sections) 0 (λ e. omega arith)
+                ∙ so-far .others k (omega arith) less;
             lowest-is = so-far .lowest-is ∙ same-lowest;
             bytes-are = omega (arith, so-far .bytes-are, bytes-from sizes es index few, need-is);
             small = omega (arith, so-far .small, need-small);

@@ -1,4 +1,5 @@
--- What one section takes, event by event: the next event is taken if it fits in what is left of the room. Assumes nothing.
+-- What one section takes, event by event: the next event is taken if it fits in what is left of the room.
+-- Assumes nothing.
 use mathlib.Core.Path.{_≡_, refl, sym, ap, ap₂, _∙_}
 use mathlib.Core.List.{List, [], _∷_}
 use Prim.Native.Nat.{ℕ, suc, _+_, _-_, _*_, _≤_, _<_}
@@ -72,7 +73,8 @@ module _ {pools : Pools} {numbers : List ℕ} {from end room to bytes : ℕ}
         so-far .same
         ∙ ap (λ (es : List Event). added bytes (cutOf to (room - bytes) es)) (between-more pools numbers to end inside)
 
-    pub pass-stop : room - bytes < size → record { to = to; bytes = bytes } ≡ cutOf from room (eventsBetween pools numbers from end)
+    pub pass-stop : room - bytes < size
+        → record { to = to; bytes = bytes } ≡ cutOf from room (eventsBetween pools numbers from end)
     pass-stop large =
         let rest : List Event = eventsBetween pools numbers (suc to) end in
         sym (next-decides ∙ cut-stop to (room - bytes) bytes next rest (omega arith))
@@ -89,5 +91,6 @@ module _ {pools : Pools} {numbers : List ℕ} {from end room to bytes : ℕ}
               next-decides
               ∙ cut-more to (room - bytes) bytes next rest (omega arith)
               ∙ ap₂ (λ (b r : ℕ). added b (cutOf (to + 1) r rest)) bytes-are left
-              ∙ ap (λ (i : ℕ). added (bytes + size) (cutOf (to + 1) (room - (bytes + size)) (eventsBetween pools numbers i end))) place;
+              ∙ ap (λ (i : ℕ). added (bytes + size)
+              (cutOf (to + 1) (room - (bytes + size)) (eventsBetween pools numbers i end))) place;
         }

@@ -1,4 +1,5 @@
--- The bytes that Build's file needs are the same under every identity: they are those of the sections' events. Assumes nothing.
+-- The bytes that Build's file needs are the same under every identity: they are those of the sections' events.
+-- Assumes nothing.
 use mathlib.Core.Path.{_≡_, refl, sym, ap, _∙_}
 use mathlib.Core.List.{List, [], _∷_, _++_, flatten, map-append}
 use Prim.Native.Nat.{ℕ, suc, _+_, _-_, _*_}
@@ -29,21 +30,26 @@ module _ (sizes : Sizes) (es : List Event) where
   abbrev tableParts : ℕ → List (List Event)
   tableParts table = flatten (each (packedSegment sizes es) (table * 32) (suc (lastSegment es table - table * 32)))
 
-  table-parts : (identity : Identity) (table : ℕ) → eventsBySection (sectionsOfTable sizes identity es table) ≡ tableParts table
+  table-parts : (identity : Identity) (table : ℕ)
+      → eventsBySection (sectionsOfTable sizes identity es table) ≡ tableParts table
   table-parts identity table =
       let first : ℕ = table * 32 in
       let n : ℕ = suc (lastSegment es table - first) in
       ap eventsBySection (table-is sizes identity es table)
       ∙ joined-map eventsBySection refl parts-append (sectionsOfSegment sizes identity es) first n
       ∙ ap flatten
-      (each-same (λ (index : ℕ). eventsBySection (sectionsOfSegment sizes identity es index)) (packedSegment sizes es) first n (part-parts sizes identity es))
+      (each-same (λ (index : ℕ). eventsBySection (sectionsOfSegment sizes identity es index)) (packedSegment sizes es)
+      first n (part-parts sizes identity es))
 
-  file-parts : (identity : Identity) → eventsBySection (sectionsOf sizes identity es) ≡ flatten (each tableParts 0 (suc (lastTable es)))
+  file-parts : (identity : Identity)
+      → eventsBySection (sectionsOf sizes identity es) ≡ flatten (each tableParts 0 (suc (lastTable es)))
   file-parts identity =
       let n : ℕ = suc (lastTable es) in
       ap eventsBySection (file-is sizes identity es)
       ∙ joined-map eventsBySection refl parts-append (sectionsOfTable sizes identity es) 0 n
-      ∙ ap flatten (each-same (λ (table : ℕ). eventsBySection (sectionsOfTable sizes identity es table)) tableParts 0 n (table-parts identity))
+      ∙ ap flatten
+      (each-same (λ (table : ℕ). eventsBySection (sectionsOfTable sizes identity es table)) tableParts 0 n
+      (table-parts identity))
 
   pub need-is : (identity : Identity) → sectionSizes (sectionsOf sizes identity es) ≡ needOf sizes es
   unfolding needOf

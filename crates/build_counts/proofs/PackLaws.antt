@@ -1,5 +1,5 @@
--- The sections of a segment, counted one after the other: what is counted so far, with what the rest needs, is the count. Assumes
--- nothing.
+-- The sections of a segment, counted one after the other: what is counted so far, with what the rest needs, is the
+-- count. Assumes nothing.
 use mathlib.Core.Path.{_≡_, refl, sym, ap, ap₂, _∙_}
 use mathlib.Core.Bool.{true, false}
 use mathlib.Core.Logic.{⊎-elim}
@@ -137,13 +137,15 @@ module _ {pools : Pools} {numbers : List ℕ} {from end room n bytes at : ℕ}
     pub pack-short : at < end → record { sections = 255; bytes = bytes } ≡ packedOf room all
     pack-short short =
         let left : unpackable eventSize room 8 all ≡ true =
-        lt-ltb (reach eventSize room 8 all) (length all) (omega (arith, all-reached, between-length pools numbers from end)) in
+        lt-ltb (reach eventSize room 8 all) (length all)
+        (omega (arith, all-reached, between-length pools numbers from end)) in
         rw (packedOf, left) (ap (λ (b : ℕ). record { sections = 255; bytes = b }) (sym sizes-are))
 
     pub pack-end : end ≤ at → record { sections = n; bytes = bytes } ≡ packedOf room all
     pack-end whole =
         let none-left : unpackable eventSize room 8 all ≡ false =
-        le-ltb (reach eventSize room 8 all) (length all) (omega (arith, all-reached, between-length pools numbers from end)) in
+        le-ltb (reach eventSize room 8 all) (length all)
+        (omega (arith, all-reached, between-length pools numbers from end)) in
         rw (packedOf, none-left) (ap₂ packedAs (sym count-is) (sym sizes-are))
 
 -- a segment without events is one section

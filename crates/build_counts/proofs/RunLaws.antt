@@ -63,7 +63,8 @@ from-has P index (e ∷ es) all =
     ⊎-elim (λ behind. subst Has (sym (from-more index e es behind)) ((behind, all .0), rest))
     (λ before. subst Has (sym (from-same index e es before)) rest) (le-or-lt index (startIndex e))
 
-first-has : (P : Event → Type 0) (index : ℕ) (e : Event) (fs es : List Event) → Every P es → eventsFrom index es ≡ e ∷ fs
+first-has : (P : Event → Type 0) (index : ℕ) (e : Event) (fs es : List Event) → Every P es
+    → eventsFrom index es ≡ e ∷ fs
     → (index ≤ startIndex e) × P e
 first-has P index e fs es all first =
     subst (Every (λ (f : Event). (index ≤ startIndex f) × P f)) first (from-has P index es all) .0

@@ -20,7 +20,8 @@ use Rattle.build_counts.proofs.BetweenLaws.{between-more, between-end}
 -- so far all events start in the segment
 pub record LeadSoFar (numbers : List ℕ) (from count index end : ℕ) : Type 0 where
   pub same : (pools : Pools)
-      → from + leading index (eventsBetween pools numbers from count) ≡ end + leading index (eventsBetween pools numbers end count)
+      → from + leading index (eventsBetween pools numbers from count)
+      ≡ end + leading index (eventsBetween pools numbers end count)
 
 pub lead-start : (numbers : List ℕ) (from count index : ℕ) → LeadSoFar numbers from count index from
 lead-start numbers from count index = record { same = λ pools. refl }
@@ -32,8 +33,10 @@ module _ {numbers : List ℕ} {from count index end : ℕ} (so-far : LeadSoFar n
       ap (leading index) (between-end pools numbers end count behind) in
       omega (arith, so-far .same pools)
 
-  module _ (inside : end < count) (here : ℕ) (is-here : here ≡ segmentIndex (frontRecord (drop (end * recordSize) numbers) .start)) where
-    pub lead-stop : (here ≡ index → ⊥) → (pools : Pools) → end ≡ from + leading index (eventsBetween pools numbers from count)
+  module _ (inside : end < count) (here : ℕ)
+      (is-here : here ≡ segmentIndex (frontRecord (drop (end * recordSize) numbers) .start)) where
+    pub lead-stop : (here ≡ index → ⊥) → (pools : Pools)
+        → end ≡ from + leading index (eventsBetween pools numbers from count)
     lead-stop elsewhere pools =
         let none-left : leading index (eventsBetween pools numbers end count) ≡ 0 =
         ap (leading index) (between-more pools numbers end count inside)
@@ -48,14 +51,16 @@ module _ {numbers : List ℕ} {from count index end : ℕ} (so-far : LeadSoFar n
               let place : end + 1 ≡ suc end = omega arith in
               let one-more : leading index (eventsBetween pools numbers end count)
               ≡ suc (leading index (eventsBetween pools numbers (suc end) count)) =
-              ap (leading index) (between-more pools numbers end count inside) ∙ rw (leading, eq-eqb _ index (sym is-here ∙ same)) refl in
+              ap (leading index) (between-more pools numbers end count inside)
+              ∙ rw (leading, eq-eqb _ index (sym is-here ∙ same)) refl in
               rw place (so-far .same pools ∙ omega arith);
         }
 
 -- ---- whether a segment is inside the range
 
 module _ (numbers : List ℕ) (from count index : ℕ) where
-  pub inside-none : count ≤ from → (pools : Pools) → eqb index 0 ≡ isNextInside index (eventsBetween pools numbers from count)
+  pub inside-none : count ≤ from → (pools : Pools)
+      → eqb index 0 ≡ isNextInside index (eventsBetween pools numbers from count)
   inside-none behind pools = sym (ap (isNextInside index) (between-end pools numbers from count behind))
 
   module _ (before : from < count) where
@@ -69,16 +74,19 @@ module _ (numbers : List ℕ) (from count index : ℕ) where
 
     pub inside-table : (index % tableSegments ≡ 0 → ⊥) → (here : ℕ)
         → here ≡ segmentIndex (frontRecord (drop (from * recordSize) numbers) .start) → (pools : Pools)
-        → eqb (here / tableSegments) (index / tableSegments) ≡ isNextInside index (eventsBetween pools numbers from count)
+        → eqb (here / tableSegments) (index / tableSegments)
+        ≡ isNextInside index (eventsBetween pools numbers from count)
     inside-table later here is-here pools =
         sym
         (ap (isNextInside index) (between-more pools numbers from count before)
-        ∙ rw (isNextInside, ne-eqb _ 0 later) (ap (λ (i : ℕ). eqb (i / tableSegments) (index / tableSegments)) (sym is-here)))
+        ∙ rw (isNextInside, ne-eqb _ 0 later)
+        (ap (λ (i : ℕ). eqb (i / tableSegments) (index / tableSegments)) (sym is-here)))
 
 -- ---- the last event
 
 last-of : (index : ℕ) (pools : Pools) (n : ℕ) (numbers : List ℕ)
-    → lastIndex index (eventsIn pools (recordsIn (suc n) numbers)) ≡ segmentIndex (frontRecord (drop (n * recordSize) numbers) .start)
+    → lastIndex index (eventsIn pools (recordsIn (suc n) numbers))
+    ≡ segmentIndex (frontRecord (drop (n * recordSize) numbers) .start)
 unfolding recordsIn
 last-of index pools zero numbers = refl
 last-of index pools (suc n) numbers =

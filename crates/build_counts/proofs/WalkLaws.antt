@@ -1,4 +1,5 @@
--- A walk over the segments of a rising list: where it stands before a segment, and what the next segment takes. Assumes nothing.
+-- A walk over the segments of a rising list: where it stands before a segment, and what the next segment takes.
+-- Assumes nothing.
 use mathlib.Core.Path.{_≡_, refl, sym, ap, _∙_}
 use mathlib.Core.Bool.{not}
 use mathlib.Core.List.{List, _++_}

@@ -24,11 +24,13 @@ abbrev pub packedSizes : List (List Event) → ℕ
 packedSizes [] = 0
 packedSizes (p ∷ ps) = sectionOverhead + eventSizes p + packedSizes ps
 
--- the sections of a segment with these events, 255 if it is unpackable, and the bytes of its sections, of the first eight if it is
+-- the sections of a segment with these events, 255 if it is unpackable, and the bytes of its sections, of the first
+-- eight if it is
 abbrev pub packedOf : ℕ → List Event → Packed
 packedOf room es =
     record {
-      sections = elim (unpackable eventSize room segmentSectionsMax es) [ true ↦ 255 | false ↦ length (packed room es) ];
+      sections =
+          elim (unpackable eventSize room segmentSectionsMax es) [ true ↦ 255 | false ↦ length (packed room es) ];
       bytes = packedSizes (packed room es);
     }
 

@@ -1,5 +1,5 @@
--- What one section takes of some events (01, "Build, Read": "each section takes as many of the segment's next events as fit").
--- Laws: proofs/CutLaws.antt. Assumes nothing.
+-- What one section takes of some events (01, "Build, Read": "each section takes as many of the segment's next events as
+-- fit"). Laws: proofs/CutLaws.antt. Assumes nothing.
 use Prim.Native.Nat.{ℕ, _+_}
 use mathlib.Core.List.{List}
 use lib.ListN.{take}

@@ -19,8 +19,8 @@ pub struct Packed {
     pub bytes: usize,
 }
 
-// What Build asks of a list before it writes: whether it is sound; Plan's count of each segment; the lowest segment that is
-// unpackable, 512 if none is; and the bytes that the file needs, which mean nothing if one is.
+// What Build asks of a list before it writes: whether it is sound; Plan's count of each segment; the lowest segment
+// that is unpackable, 512 if none is; and the bytes that the file needs, which mean nothing if one is.
 pub struct Counted {
     pub is_sound: bool,
     pub counts: [u8; 512],
@@ -56,7 +56,8 @@ fn count_segment<'a>(
     room: u16,
 ) -> Packed
     ensures { λ r. ⌜
-        r ≡ packedOf room (eventsBetween (lentPools (now (day .entry)) (now (series .entry))) (now (list .entry)) from end) ⌝ }
+        r ≡ packedOf room
+        (eventsBetween (lentPools (now (day .entry)) (now (series .entry))) (now (list .entry)) from end) ⌝ }
 {
     if end <= from {
         return Packed {

@@ -1,4 +1,5 @@
-// The events that one section takes (01, "Build, Read": "each section takes as many of the segment's next events as fit").
+// The events that one section takes (01, "Build, Read": "each section takes as many of the segment's next events as
+// fit").
 use codec::pools;
 use eit::limits::EVENT_OVERHEAD;
 use list_records::records;
@@ -23,7 +24,8 @@ fn event_size<'a>(list: &[u32], i: usize, day: &'a [u8], series: &'a [u8]) -> us
     ensures { λ r. ⌜
         r
         ≡ eventSize
-        (eventOf (lentPools (now (day .entry)) (now (series .entry))) (frontRecord (drop (i * recordSize) (now (list .entry))))) ⌝ }
+        (eventOf (lentPools (now (day .entry)) (now (series .entry)))
+        (frontRecord (drop (i * recordSize) (now (list .entry))))) ⌝ }
 {
     let r = records::record_at(list, i);
     EVENT_OVERHEAD + pools::choose(day, series, r.marks, r.offset, r.chain_length).len()
@@ -39,7 +41,8 @@ pub fn next_cut<'a>(
     room: usize,
 ) -> Cut
     ensures { λ r. ⌜
-        r ≡ cutOf from room (eventsBetween (lentPools (now (day .entry)) (now (series .entry))) (now (list .entry)) from end) ⌝ }
+        r ≡ cutOf from room
+        (eventsBetween (lentPools (now (day .entry)) (now (series .entry))) (now (list .entry)) from end) ⌝ }
 {
     let mut to = from;
     let mut bytes = 0;

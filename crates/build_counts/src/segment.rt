@@ -24,9 +24,11 @@ fn segment_index(list: &[u32], i: usize) -> usize
     (r.start / SEGMENT_SECONDS) as usize
 }
 
-// The place behind the events from `from` on that start in the segment. The pools do not matter: only starts are looked at.
+// The place behind the events from `from` on that start in the segment. The pools do not matter: only starts are looked
+// at.
 pub fn end_of(list: &[u32], from: usize, count: usize, index: usize) -> usize
-    ensures { λ r. ⌜ ((pools : Pools) → r ≡ from + leading index (eventsBetween pools (now (list .entry)) from count)) ⌝ }
+    ensures { λ r.
+        ⌜ ((pools : Pools) → r ≡ from + leading index (eventsBetween pools (now (list .entry)) from count)) ⌝ }
 {
     let mut end = from;
     while end < count {
@@ -38,7 +40,8 @@ pub fn end_of(list: &[u32], from: usize, count: usize, index: usize) -> usize
     end
 }
 
-// Whether the segment is inside the range of its table, the events from `from` on being those that start in it or later.
+// Whether the segment is inside the range of its table, the events from `from` on being those that start in it or
+// later.
 pub fn is_inside(list: &[u32], from: usize, count: usize, index: usize) -> bool
     ensures { λ r. ⌜ ((pools : Pools) → r ≡ isNextInside index (eventsBetween pools (now (list .entry)) from count)) ⌝ }
 {

@@ -1,5 +1,5 @@
--- Sixteen tables of thirty-two counts: rows with a count's value in every cell are its tables, and the same of the tables
--- joined. By lists that agree in every place. Assumes nothing.
+-- Sixteen tables of thirty-two counts: rows with a count's value in every cell are its tables, and the same of the
+-- tables joined. By lists that agree in every place. Assumes nothing.
 use mathlib.Core.Path.{_≡_, refl, sym, ap, ap₂, _∙_}
 use mathlib.Core.Logic.{⊎-elim}
 use mathlib.Core.List.{List, [], _∷_, flatten}

@@ -1,5 +1,5 @@
--- Some dates, computed; and each day of the annex's range but the first has the date after that of the day before, by a computed
--- test of every day. Assumes nothing.
+-- Some dates, computed; and each day of the annex's range but the first has the date after that of the day before, by a
+-- computed test of every day. Assumes nothing.
 use Prim.Native.Nat.{ℕ, zero, suc, _+_, _-_, _<_}
 use mathlib.Core.Bool.{Bool, true, _&&_}
 use mathlib.Core.Path.{_≡_, refl, ap, _∙_}
@@ -73,7 +73,8 @@ followed-joined (suc m) n mjd first second =
     let place : mjd + suc m ≡ suc mjd + m = omega arith in
     let sum : suc m + n ≡ suc (m + n) = omega arith in
     rw sum
-    (and-both (isFollowed mjd) (areFollowed (m + n) (suc mjd)) this (followed-joined m n (suc mjd) rest (rw place at second)))
+    (and-both (isFollowed mjd) (areFollowed (m + n) (suc mjd)) this
+    (followed-joined m n (suc mjd) rest (rw place at second)))
 
 all-followed : T (areFollowed 73_048 15_079)
 all-followed =
@@ -105,6 +106,7 @@ pub follows-on : FollowsOn
 unfolding isFollowed
 follows-on mjd least less =
     let place : 15_079 + (mjd - 15_079) ≡ mjd = omega arith in
-    let followed : T (isFollowed mjd) = rw place at (followed-at 73_048 15_079 (mjd - 15_079) all-followed (omega arith)) in
+    let followed : T (isFollowed mjd) =
+    rw place at (followed-at 73_048 15_079 (mjd - 15_079) all-followed (omega arith)) in
     date-inside (mjd + 1) (omega arith) (omega arith)
     ∙ ap On (same-date (dateWithin (mjd + 1)) (nextDate (dateWithin mjd)) followed)

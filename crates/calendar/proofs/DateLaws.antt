@@ -1,4 +1,5 @@
--- How large the numbers of the annex's formulas are, so that K is a quotient; and which days have a date. Assumes nothing.
+-- How large the numbers of the annex's formulas are, so that K is a quotient; and which days have a date.
+-- Assumes nothing.
 use Prim.Native.Nat.{ℕ, _+_, _*_, _/_, _≤_, _<_}
 use mathlib.Core.Bool.{Bool, _&&_, _||_}
 use mathlib.Core.Logic.{⊎-elim}

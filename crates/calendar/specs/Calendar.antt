@@ -1,5 +1,5 @@
--- The Gregorian calendar, and what `dateOf` is worth: some days, and that each day has the date after that of the day before.
--- Assumes nothing.
+-- The Gregorian calendar, and what `dateOf` is worth: some days, and that each day has the date after that of the day
+-- before. Assumes nothing.
 use Prim.Native.Nat.{ℕ, _+_, _-_, _%_, _≤_, _<_}
 use mathlib.Core.List.{[], _∷_}
 use mathlib.Core.Bool.{Bool, true, false, _&&_, _||_, not}

@@ -1,5 +1,5 @@
--- The date of a Modified Julian Date (EN 300 468, annex C): the annex's formulas in whole numbers, each decimal fraction taken away
--- by a factor. Laws: proofs/DateLaws.antt, proofs/CalendarLaws.antt. Assumes nothing.
+-- The date of a Modified Julian Date (EN 300 468, annex C): the annex's formulas in whole numbers, each decimal
+-- fraction taken away by a factor. Laws: proofs/DateLaws.antt, proofs/CalendarLaws.antt. Assumes nothing.
 use Prim.Native.Nat.{ℕ, _+_, _-_, _*_, _/_}
 use mathlib.Core.Bool.{Bool, true, false, _&&_, _||_}
 use lib.Dec.{eqb, leb}

@@ -1,5 +1,5 @@
--- What the face's numbers say: the identity that a call is given, and a struct and the lent buffer as the outcome of the call's
--- definition. Assumes nothing.
+-- What the face's numbers say: the identity that a call is given, and a struct and the lent buffer as the outcome of
+-- the call's definition. Assumes nothing.
 use mathlib.Core.List.{List}
 use Prim.Native.Nat.{ℕ}
 use Rattle.eit.specs.Records.{lentList}

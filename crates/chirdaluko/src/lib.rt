@@ -1,5 +1,5 @@
-// The face for C and Rust: numbers and slices only (include/chirdaluko.h). Each call turns an answer into document 01's numbers,
-// and has the same equation as the call behind it.
+// The face for C and Rust: numbers and slices only (include/chirdaluko.h). Each call turns an answer into document 01's
+// numbers, and has the same equation as the call behind it.
 use eit::Identity;
 use eit::Triplet;
 use read_answer::CheckedFile;
@@ -31,8 +31,8 @@ pub struct EitBuilt {
     pub value: usize,
 }
 
-// What Read returns: document 01's number and value, the number of events, and the identity of the file; with a refusal, count and
-// identity are 0.
+// What Read returns: document 01's number and value, the number of events, and the identity of the file; with a
+// refusal, count and identity are 0.
 #[repr(C)]
 pub struct EitReading {
     pub number: u32,
@@ -83,7 +83,8 @@ pub extern "C" fn eit_build<'a>(
     out: &mut [u8],
 ) -> EitBuilt
     ensures { λ r. ⌜
-        build broadcast (lentPools (now (day .entry)) (now (series .entry))) (lentList (now (list .entry)) count) «base_day»
+        build broadcast (lentPools (now (day .entry)) (now (series .entry))) (lentList (now (list .entry)) count)
+        «base_day»
         (givenIdentity «service_id» «transport_stream_id» «original_network_id» version) (now (out .entry))
         ≡ builtOf r (now (out .exit)) ⌝ }
 {
@@ -111,7 +112,8 @@ pub extern "C" fn eit_plan<'a>(
 )
     ensures { λ _. ⌜
         now (counts .exit)
-        ≡ flatten (plan broadcast (lentPools (now (day .entry)) (now (series .entry))) (lentList (now (list .entry)) count)) ⌝ }
+        ≡ flatten (plan broadcast (lentPools (now (day .entry)) (now (series .entry)))
+        (lentList (now (list .entry)) count)) ⌝ }
 {
     *counts = build_plan::flat_of(build::plan(list, count, day, series));
 }

@@ -1,5 +1,5 @@
--- What a chain is from any place of some bytes on, step by step: `chain-none`, `chain-one` and `chain-more` at the bytes that are
--- left there. Assumes nothing.
+-- What a chain is from any place of some bytes on, step by step: `chain-none`, `chain-one` and `chain-more` at the
+-- bytes that are left there. Assumes nothing.
 use mathlib.Core.Path.{_≡_, _∙_}
 use mathlib.Core.Bool.{true, false, _&&_}
 use mathlib.Core.List.{List}
@@ -33,7 +33,8 @@ module _ (bytes : List ℕ) (at : ℕ) where
       (chain-more (getD bytes at 0) (getD bytes (at + 1) 0) (drop (at + 2) bytes) ∙ rw (length-drop, drop-drop))
 
   -- its bytes are not all there
-  pub chain-runs-out : at + 2 ≤ length bytes → length bytes - (at + 2) < getD bytes (at + 1) 0 → isChain (drop at bytes) ≡ false
+  pub chain-runs-out : at + 2 ≤ length bytes → length bytes - (at + 2) < getD bytes (at + 1) 0
+      → isChain (drop at bytes) ≡ false
   chain-runs-out h l = at-descriptor h ∙ rw (lt-leb _ _ l)
 
   -- they are, and the chain goes on behind them

@@ -1,5 +1,5 @@
--- Fields byte by byte: reading one more byte shifts the number by a digit to the base 256, writing one more takes the next digit off.
--- Assumes nothing.
+-- Fields byte by byte: reading one more byte shifts the number by a digit to the base 256, writing one more takes the
+-- next digit off. Assumes nothing.
 use Prim.Native.Nat.{ℕ, zero, suc, _+_, _-_, _*_, _/_, _%_, _^_, _≤_, _<_}
 use mathlib.Core.List.{List, [], _∷_}
 use mathlib.Core.Path.{_≡_, sym, ap, _∙_}
@@ -20,7 +20,8 @@ pub drop-take : {A : Type 0} (m n : ℕ) (xs : List A) → drop m (take n xs) �
 drop-take zero n xs = let all : n - 0 ≡ n = omega arith in rw all
 drop-take (suc m) zero xs = let nothing : 0 - suc m ≡ 0 = omega arith in rw nothing
 drop-take (suc m) (suc n) [] = sym (take-nil (suc n - suc m))
-drop-take (suc m) (suc n) (x ∷ xs) = let one-less : suc n - suc m ≡ n - m = omega arith in rw one-less (drop-take m n xs)
+drop-take (suc m) (suc n) (x ∷ xs) =
+    let one-less : suc n - suc m ≡ n - m = omega arith in rw one-less (drop-take m n xs)
 
 -- ---- reading
 
@@ -43,7 +44,8 @@ field-none bs at width past =
     ap (λ (rest : List ℕ). valueOf (take width rest)) (drop-of-length-le bs past) ∙ ap valueOf (take-nil width)
 
 -- one byte more
-pub value-more : (bs : List ℕ) (i : ℕ) → i < length bs → valueOf (take (suc i) bs) ≡ valueOf (take i bs) * 256 + getD bs i 0
+pub value-more : (bs : List ℕ) (i : ℕ) → i < length bs
+    → valueOf (take (suc i) bs) ≡ valueOf (take i bs) * 256 + getD bs i 0
 value-more bs i inside =
     ap valueOf (take-suc bs i 0 inside) ∙ value-append (take i bs) (getD bs i 0 ∷ []) ∙ omega arith
 
@@ -64,7 +66,8 @@ read-fits v b byte = omega arith
 pub field-small : (bs : List ℕ) (at width : ℕ) → Bytes bs → field at width bs < 256 ^ width
 field-small bs at width bytes =
     let few : length (bytesAt at width bs) ≤ width = simp length-take (omega arith) in
-    lt-of-lt-of-le (value-lt (bytesAt at width bs) (field-bytes bs bytes at width)) (pow-le-pow-right (zero-lt-suc 255) few)
+    lt-of-lt-of-le (value-lt (bytesAt at width bs) (field-bytes bs bytes at width))
+    (pow-le-pow-right (zero-lt-suc 255) few)
 
 -- and a field of up to four bytes no more than 32 bits
 pub field-exact : (bs : List ℕ) (at width : ℕ) → Bytes bs → width ≤ 4 → field at width bs % 2 ^ 32 ≡ field at width bs
@@ -106,7 +109,8 @@ module _ (d : List ℕ) (at width value : ℕ) where
       so-far ∙ rw (place, digits) (sym (write-fits d at (bigEndian width value) (omega arith)))
 
 -- a field of which all bytes but the first `left` are written, and one byte more
-module _ (d : List ℕ) (at width value left : ℕ) (fits : at + width ≤ length d) (some : 0 < left) (inside : left ≤ width) where
+module _ (d : List ℕ) (at width value left : ℕ) (fits : at + width ≤ length d) (some : 0 < left)
+    (inside : left ≤ width) where
   next : width - (left - 1) ≡ suc (width - left)
   next = omega arith
 

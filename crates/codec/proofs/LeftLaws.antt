@@ -19,7 +19,8 @@ module _ {A : Type 0} where
   pub left-all : (d : List A) (at : ℕ) (all : List A) → at + length all ≤ length d → Left d at all d at all
   left-all d at all fits = record { bytes = refl; ends = refl; size = refl; fits = fits }
 
-  module _ {d : List A} {at : ℕ} {all out : List A} {offset : ℕ} {rest : List A} (left : Left d at all out offset rest) where
+  module _ {d : List A} {at : ℕ} {all out : List A} {offset : ℕ} {rest : List A}
+      (left : Left d at all out offset rest) where
     -- the next bytes bs, with `more` behind them
     module _ (bs more : List A) (parts : rest ≡ bs ++ more) where
       widths : length rest ≡ length bs + length more

@@ -1,6 +1,5 @@
--- A set of numbers in words of 64 bits holds what was added to it and nothing else, for any number of words: adding a bit that is 0
--- changes no other bit of its word (`bit-below`, `bit-above`), and no other word.
--- Assumes nothing.
+-- A set of numbers in words of 64 bits holds what was added to it and nothing else, for any number of words: adding a
+-- bit that is 0 changes no other bit of its word (`bit-below`, `bit-above`), and no other word. Assumes nothing.
 use mathlib.Core.Path.{_≡_, refl, sym, ap, _∙_}
 use mathlib.Core.Bool.{true, false}
 use mathlib.Core.Logic.{⊎-elim}
@@ -83,7 +82,8 @@ module _ (words : List ℕ) (n : ℕ) where
   unfolding withSeen
   with-seen-new e = rw (withSeen, clear-is e)
 
-  pub with-seen-room : seenBit words n ≡ 0 → getD words (n / 64) 0 < 2 ^ 64 → getD words (n / 64) 0 + 2 ^ (n % 64) < 2 ^ 64
+  pub with-seen-room : seenBit words n ≡ 0 → getD words (n / 64) 0 < 2 ^ 64
+      → getD words (n / 64) 0 + 2 ^ (n % 64) < 2 ^ 64
   with-seen-room e h = bit-room (getD words (n / 64) 0) (n % 64) e h (omega arith)
 
   pub with-seen-outside : length words ≤ n / 64 → withSeen words n ≡ words
@@ -137,7 +137,8 @@ seen-none k n =
 pub seen-empty : (k : ℕ) → SeenAre (replicate k 0) []
 seen-empty k m h = seen-none k m
 
-pub seen-more : (words ids : List ℕ) (n : ℕ) → SeenAre words ids → n < 64 * length words → SeenAre (withSeen words n) (n ∷ ids)
+pub seen-more : (words ids : List ℕ) (n : ℕ) → SeenAre words ids → n < 64 * length words
+    → SeenAre (withSeen words n) (n ∷ ids)
 seen-more words ids n all h m l =
     ⊎-elim (λ e. rw (isAmong, eq-eqb m n e, e) (seen-same words n (omega arith)))
     (λ ne. rw (ne-eqb m n ne) (seen-other words n m ne ∙ all m (rw (seen-length words n) at l)))

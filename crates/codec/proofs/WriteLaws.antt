@@ -1,5 +1,5 @@
--- A write that tests its place: what it does where the numbers fit and where they do not, and how two such writes are one, by the
--- laws of `overwrite`. Assumes nothing.
+-- A write that tests its place: what it does where the numbers fit and where they do not, and how two such writes are
+-- one, by the laws of `overwrite`. Assumes nothing.
 use Prim.Native.Nat.{ℕ, suc, _+_, _≤_, _<_}
 use mathlib.Core.Bool.{Bool, true, false, not}
 use mathlib.Core.List.{List, [], _∷_, _++_, append-assoc}
@@ -87,7 +87,8 @@ module _ {A : Type 0} where
 -- ---- a copy, number by number
 
 module _ (d : List ℕ) (at : ℕ) (xs : List ℕ) (i : ℕ) (fits : at + length xs ≤ length d) where
-  pub paste-more : {out : List ℕ} → i < length xs → out ≡ paste d at xs i → set out (at + i) (getD xs i 0) ≡ paste d at xs (i + 1)
+  pub paste-more : {out : List ℕ} → i < length xs → out ≡ paste d at xs i
+      → set out (at + i) (getD xs i 0) ≡ paste d at xs (i + 1)
   paste-more inside so-far =
       let next : i + 1 ≡ suc i = omega arith in
       rw (so-far, next) (paste-suc d at xs i 0 (omega arith) inside)

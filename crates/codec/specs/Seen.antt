@@ -1,5 +1,5 @@
--- A set of numbers in words of 64 bits, of any number of words: number n is bit n mod 64 of word n ÷ 64. What it serves: ids differ
--- (01, "Event record and sound list"). Laws: proofs/SeenLaws.antt. Assumes nothing.
+-- A set of numbers in words of 64 bits, of any number of words: number n is bit n mod 64 of word n ÷ 64. What it
+-- serves: ids differ (01, "Event record and sound list"). Laws: proofs/SeenLaws.antt. Assumes nothing.
 use mathlib.Core.Path.{_≡_}
 use Prim.Native.Nat.{ℕ, _+_, _*_, _/_, _%_, _^_, _<_}
 use mathlib.Core.Bool.{Bool, true, false}

@@ -1,6 +1,5 @@
--- CRC_32 by the tables is CRC_32 bit by bit, whatever the number of bytes: a register that is a xor goes its two ways apart
--- (`crc-of-xor`), so each byte adds an entry of its own, and the rest of the register moves up.
--- Assumes nothing.
+-- CRC_32 by the tables is CRC_32 bit by bit, whatever the number of bytes: a register that is a xor goes its two ways
+-- apart (`crc-of-xor`), so each byte adds an entry of its own, and the rest of the register moves up. Assumes nothing.
 use mathlib.Core.Path.{_≡_, refl, sym, ap, ap₂, _∙_}
 use mathlib.Core.List.{List, [], _∷_}
 use Prim.Native.Nat.{ℕ, zero, suc, _+_, _-_, _*_, _/_, _%_, _^_, _≤_, _<_}
@@ -13,7 +12,8 @@ use lib.Pow.{pow-pos}
 use lib.Seq.{drop-cons, drop-drop}
 use Rattle.eit.specs.Crc.{crcFirst, crcBits, crcByte, crcOf, crc32}
 use Rattle.eit.specs.Fields.{Bytes}
-use Rattle.eit.proofs.Crc.{crc-bits-lt, crc-bits-add, crc-bits-xor, crc-nil, crc-cons, crc-byte-bits, crc-byte-lt, crc-lt}
+use Rattle.eit.proofs.Crc.{crc-bits-lt, crc-bits-add, crc-bits-xor, crc-nil, crc-cons, crc-byte-bits, crc-byte-lt}
+use Rattle.eit.proofs.Crc.{crc-lt}
 use Rattle.eit.proofs.Crc.{crc-append, crc-byte-table, crc32-of}
 use Rattle.eit.proofs.Fields.{bytes-take, bytes-drop}
 use Rattle.eit.proofs.Xor.{xor-assoc}
@@ -46,14 +46,16 @@ block-step tables chosen r block i h =
     let more : ℕ = crcBlock tables (r * 2 ^ 8 % 2 ^ 32) (drop (i + 1) block) in
     let e : suc i ≡ i + 1 = omega arith in
     let behind : length (drop (i + 1) block) ≡ length block - 1 - i = simp length-drop (omega arith) in
-    ap (λ (bs : List ℕ). bitXor chosen (crcBlock tables r bs)) (drop-cons block i 0 h ∙ ap (λ (n : ℕ). b ∷ drop n block) e)
+    ap (λ (bs : List ℕ). bitXor chosen (crcBlock tables r bs))
+    (drop-cons block i 0 h ∙ ap (λ (n : ℕ). b ∷ drop n block) e)
     ∙ ap (bitXor chosen) (block-cons tables r b (drop (i + 1) block))
     ∙ ap (λ (n : ℕ). bitXor chosen (bitXor (chosenEntry tables n r b) more)) behind
     ∙ sym (xor-assoc chosen (chosenEntry tables (length block - 1 - i) r b) more)
 
 pub block-end : (tables : List ℕ) (chosen r : ℕ) (block : List ℕ) (i : ℕ) → length block ≤ i
     → bitXor chosen (crcBlock tables r (drop i block)) ≡ bitXor chosen r
-block-end tables chosen r block i h = ap (bitXor chosen) (ap (crcBlock tables r) (drop-of-length-le block h) ∙ block-nil tables r)
+block-end tables chosen r block i h =
+    ap (bitXor chosen) (ap (crcBlock tables r) (drop-of-length-le block h) ∙ block-nil tables r)
 
 -- ---- block after block, by any tables
 
@@ -67,13 +69,16 @@ unfolding crcBlocks
 blocks-more n tables r bs = refl
 
 pub by-step : (tables : List ℕ) (r : ℕ) (bytes : List ℕ) (at : ℕ) → at + blockSize ≤ length bytes
-    → crcBy tables r (drop at bytes) ≡ crcBy tables (crcBlock tables r (take blockSize (drop at bytes))) (drop (at + blockSize) bytes)
+    → crcBy tables r (drop at bytes)
+    ≡ crcBy tables (crcBlock tables r (take blockSize (drop at bytes))) (drop (at + blockSize) bytes)
 unfolding crcBy
 by-step tables r bytes at h =
-    let more : length (drop at bytes) / blockSize ≡ suc (length (drop (at + blockSize) bytes) / blockSize) = simp length-drop (omega arith) in
+    let more : length (drop at bytes) / blockSize ≡ suc (length (drop (at + blockSize) bytes) / blockSize) =
+    simp length-drop (omega arith) in
     ap (λ (n : ℕ). crcBlocks n tables r (drop at bytes)) more
     ∙ blocks-more (length (drop (at + blockSize) bytes) / blockSize) tables r (drop at bytes)
-    ∙ ap (crcBlocks (length (drop (at + blockSize) bytes) / blockSize) tables (crcBlock tables r (take blockSize (drop at bytes))))
+    ∙ ap (crcBlocks (length (drop (at + blockSize) bytes) / blockSize) tables
+    (crcBlock tables r (take blockSize (drop at bytes))))
     (drop-drop blockSize at bytes)
 
 pub by-end : (tables : List ℕ) (r : ℕ) (bytes : List ℕ) (at : ℕ) → length bytes < at + blockSize
@@ -103,7 +108,8 @@ crc-of-xor u v (b ∷ bs) hu hv hb =
         ∙ crc-bits-xor 8 u (bitXor v (b * 2 ^ 24)) hu (xor-lt 32 v (b * 2 ^ 24) hv (omega (arith, hb .0)))
         ∙ ap (bitXor (crcBits 8 u)) (sym (crc-byte-bits v b))
 
-block-table : (r : ℕ) (bs : List ℕ) → r < 2 ^ 32 → Bytes bs → length bs ≤ blockSize → crcBlock crcTables r bs ≡ crcOf r bs
+block-table : (r : ℕ) (bs : List ℕ) → r < 2 ^ 32 → Bytes bs → length bs ≤ blockSize
+    → crcBlock crcTables r bs ≡ crcOf r bs
 block-table r [] hr hb h = block-nil crcTables r ∙ sym (crc-nil r)
 block-table r (b ∷ bs) hr hb h =
     let k : ℕ = bitXor (r / 2 ^ 24) b in
@@ -129,7 +135,8 @@ blocks-table (suc n) r bs hr hb h =
     let front : crcBlock crcTables r (take blockSize bs) ≡ crcOf r (take blockSize bs) =
     block-table r (take blockSize bs) hr (bytes-take blockSize bs hb) (simp length-take (omega arith)) in
     ap (λ (x : ℕ). crcBlocks n crcTables x (drop blockSize bs)) front
-    ∙ blocks-table n (crcOf r (take blockSize bs)) (drop blockSize bs) (crc-lt r (take blockSize bs) hr (bytes-take blockSize bs hb))
+    ∙ blocks-table n (crcOf r (take blockSize bs)) (drop blockSize bs)
+    (crc-lt r (take blockSize bs) hr (bytes-take blockSize bs hb))
     (bytes-drop blockSize bs hb) (simp length-drop (omega arith))
     ∙ sym (crc-append r (take blockSize bs) (drop blockSize bs))
     ∙ ap (crcOf r) (take-append-drop blockSize bs)

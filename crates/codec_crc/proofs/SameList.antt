@@ -17,7 +17,8 @@ same-list [] (y ∷ ys) t = absurd t
 same-list (x ∷ xs) [] t = absurd t
 same-list (x ∷ xs) (y ∷ ys) t = by (eqb x y) refl t (same-list xs ys)
   where
-    by : (b : Bool) → eqb x y ≡ b → T (elim b [ true ↦ sameList xs ys | false ↦ false ]) → (T (sameList xs ys) → xs ≡ ys)
+    by : (b : Bool) → eqb x y ≡ b → T (elim b [ true ↦ sameList xs ys | false ↦ false ])
+        → (T (sameList xs ys) → xs ≡ ys)
         → x ∷ xs ≡ y ∷ ys
     by true e s again = ap₂ _∷_ (eqb→eq x y (rw e tt)) (again s)
     by false e s again = absurd s

@@ -1,4 +1,5 @@
--- CRC_32 by eight tables of 256 entries, eight bytes a step. Laws: proofs/TableLaws.antt, BlockLaws.antt. Assumes nothing.
+-- CRC_32 by eight tables of 256 entries, eight bytes a step. Laws: proofs/TableLaws.antt, BlockLaws.antt.
+-- Assumes nothing.
 use Prim.Native.Nat.{ℕ, zero, suc, _+_, _*_, _/_, _%_, _^_}
 use mathlib.Core.List.{List, [], _∷_, _++_, map}
 use lib.Bits.{bitXor}
@@ -34,7 +35,8 @@ crcTables = tablesFrom blockSize (entriesFrom 0 tableSize)
 abbrev pub chosenEntry : List ℕ → ℕ → ℕ → ℕ → ℕ
 chosenEntry tables behind r b = getD tables (behind * tableSize + bitXor (r / 2 ^ 24) b) 0
 
--- the register after a block, by any tables: each byte adds the entry that it chooses, and the rest of the register moves up
+-- the register after a block, by any tables: each byte adds the entry that it chooses, and the rest of the register
+-- moves up
 unfoldable pub crcBlock : List ℕ → ℕ → List ℕ → ℕ
 crcBlock tables r [] = r
 crcBlock tables r (b ∷ bs) = bitXor (chosenEntry tables (length bs) r b) (crcBlock tables (r * 2 ^ 8 % 2 ^ 32) bs)

@@ -1,4 +1,5 @@
-// The eight tables of CRC_32, one behind the other: entry k of table j is the register k × 2^24 after its own byte and j bytes more.
+// The eight tables of CRC_32, one behind the other: entry k of table j is the register k × 2^24 after its own byte and
+// j bytes more.
 pub const TABLES: [u32; 2048] = [
     0x00000000,
     0x04c11db7,

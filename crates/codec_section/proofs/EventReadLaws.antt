@@ -1,5 +1,5 @@
--- The event at the front of some bytes, test by test: what the code reads from the bytes on is what the event's own bytes show, since
--- they are a front of these. Assumes nothing.
+-- The event at the front of some bytes, test by test: what the code reads from the bytes on is what the event's own
+-- bytes show, since they are a front of these. Assumes nothing.
 use Prim.Native.Nat.{ℕ, _+_, _-_, _*_, _/_, _%_, _≤_, _<_}
 use mathlib.Core.Bool.{Bool, true, false, not, _&&_, _||_}
 use mathlib.Core.List.{List}
@@ -43,7 +43,8 @@ pub event-whole : (base : ℕ) (h : Header) (bs : List ℕ)
 unfolding isEvent isWholeEvent
 event-whole base h bs =
     let status = statusField bs / 0x2000 in
-    and-last (eqb (length bs) (statedEventSize bs)) (isStartBytes base (bytesAt 2 5 bs)) (isDurationBytes (bytesAt 7 3 bs))
+    and-last (eqb (length bs) (statedEventSize bs)) (isStartBytes base (bytesAt 2 5 bs))
+    (isDurationBytes (bytesAt 7 3 bs))
     (eqb status 0 || eqb status 5) (isChain (drop eventOverhead bs)) (isInSegment h (startOf base (bytesAt 2 5 bs)))
 
 -- ---- marks and the bits of the word
@@ -66,7 +67,8 @@ off-air-is status passed =
 -- ---- what was read, and what it says of the event's bytes
 
 module _ (base : ℕ) (bs : List ℕ) where
-  pub whole-read : isWholeEvent base (frontEvent bs) ≡ true → eventRead base bs ≡ Whole (recordAt 0 (eventIn base (frontEvent bs)))
+  pub whole-read : isWholeEvent base (frontEvent bs) ≡ true
+      → eventRead base bs ≡ Whole (recordAt 0 (eventIn base (frontEvent bs)))
   unfolding eventRead
   whole-read holds = rw (eventRead, holds)
 
@@ -129,8 +131,11 @@ module _ (base : ℕ) (bs : List ℕ) {word : ℕ} (is-word : word ≡ statusFie
         length-take-le (statedEventSize bs) bs (omega arith) ∙ size
         ∙ ap (λ (w : ℕ). eventOverhead + w % 0x1000) (sym same-word)
 
-    chain-is : drop eventOverhead (frontEvent bs) ≡ take (eventOverhead + word % 0x1000 - eventOverhead) (drop eventOverhead bs)
-    chain-is = drop-take eventOverhead (statedEventSize bs) bs ∙ ap (λ (n : ℕ). take (n - eventOverhead) (drop eventOverhead bs)) size
+    chain-is : drop eventOverhead (frontEvent bs)
+        ≡ take (eventOverhead + word % 0x1000 - eventOverhead) (drop eventOverhead bs)
+    chain-is =
+        drop-take eventOverhead (statedEventSize bs) bs
+        ∙ ap (λ (n : ℕ). take (n - eventOverhead) (drop eventOverhead bs)) size
 
     whole-is : isWholeEvent base (frontEvent bs)
         ≡ (isStartBytes base (bytesAt 2 5 bs)
@@ -147,25 +152,29 @@ module _ (base : ℕ) (bs : List ℕ) {word : ℕ} (is-word : word ≡ statusFie
           chain-is,
         )
 
-    pub event-no-status : {b : Bool} → b ≡ (eqb (word / 0x2000) 0 || eqb (word / 0x2000) 5) → b ≡ false → eventRead base bs ≡ Broken
+    pub event-no-status : {b : Bool} → b ≡ (eqb (word / 0x2000) 0 || eqb (word / 0x2000) 5) → b ≡ false
+        → eventRead base bs ≡ Broken
     event-no-status test fails =
         let none = sym test ∙ fails in
         broken-read base bs
-        (whole-is ∙ rw (none, and-false (isDurationBytes (bytesAt 7 3 bs))) (and-false (isStartBytes base (bytesAt 2 5 bs))))
+        (whole-is ∙ rw (none, and-false (isDurationBytes (bytesAt 7 3 bs)))
+        (and-false (isStartBytes base (bytesAt 2 5 bs))))
 
     pub event-no-start : startAt base 2 bs ≡ NoTime → eventRead base bs ≡ Broken
     event-no-start none = broken-read base bs (whole-is ∙ rw (no-start base 2 bs (omega arith) none))
 
     pub event-no-duration : durationAt 7 bs ≡ NoTime → eventRead base bs ≡ Broken
     event-no-duration none =
-        broken-read base bs (whole-is ∙ rw (no-duration 7 bs (omega arith) none) (and-false (isStartBytes base (bytesAt 2 5 bs))))
+        broken-read base bs
+        (whole-is ∙ rw (no-duration 7 bs (omega arith) none) (and-false (isStartBytes base (bytesAt 2 5 bs))))
 
     module _ {start duration : ℕ} {status chain : Bool}
         (status-test : status ≡ (eqb (word / 0x2000) 0 || eqb (word / 0x2000) 5))
         (status-holds : status ≡ true)
         (start-is : startAt base 2 bs ≡ Seconds start)
         (duration-is : durationAt 7 bs ≡ Seconds duration)
-        (chain-test : chain ≡ isChain (take (eventOverhead + word % 0x1000 - eventOverhead) (drop eventOverhead bs))) where
+        (chain-test : chain
+        ≡ isChain (take (eventOverhead + word % 0x1000 - eventOverhead) (drop eventOverhead bs))) where
       whole-if : isWholeEvent base (frontEvent bs) ≡ chain
       whole-if =
           let (starts, same-start) = is-start base 2 bs start-is in
@@ -190,7 +199,8 @@ module _ (base : ℕ) (bs : List ℕ) {word : ℕ} (is-word : word ≡ statusFie
       record-is is-id =
           let same-start = ap (startOf base) (front 2 5 (omega arith)) ∙ is-start base 2 bs start-is .1 in
           let same-duration = ap secondsOf (front 7 3 (omega arith)) ∙ is-duration 7 bs duration-is .1 in
-          let free : bitOf (odd (statusField (frontEvent bs) / 0x1000)) ≡ word / 0x1000 % 2 = rw same-word (bit-forth (word / 0x1000)) in
+          let free : bitOf (odd (statusField (frontEvent bs) / 0x1000)) ≡ word / 0x1000 % 2 =
+          rw same-word (bit-forth (word / 0x1000)) in
           let off : bitOf (eqb (statusField (frontEvent bs) / 0x2000) 5) ≡ word / 0x2000 / 5 =
           rw same-word (off-air-is (word / 0x2000) (sym status-test ∙ status-holds)) in
           let same-length : length (drop eventOverhead (frontEvent bs)) ≡ word % 0x1000 =

@@ -1,5 +1,5 @@
--- The two parts of a header's bytes are its bytes, and each is one write of its fields; the fields that are read are the header that
--- the bytes show. Assumes nothing.
+-- The two parts of a header's bytes are its bytes, and each is one write of its fields; the fields that are read are
+-- the header that the bytes show. Assumes nothing.
 use Prim.Native.Nat.{ℕ, _+_, _%_, _^_, _≤_, _<_}
 use mathlib.Core.List.{List, _++_}
 use mathlib.Core.Logic.{⊎-elim}
@@ -60,12 +60,14 @@ module _ (d : List ℕ) (at : ℕ) (h : SectionHeader) where
       let to-last = write-then d at numbers lasts (omega arith) number last in
       let to-stream = write-then d at (numbers ++ lasts) streams (omega arith) to-last stream in
       let to-network = write-then d at (numbers ++ lasts ++ streams) networks (omega arith) to-stream network in
-      let to-segment = write-then d at (numbers ++ lasts ++ streams ++ networks) segments (omega arith) to-network segment in
+      let to-segment =
+      write-then d at (numbers ++ lasts ++ streams ++ networks) segments (omega arith) to-network segment in
       write-then d at (numbers ++ lasts ++ streams ++ networks ++ segments) tables (omega arith) to-segment table
 
 -- what was read, and what it says of the bytes
 module _ (bs : List ℕ) where
-  pub header-only : {h : SectionHeader} → headerOrNone (Read h) ≡ headerRead bs → (headerSize ≤ length bs) × (heldHeader h ≡ headerIn bs)
+  pub header-only : {h : SectionHeader} → headerOrNone (Read h) ≡ headerRead bs
+      → (headerSize ≤ length bs) × (heldHeader h ≡ headerIn bs)
   header-only {h} read =
       ⊎-elim
       (λ (enough : headerSize ≤ length bs).

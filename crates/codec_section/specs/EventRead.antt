@@ -14,8 +14,8 @@ use Rattle.sections.specs.Offsets.{recordAt}
 use Rattle.codec_section.specs.declared.event.EventRead.{EventRead}
 use Rattle.codec_section.specs.declared.event.EventRead.the-variants.{Whole, Broken}
 
--- an event's bytes are all there; start, duration and running_status are in range; its chain is one. What `isEvent` of sections asks
--- besides is the segment (`event-whole`)
+-- an event's bytes are all there; start, duration and running_status are in range; its chain is one. What `isEvent` of
+-- sections asks besides is the segment (`event-whole`)
 unfoldable pub isWholeEvent : ℕ → List ℕ → Bool
 isWholeEvent base bs =
     let status = statusField bs / 0x2000 in

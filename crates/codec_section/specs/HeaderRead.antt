@@ -1,5 +1,5 @@
--- A section's header as the code has it, and what reading one returns (01, "The file of sections"). Laws: proofs/HeaderLaws.antt.
--- Assumes nothing.
+-- A section's header as the code has it, and what reading one returns (01, "The file of sections"). Laws:
+-- proofs/HeaderLaws.antt. Assumes nothing.
 use mathlib.Core.Bool.{true, false}
 use mathlib.Core.List.{List, _++_}
 use mathlib.Core.Option.{Option, none, some}

@@ -64,8 +64,8 @@ fn write_rest(out: &mut [u8], at: usize, header: SectionHeader)
     fields::write_field(out, at + 7, 1, header.last_table_id as usize);
 }
 
-// The header of a section of `size` bytes. A field holds only the bits that it has room for; a version above 31 reaches into the
-// bits above it.
+// The header of a section of `size` bytes. A field holds only the bits that it has room for; a version above 31 reaches
+// into the bits above it.
 pub fn write_header(out: &mut [u8], at: usize, size: usize, header: SectionHeader)
     ensures { λ _. ⌜ now (out .exit) ≡ writeAt (now (out .entry)) at (headerBytes size (heldHeader header)) ⌝ }
 {

@@ -1,5 +1,5 @@
--- What the bytes of a time show, by the parts that the code reads one after the other: the three bytes of a time, and of a start its
--- day before them. Assumes nothing.
+-- What the bytes of a time show, by the parts that the code reads one after the other: the three bytes of a time, and
+-- of a start its day before them. Assumes nothing.
 use Prim.Native.Nat.{ℕ, _+_, _-_, _*_, _≤_, _<_}
 use mathlib.Core.Bool.{Bool, true, false, _&&_}
 use mathlib.Core.List.{List}
@@ -14,7 +14,8 @@ use lib.Seq.{getD-take, getD-drop, take-take, drop-drop}
 use Rattle.eit.specs.Limits.{windowSeconds, durationMin, durationMax}
 use Rattle.eit.specs.Limits.{startHoursMax, durationHoursMax, minutesMax, secondsMax}
 use Rattle.eit.specs.Fields.{bytesAt, field}
-use Rattle.eit.specs.Time.{timeOf, secondsOfDay, ofBcd, isBcdUpTo, isTime, secondsOf, isDurationBytes, startOf, isStartBytes}
+use Rattle.eit.specs.Time.{timeOf, secondsOfDay, ofBcd, isBcdUpTo, isTime, secondsOf, isDurationBytes, startOf}
+use Rattle.eit.specs.Time.{isStartBytes}
 use Rattle.eit.specs.declared.Time.{Time}
 use Rattle.eit.proofs.Fields.{field-length}
 use Rattle.eit.proofs.Test.{true-is, and-right, and-parts, le-or-lt}
@@ -65,7 +66,8 @@ module _ (most at : ℕ) (bs : List ℕ) where
     same-test : (leb (at + 3) (length bs) && isTime most (bytesAt at 3 bs)) ≡ b
     same-test = rw (le-leb (at + 3) (length bs) fits, first, byte 1 (omega arith), byte 2 (omega arith)) (sym test)
 
-    pub time-if : {n : ℕ} → n ≡ ofBcd (getD bs at 0) * 3600 + ofBcd (getD bs (at + 1) 0) * 60 + ofBcd (getD bs (at + 2) 0)
+    pub time-if : {n : ℕ}
+        → n ≡ ofBcd (getD bs at 0) * 3600 + ofBcd (getD bs (at + 1) 0) * 60 + ofBcd (getD bs (at + 2) 0)
         → b ≡ true → timeAt most at bs ≡ Seconds n
     unfolding timeAt
     time-if {n} is holds =
@@ -105,7 +107,8 @@ module _ (at : ℕ) (bs : List ℕ) where
       let (passed, same) = seconds-only (fits && time) (secondsOf (bytesAt at 3 bs)) n is in
       let (room, shown) = and-parts fits time passed in
       let three : length (bytesAt at 3 bs) ≡ 3 = field-length bs at 3 (leb→le (at + 3) (length bs) room) in
-      let few : secondsOf (bytesAt at 3 bs) < 100 * 3600 = time-only durationHoursMax (bytesAt at 3 bs) three shown .1 in
+      let few : secondsOf (bytesAt at 3 bs) < 100 * 3600 =
+      time-only durationHoursMax (bytesAt at 3 bs) three shown .1 in
       let most : n ≤ durationMax = omega arith in
       rw (true-is fits room, true-is time shown, same, le-leb n durationMax most, and-true (leb durationMin n))
 
@@ -117,7 +120,8 @@ module _ (at : ℕ) (bs : List ℕ) where
       and-second (leb (at + 3) (length bs)) test (le-leb (at + 3) (length bs) fits)
       (broken-only (leb (at + 3) (length bs) && test) (secondsOf (bytesAt at 3 bs)) none)
 
-  pub is-duration : {n : ℕ} → durationAt at bs ≡ Seconds n → T (isDurationBytes (bytesAt at 3 bs)) × (secondsOf (bytesAt at 3 bs) ≡ n)
+  pub is-duration : {n : ℕ} → durationAt at bs ≡ Seconds n
+      → T (isDurationBytes (bytesAt at 3 bs)) × (secondsOf (bytesAt at 3 bs) ≡ n)
   unfolding durationAt
   is-duration {n} found =
       let test : Bool = isDurationBytes (bytesAt at 3 bs) in
@@ -156,17 +160,20 @@ module _ (base at : ℕ) (bs : List ℕ) where
     unfolding timeAt
     start-no-time none =
         let time : Bool = isTime startHoursMax (bytesAt (at + 2) 3 bs) in
-        let fails : time ≡ false = sym (ap (λ (b : Bool). b && time) inside) ∙ broken-only (leb (at + 2 + 3) (length bs) && time) _ none in
+        let fails : time ≡ false =
+        sym (ap (λ (b : Bool). b && time) inside) ∙ broken-only (leb (at + 2 + 3) (length bs) && time) _ none in
         start-parts fits ∙ rw fails
 
     -- a day and a time that were read
     module _ {day n : ℕ} (is-day : day ≡ field at 2 bs) (is-time : timeAt startHoursMax (at + 2) bs ≡ Seconds n) where
       start-read : startAt base at bs
-          ≡ secondsIf (leb base day && ltb ((day - base) * secondsOfDay + n) windowSeconds) ((day - base) * secondsOfDay + n)
+          ≡ secondsIf (leb base day && ltb ((day - base) * secondsOfDay + n) windowSeconds)
+          ((day - base) * secondsOfDay + n)
       unfolding timeAt
       start-read =
           let time : Bool = isTime startHoursMax (bytesAt (at + 2) 3 bs) in
-          let (passed, same) = seconds-only (leb (at + 2 + 3) (length bs) && time) (secondsOf (bytesAt (at + 2) 3 bs)) n is-time in
+          let (passed, same) =
+          seconds-only (leb (at + 2 + 3) (length bs) && time) (secondsOf (bytesAt (at + 2) 3 bs)) n is-time in
           let (room, shown) = and-parts (leb (at + 2 + 3) (length bs)) time passed in
           start-parts fits ∙ rw (true-is time shown, same, is-day)
 
@@ -174,11 +181,13 @@ module _ (base at : ℕ) (bs : List ℕ) where
       start-early early = start-read ∙ rw (lt-leb base day early)
 
       pub start-late : base ≤ day → windowSeconds ≤ (day - base) * secondsOfDay + n → startAt base at bs ≡ Broken
-      start-late later late = start-read ∙ rw (le-leb base day later, le-ltb ((day - base) * secondsOfDay + n) windowSeconds late)
+      start-late later late =
+          start-read ∙ rw (le-leb base day later, le-ltb ((day - base) * secondsOfDay + n) windowSeconds late)
 
       pub start-shown : base ≤ day → (day - base) * secondsOfDay + n < windowSeconds
           → startAt base at bs ≡ Seconds ((day - base) * secondsOfDay + n)
-      start-shown later soon = start-read ∙ rw (le-leb base day later, lt-ltb ((day - base) * secondsOfDay + n) windowSeconds soon)
+      start-shown later soon =
+          start-read ∙ rw (le-leb base day later, lt-ltb ((day - base) * secondsOfDay + n) windowSeconds soon)
 
   -- what was found in bytes that are there
   pub no-start : at + 5 ≤ length bs → startAt base at bs ≡ Broken → isStartBytes base (bytesAt at 5 bs) ≡ false

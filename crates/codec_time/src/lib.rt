@@ -1,5 +1,5 @@
-// Starts and durations as bytes, and back (01, "The file of sections": MJD and BCD digits). Every public function is total: a read
-// says where bytes are cut or broken, and a write that does not fit leaves all as it was.
+// Starts and durations as bytes, and back (01, "The file of sections": MJD and BCD digits). Every public function is
+// total: a read says where bytes are cut or broken, and a write that does not fit leaves all as it was.
 use codec::fields;
 use eit::Time;
 ghost use mathlib.Core.Path.{_≡_};

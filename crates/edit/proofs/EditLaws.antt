@@ -1,4 +1,5 @@
--- Edit by the answers of the code's passes: one law for each return. By the four cases of the definition. Assumes nothing.
+-- Edit by the answers of the code's passes: one law for each return. By the four cases of the definition.
+-- Assumes nothing.
 use mathlib.Core.Path.{_≡_, sym, ap, _∙_, subst}
 use mathlib.Core.Bool.{Bool, true, false, not}
 use Prim.Native.Nat.{ℕ}
@@ -19,7 +20,8 @@ use Rattle.script.proofs.Struck.{struck-enough}
 use Rattle.edit_scan.specs.Commands.{formFound, strikesFound, commandsAt}
 use Rattle.edit_scan.specs.declared.scan.Form.the-variants.{Whole, Broken}
 use Rattle.edit_scan.specs.declared.scan.Strikes.the-variants.{Enough, NothingAt}
-use Rattle.edit_scan.proofs.ScanLaws.{form-whole-is, form-count-is, form-broken-is, strikes-enough-is, strikes-nothing-is}
+use Rattle.edit_scan.proofs.ScanLaws.{form-whole-is, form-count-is, form-broken-is, strikes-enough-is}
+use Rattle.edit_scan.proofs.ScanLaws.{strikes-nothing-is}
 use Rattle.edit.specs.Run.{runPart}
 use Rattle.edit.proofs.RunLaws.{none-done}
 
@@ -31,7 +33,8 @@ module _ (sizes : Sizes) (day series : List ℕ) (list : EventList) (script : Li
 
     pub edit-12 : b ≡ false → edit sizes (lentPools day series) list script ≡ refusal 12 0 list
     edit-12 e =
-        let unsound : T (not (sound sizes (lentPools day series) list)) = subst (λ (s : Bool). T (not s)) says (rw e tt) in
+        let unsound : T (not (sound sizes (lentPools day series) list)) =
+        subst (λ (s : Bool). T (not s)) says (rw e tt) in
         edit-unsound sizes (lentPools day series) list script unsound
 
   module _ (its-sound : T (sound sizes (lentPools day series) list)) where
@@ -64,7 +67,8 @@ module _ (sizes : Sizes) (day series : List ℕ) (list : EventList) (script : Li
           edit-goes-on (ap strikesFound (struck-enough (commandsAt 0 script) (ap (pendingBefore 0) (sym all) ∙ none)))
 
       -- no command at all
-      pub edit-none : k ≡ 0 → edit sizes (lentPools day series) list script ≡ record { number = 0; value = list .count; list = list }
+      pub edit-none : k ≡ 0
+          → edit sizes (lentPools day series) list script ≡ record { number = 0; value = list .count; list = list }
       edit-none none =
           edit-unpending (ap (λ (n : ℕ). pendingBefore 0 (take n (commandsAt 0 script))) none)
           ∙ ap (λ (n : ℕ). runPart sizes day series list 0 n 0 script) none

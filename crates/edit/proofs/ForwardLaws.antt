@@ -1,5 +1,5 @@
--- The pass forward that carries out the live edits by their places: where it stands before a place, and what the command there comes to.
--- By the laws of `run` and by `live` at a place. Assumes nothing.
+-- The pass forward that carries out the live edits by their places: where it stands before a place, and what the
+-- command there comes to. By the laws of `run` and by `live` at a place. Assumes nothing.
 use mathlib.Core.Path.{_≡_, refl, sym, ap, _∙_, subst}
 use mathlib.Core.Bool.{true, false}
 use mathlib.Core.List.{List, _∷_, _++_}
@@ -40,10 +40,12 @@ module _ (sizes : Sizes) (day series : List ℕ) (first : EventList) (places : L
   module _ {list : EventList} {place : ℕ} (d : Carried list place) where
     -- no place is left
     pub carried-all : length cs ≤ place → (undos : ℕ) → LivePlaces places undos cs
-        → run sizes (lentPools day series) first (live undos cs) ≡ record { number = 0; value = list .count; list = list }
+        → run sizes (lentPools day series) first (live undos cs)
+        ≡ record { number = 0; value = list .count; list = list }
     carried-all all undos are =
         d .left undos are
-        ∙ ap (λ (rest : List Command). run sizes (lentPools day series) list (live undos rest)) (drop-of-length-le cs {i = place} all)
+        ∙ ap (λ (rest : List Command). run sizes (lentPools day series) list (live undos rest))
+        (drop-of-length-le cs {i = place} all)
         ∙ none-done sizes (lentPools day series) list
 
     -- c is the command at the place
@@ -56,7 +58,8 @@ module _ (sizes : Sizes) (day series : List ℕ) (first : EventList) (places : L
                 d .left undos are
                 ∙ ap (run sizes (lentPools day series) list)
                 (ap (live undos) split
-                ∙ live-passes undos c (drop (place + 1) cs) (sym (ap (beginsLive undos) split) ∙ sym (are place some) ∙ e));
+                ∙ live-passes undos c (drop (place + 1) cs)
+                (sym (ap (beginsLive undos) split) ∙ sym (are place some) ∙ e));
           }
 
       -- o is what it comes to
@@ -87,5 +90,6 @@ module _ (sizes : Sizes) (day series : List ℕ) (first : EventList) (places : L
                   with-it undos are
                   ∙ run-append sizes (lentPools day series) list (editsOf c) (live undos (drop (place + 1) cs))
                   (ap (λ (x : Edited). x .number) does ∙ z)
-                  ∙ ap (λ (x : Edited). run sizes (lentPools day series) (x .list) (live undos (drop (place + 1) cs))) does;
+                  ∙ ap (λ (x : Edited). run sizes (lentPools day series) (x .list) (live undos (drop (place + 1) cs)))
+                  does;
             }

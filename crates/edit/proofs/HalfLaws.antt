@@ -1,5 +1,5 @@
--- The live edits of a part of a script: none if all is struck, or those of the first half and then those of the second, with the UNDOs
--- pending behind the first that pass the second. By the laws of `run` and `live`. Assumes nothing.
+-- The live edits of a part of a script: none if all is struck, or those of the first half and then those of the second,
+-- with the UNDOs pending behind the first that pass the second. By the laws of `run` and `live`. Assumes nothing.
 use mathlib.Core.Path.{_≡_, sym, ap, _∙_, subst}
 use Prim.Native.Nat.{ℕ, _+_, _-_, _≤_}
 use native.Mathlib.Omega.{arith}
@@ -34,7 +34,8 @@ module _ (script : List ℕ) (k at h mid : ℕ) (fits : h ≤ k) (there : mid �
 
   -- and the first has q UNDOs pending behind it
   live-halves : (p q : ℕ) → q ≡ pendingBefore p (take (k - h) (commandsAt mid script))
-      → live p (take k (commandsAt at script)) ≡ live q (take h (commandsAt at script)) ++ live p (take (k - h) (commandsAt mid script))
+      → live p (take k (commandsAt at script))
+      ≡ live q (take h (commandsAt at script)) ++ live p (take (k - h) (commandsAt mid script))
   live-halves p q before =
       let first : List Command = take h (commandsAt at script) in
       let second : List Command = take (k - h) (commandsAt mid script) in
@@ -50,7 +51,8 @@ module _ (script : List ℕ) (k at h mid : ℕ) (fits : h ≤ k) (there : mid �
 module _ (sizes : Sizes) (day series : List ℕ) (list : EventList) (script : List ℕ) where
   module _ (p k at : ℕ) where
     -- as many UNDOs as commands strike all
-    pub part-struck : k ≤ p → runPart sizes day series list p k at script ≡ record { number = 0; value = list .count; list = list }
+    pub part-struck : k ≤ p
+        → runPart sizes day series list p k at script ≡ record { number = 0; value = list .count; list = list }
     part-struck h =
         ap (run sizes (lentPools day series) list)
         (live-none p (take k (commandsAt at script)) (omega (arith, length-take k (commandsAt at script))))
@@ -61,7 +63,8 @@ module _ (sizes : Sizes) (day series : List ℕ) (list : EventList) (script : Li
         (q : ℕ) (before : q ≡ pendingBefore p (take (k - h) (commandsAt mid script)))
         (o : Edited) (does : runPart sizes day series list q h at script ≡ o) where
       halves : runPart sizes day series list p k at script
-          ≡ run sizes (lentPools day series) list (live q (take h (commandsAt at script)) ++ live p (take (k - h) (commandsAt mid script)))
+          ≡ run sizes (lentPools day series) list
+          (live q (take h (commandsAt at script)) ++ live p (take (k - h) (commandsAt mid script)))
       halves = ap (run sizes (lentPools day series) list) (live-halves script k at h mid fits there p q before)
 
       -- a refusal in the first half ends the run

@@ -1,5 +1,5 @@
--- The pass forward over the live edits on an index: where it stands before a place, and what the command there comes to. By the same
--- pass on the list that the index stands for. Assumes nothing.
+-- The pass forward over the live edits on an index: where it stands before a place, and what the command there comes
+-- to. By the same pass on the list that the index stands for. Assumes nothing.
 use mathlib.Core.Path.{_≡_, _∙_}
 use mathlib.Core.Bool.{true, false}
 use mathlib.Core.List.{List, _∷_}
@@ -22,7 +22,8 @@ use Rattle.edit.proofs.ForwardLaws.{Carried, carried-none, carried-past
 use Rattle.edit.proofs.RenewLaws.{kept-sound}
 
 module _ (sizes : Sizes) (day series : List ℕ) (first : EventList) (places : List ℕ) (cs : List Command) where
-  -- before a place: an index, in a lent list of so many numbers, that stands for the list that the live edits so far have made
+  -- before a place: an index, in a lent list of so many numbers, that stands for the list that the live edits so far
+  -- have made
   pub record Running (size : ℕ) (list slots order ids : List ℕ) (held used place : ℕ) : Type 0 where
     pub same-size : length list ≡ size
     pub index : Index slots order ids held used
@@ -30,15 +31,18 @@ module _ (sizes : Sizes) (day series : List ℕ) (first : EventList) (places : L
     pub carried : Carried sizes day series first places cs (indexedList list slots order held) place
 
   -- the same in other words
-  pub running-same : {size place : ℕ} {list slots order ids list' slots' order' ids' : List ℕ} {held used held' used' : ℕ}
+  pub running-same : {size place : ℕ} {list slots order ids list' slots' order' ids' : List ℕ}
+      {held used held' used' : ℕ}
       → list' ≡ list → slots' ≡ slots → order' ≡ order → ids' ≡ ids → held' ≡ held → used' ≡ used
       → Running size list slots order ids held used place → Running size list' slots' order' ids' held' used' place
   running-same a b c d e f r = rw (a, b, c, d, e, f) r
 
-  module _ {size : ℕ} {list slots order ids : List ℕ} {held used place : ℕ} (r : Running size list slots order ids held used place) where
+  module _ {size : ℕ} {list slots order ids : List ℕ} {held used place : ℕ}
+      (r : Running size list slots order ids held used place) where
     -- what the next edit asks for
     pub running-kept : Kept list slots order ids held used
-    running-kept = kept-sound sizes day series list slots order ids held used (r .index) (r .fits) (r .carried .is-sound)
+    running-kept =
+        kept-sound sizes day series list slots order ids held used (r .index) (r .fits) (r .carried .is-sound)
 
     pub running-few : held ≤ length order
     running-few = omega (arith, r .index .few, r .index .orderSize)
@@ -67,9 +71,16 @@ module _ (sizes : Sizes) (day series : List ℕ) (first : EventList) (places : L
             carried = carried-on sizes day series first places cs (r .carried) some c split e _ (leaves .says) z;
           }
 
-pub running-first : (sizes : Sizes) (day series places : List ℕ) (cs : List Command) (list slots order ids : List ℕ) (count used : ℕ)
+pub running-first : (sizes : Sizes) (day series places : List ℕ) (cs : List Command) (list slots order ids : List ℕ)
+    (count used : ℕ)
     → Index slots order ids count used → count * recordSize ≤ length list
     → T (sound sizes (lentPools day series) (indexedList list slots order count))
-    → Running sizes day series (indexedList list slots order count) places cs (length list) list slots order ids count used 0
+    → Running sizes day series (indexedList list slots order count) places cs (length list) list slots order ids count
+    used 0
 running-first sizes day series places cs list slots order ids count used x fits t =
-    record { same-size = λ i. length list; index = x; fits = fits; carried = carried-none sizes day series _ places cs t }
+    record {
+      same-size = λ i. length list;
+      index = x;
+      fits = fits;
+      carried = carried-none sizes day series _ places cs t;
+    }

@@ -1,6 +1,6 @@
--- What an edit on an index leaves, by the tests that the code makes: the steps of the plain machine on the list that the index stands
--- for. A refusal changes nothing; an edit that is done changes the index, and of the lent list only what lies behind the records. By
--- the laws of `step` and of the index. Assumes nothing.
+-- What an edit on an index leaves, by the tests that the code makes: the steps of the plain machine on the list that
+-- the index stands for. A refusal changes nothing; an edit that is done changes the index, and of the lent list only
+-- what lies behind the records. By the laws of `step` and of the index. Assumes nothing.
 use mathlib.Core.Path.{_≡_, sym, ap, _∙_}
 use mathlib.Core.Logic.{⊎-elim}
 use mathlib.Core.Bool.{not}
@@ -32,7 +32,8 @@ use Rattle.edit_answer.specs.Outcome.{outcomeOf}
 use Rattle.edit_answer.specs.declared.EditAnswer.{EditAnswer}
 use Rattle.edit_answer.specs.declared.EditAnswer.the-variants.{Done, WrongId}
 use Rattle.edit_index.specs.Index.{idLimit, slotRecord, slotRecords, Ordered, Index, indexedNumbers, indexedList}
-use Rattle.edit_index.proofs.IndexLaws.{held-length, index-records, id-absent, id-present, id-record, take-out-records, take-out-index}
+use Rattle.edit_index.proofs.IndexLaws.{held-length, index-records, id-absent, id-present, id-record, take-out-records}
+use Rattle.edit_index.proofs.IndexLaws.{take-out-index}
 use Rattle.edit_index.proofs.SlotLaws.{below-more}
 use Rattle.edit_index.proofs.RiseLaws.{own-place}
 use Rattle.edit.specs.Run.{runOne}
@@ -41,12 +42,14 @@ use Rattle.edit.specs.declared.indexed.Reached.{Reached}
 use Rattle.edit.proofs.RunLaws.{one-done, one-refused}
 
 -- the same outcome in other words
-pub leaves-same : {o p : model.Edited} {r : Reached} {list slots order ids : List ℕ} → o ≡ p → Leaves o r list slots order ids
+pub leaves-same : {o p : model.Edited} {r : Reached} {list slots order ids : List ℕ} → o ≡ p
+    → Leaves o r list slots order ids
     → Leaves p r list slots order ids
 leaves-same e l = record { says = sym e ∙ l .says; index = l .index; fits = l .fits }
 
 -- what the code looks places up in
-pub kept-ordered : (list slots order ids : List ℕ) (count used : ℕ) → Kept list slots order ids count used → Ordered slots order count
+pub kept-ordered : (list slots order ids : List ℕ) (count used : ℕ) → Kept list slots order ids count used
+    → Ordered slots order count
 kept-ordered list slots order ids count used k =
     let x = k .index in
     record {
@@ -55,7 +58,8 @@ kept-ordered list slots order ids count used k =
       rises = k .rises;
     }
 
-module _ (sizes : Sizes) (day series list slots order ids : List ℕ) (count used : ℕ) (k : Kept list slots order ids count used) (at : ℕ) where
+module _ (sizes : Sizes) (day series list slots order ids : List ℕ) (count used : ℕ)
+    (k : Kept list slots order ids count used) (at : ℕ) where
   abbrev rs : List Record
   rs = slotRecords slots (take count order)
 
@@ -116,7 +120,8 @@ module _ (sizes : Sizes) (day series list slots order ids : List ℕ) (count use
     module _ (some : number ≡ 0 → ⊥) where
       pub id-small : id < idLimit
       id-small =
-          ⊎-elim (λ large. absurd (some (found ∙ List·getD-eq-default ids 0 (omega (arith, k .index .idsSize))))) (λ small. small)
+          ⊎-elim (λ large. absurd (some (found ∙ List·getD-eq-default ids 0 (omega (arith, k .index .idsSize)))))
+          (λ small. small)
           (le-or-lt idLimit id)
 
       pub present : T (isAmong id (idsOf (slotRecords slots (take count order))))
@@ -125,12 +130,14 @@ module _ (sizes : Sizes) (day series list slots order ids : List ℕ) (count use
       module _ (event : Record) (is : event ≡ slotRecord slots (number - 1)) where
         pub its-record : event ≡ find id (slotRecords slots (take count order))
         its-record =
-            is ∙ id-record slots order ids count used (k .index) id id-small present (number - 1) (ap (λ (n : ℕ). n - 1) found)
+            is ∙ id-record slots order ids count used (k .index) id id-small present (number - 1)
+            (ap (λ (n : ℕ). n - 1) found)
 
         -- it stands before the place of its start
         module _ (place : ℕ) (at-place : place ≡ placeOf (event .start) (slotRecords slots (take count order))) where
           pub its-place : place ≡ suc (positionOf id (slotRecords slots (take count order)))
-          its-place = at-place ∙ ap (λ (r : Record). placeOf (r .start) rs) its-record ∙ own-place id rs present (k .rises)
+          its-place =
+              at-place ∙ ap (λ (r : Record). placeOf (r .start) rs) its-record ∙ own-place id rs present (k .rises)
 
           its-position : place - 1 ≡ positionOf id (slotRecords slots (take count order))
           its-position = omega (arith, its-place)
@@ -139,15 +146,18 @@ module _ (sizes : Sizes) (day series list slots order ids : List ℕ) (count use
           some-records = omega (arith, its-place, position-length id rs present, records-length)
 
           module _ (newOrder newIds : List ℕ) (out : TakenOut order ids count (place - 1) id newOrder newIds) where
-            pub out-records : slotRecords slots (take (count - 1) newOrder) ≡ without id (slotRecords slots (take count order))
+            pub out-records : slotRecords slots (take (count - 1) newOrder)
+                ≡ without id (slotRecords slots (take count order))
             out-records =
                 ap (λ (o : List ℕ). slotRecords slots (take (count - 1) o)) (out .orderIs)
-                ∙ take-out-records slots order ids count used (k .index) id id-small present (k .differ) (place - 1) its-position
+                ∙ take-out-records slots order ids count used (k .index) id id-small present (k .differ) (place - 1)
+                its-position
 
             pub out-index : Index slots newOrder newIds (count - 1) used
             out-index =
                 rw (out .orderIs, out .idsAre)
-                (take-out-index slots order ids count used (k .index) id id-small present (k .differ) (place - 1) its-position)
+                (take-out-index slots order ids count used (k .index) id id-small present (k .differ) (place - 1)
+                its-position)
 
     -- ---- WITHDRAW
 
@@ -158,9 +168,11 @@ module _ (sizes : Sizes) (day series list slots order ids : List ℕ) (count use
         (refuses (withdraw id) 6 (withdraw-6 sizes (lentPools day series) stands id (rw stands-records (absent none))))
 
     pub withdraw-present : (some : number ≡ 0 → ⊥) (event : Record) → event ≡ slotRecord slots (number - 1)
-        → (place : ℕ) → place ≡ placeOf (event .start) (slotRecords slots (take count order)) → (newList newOrder newIds : List ℕ)
+        → (place : ℕ) → place ≡ placeOf (event .start) (slotRecords slots (take count order))
+        → (newList newOrder newIds : List ℕ)
         → newList ≡ recordWritten list (count - 1) zeroRecord → TakenOut order ids count (place - 1) id newOrder newIds
-        → Leaves (does (withdraw id)) (record { answer = Done; count = count - 1; used = used }) newList slots newOrder newIds
+        → Leaves (does (withdraw id)) (record { answer = Done; count = count - 1; used = used }) newList slots newOrder
+        newIds
     withdraw-present some event is place at-place newList newOrder newIds cleared out =
         let a : T (isAmong id (idsOf (recordsOf stands))) = rw stands-records (present some) in
         let left : List Record = without id rs in
@@ -168,7 +180,8 @@ module _ (sizes : Sizes) (day series list slots order ids : List ℕ) (count use
         let size : suc (length left) ≡ count = without-length id rs (present some) ∙ records-length in
         let last : List ℕ = overwrite list ((count - 1) * recordSize) zeros in
         let clears : newList ≡ last = cleared ∙ written-is list (count - 1) zeroRecord (omega (arith, k .fits)) in
-        let kept : length last ≡ length list = over-length list ((count - 1) * recordSize) zeros (omega (arith, k .fits)) in
+        let kept : length last ≡ length list =
+        over-length list ((count - 1) * recordSize) zeros (omega (arith, k .fits)) in
         let numbers : overwrite (indexedNumbers list slots order count) 0 (numbersOfAll (left ++ (zeroRecord ∷ [])))
         ≡ indexedNumbers newList slots newOrder (count - 1) =
         written-over (left ++ (zeroRecord ∷ [])) (omega (arith, length-append left (zeroRecord ∷ [])))
@@ -178,11 +191,13 @@ module _ (sizes : Sizes) (day series list slots order ids : List ℕ) (count use
         (omega (arith, numbers-length left)))
         ∙ sym
         (ap (λ (l : List ℕ). indexedNumbers l slots newOrder (count - 1)) clears
-        ∙ ap (λ (qs : List Record). overwrite last 0 (numbersOfAll qs)) (out-records some event is place at-place newOrder newIds out)) in
+        ∙ ap (λ (qs : List Record). overwrite last 0 (numbersOfAll qs))
+        (out-records some event is place at-place newOrder newIds out)) in
         let next : afterWithdraw stands id ≡ indexedList newList slots newOrder (count - 1) =
         ap
         (λ (qs : List Record).
-        lentList (overwrite (indexedNumbers list slots order count) 0 (numbersOfAll (without id qs ++ (zeroRecord ∷ [])))) (count - 1))
+        lentList (overwrite (indexedNumbers list slots order count) 0
+        (numbersOfAll (without id qs ++ (zeroRecord ∷ [])))) (count - 1))
         stands-records
         ∙ ap (λ (ns : List ℕ). lentList ns (count - 1)) numbers in
         passes (withdraw id) (afterWithdraw stands id) (withdraw-passes sizes (lentPools day series) stands id a)

@@ -1,5 +1,5 @@
--- Which edits of a part are live, by their places: where the pass from the last place to the first stands, and what the live edits are
--- from a place on. By the cases of the command there. Assumes nothing.
+-- Which edits of a part are live, by their places: where the pass from the last place to the first stands, and what the
+-- live edits are from a place on. By the cases of the command there. Assumes nothing.
 use mathlib.Core.Path.{_≡_, refl, sym, ap, _∙_, subst}
 use mathlib.Core.Bool.{Bool, true, false}
 use mathlib.Core.Logic.{⊎-elim}
@@ -21,7 +21,8 @@ use Rattle.edit.specs.Live.{beginsUndo, beginsLive, NoPlaces, UndoPlaces
 
 -- ---- the first command, with p UNDOs pending behind them all
 
-undo-first : (p : ℕ) (cs : List Command) → beginsUndo cs ≡ true → (pendingBefore p cs ≡ pendingBefore p (drop 1 cs) + 1) × (beginsLive p cs ≡ false)
+undo-first : (p : ℕ) (cs : List Command) → beginsUndo cs ≡ true
+    → (pendingBefore p cs ≡ pendingBefore p (drop 1 cs) + 1) × (beginsLive p cs ≡ false)
 undo-first p [] u = let never : _≡_ {A = ℕ} 0 1 = cc in absurd (omega arith)
 undo-first p (doEdit e ∷ cs) u = let never : _≡_ {A = ℕ} 0 1 = cc in absurd (omega arith)
 undo-first p (undo at ∷ cs) u = (omega arith, refl)
@@ -36,15 +37,16 @@ edit-first p (undo at ∷ cs) some u = let never : _≡_ {A = ℕ} 0 1 = cc in a
 
 -- ---- the pass
 
--- from a place on the set has just the live edits, before it nothing, and so many UNDOs are pending: whatever the commands are, of which
--- the UNDOs are known
+-- from a place on the set has just the live edits, before it nothing, and so many UNDOs are pending: whatever the
+-- commands are, of which the UNDOs are known
 pub record StruckFrom (undo-places : List ℕ) (k undos : ℕ) (places₀ places : List ℕ) (pending place : ℕ) : Type 0 where
   pub few : place ≤ k
   pub size : length places ≡ length places₀
   pub room : pending ≤ undos + (k - place)
   pub clear : (m : ℕ) → m < place → isSeen places m ≡ false
   pub known : (cs : List Command) → length cs ≡ k → UndoPlaces undo-places cs
-      → (pending ≡ pendingBefore undos (drop place cs)) × ((m : ℕ) → place ≤ m → m < k → isSeen places m ≡ beginsLive undos (drop m cs))
+      → (pending ≡ pendingBefore undos (drop place cs))
+      × ((m : ℕ) → place ≤ m → m < k → isSeen places m ≡ beginsLive undos (drop m cs))
 
 module _ (undo-places : List ℕ) (k undos : ℕ) (places₀ : List ℕ) where
   pub struck-none : NoPlaces places₀ → StruckFrom undo-places k undos places₀ places₀ undos k
@@ -54,15 +56,20 @@ module _ (undo-places : List ℕ) (k undos : ℕ) (places₀ : List ℕ) where
         size = refl;
         room = omega arith;
         clear = λ m h. none m;
-        known = λ cs all are. (sym (ap (pendingBefore undos) (drop-of-length-le cs {i = k} (omega arith))), λ m from to. absurd (omega arith));
+        known = λ cs all are. (
+          sym (ap (pendingBefore undos) (drop-of-length-le cs {i = k} (omega arith))),
+          λ m from to. absurd (omega arith),
+        );
       }
 
   module _ {places : List ℕ} {pending place : ℕ} (s : StruckFrom undo-places k undos places₀ places pending place) where
     pub struck-all : place ≤ 0 → (cs : List Command) → length cs ≡ k → UndoPlaces undo-places cs
         → LivePlaces places undos cs × (pending ≡ pendingBefore undos cs)
     struck-all none cs all are =
-        let first : place ≡ 0 = omega arith in
-        (λ i h. s .known cs all are .1 i (omega arith) (omega arith), s .known cs all are .0 ∙ ap (λ (n : ℕ). pendingBefore undos (drop n cs)) first)
+        let first : place ≡ 0 = omega arith in (
+          λ i h. s .known cs all are .1 i (omega arith) (omega arith),
+          s .known cs all are .0 ∙ ap (λ (n : ℕ). pendingBefore undos (drop n cs)) first,
+        )
 
     module _ (some : 0 < place) where
       behind : (cs : List Command) → drop 1 (drop (place - 1) cs) ≡ drop place cs
@@ -70,7 +77,8 @@ module _ (undo-places : List ℕ) (k undos : ℕ) (places₀ : List ℕ) where
           let on : place - 1 + 1 ≡ place = omega arith in
           drop-drop 1 (place - 1) cs ∙ ap (λ (n : ℕ). drop n cs) on
 
-      struck-undo : isSeen undo-places (place - 1) ≡ true → StruckFrom undo-places k undos places₀ places (pending + 1) (place - 1)
+      struck-undo : isSeen undo-places (place - 1) ≡ true
+          → StruckFrom undo-places k undos places₀ places (pending + 1) (place - 1)
       struck-undo u =
           record {
             few = omega (arith, s .few);
@@ -78,7 +86,8 @@ module _ (undo-places : List ℕ) (k undos : ℕ) (places₀ : List ℕ) where
             room = omega (arith, s .room, s .few);
             clear = λ m h. s .clear m (omega arith);
             known = λ cs all are.
-                let first = undo-first undos (drop (place - 1) cs) (sym (are (place - 1) (omega (arith, s .few))) ∙ u) in (
+                let first =
+                undo-first undos (drop (place - 1) cs) (sym (are (place - 1) (omega (arith, s .few))) ∙ u) in (
                   omega (arith, s .known cs all are .0, first .0, ap (pendingBefore undos) (behind cs)),
                   λ m from to.
                       ⊎-elim (λ here. rw here (s .clear (place - 1) (omega arith) ∙ sym (first .1)))
@@ -89,11 +98,14 @@ module _ (undo-places : List ℕ) (k undos : ℕ) (places₀ : List ℕ) where
       module _ (e : isSeen undo-places (place - 1) ≡ false) where
         -- the edit at the place before
         edit-there : (cs : List Command) → length cs ≡ k → UndoPlaces undo-places cs
-            → (pendingBefore undos (drop (place - 1) cs) ≡ pending - 1) × (beginsLive undos (drop (place - 1) cs) ≡ eqb pending 0)
+            → (pendingBefore undos (drop (place - 1) cs) ≡ pending - 1)
+            × (beginsLive undos (drop (place - 1) cs) ≡ eqb pending 0)
         edit-there cs all are =
             let some-left : 0 < length (drop (place - 1) cs) = omega (arith, s .few, length-drop (place - 1) cs) in
-            let first = edit-first undos (drop (place - 1) cs) some-left (sym (are (place - 1) (omega (arith, s .few))) ∙ e) in
-            let pends : pendingBefore undos (drop 1 (drop (place - 1) cs)) ≡ pending = ap (pendingBefore undos) (behind cs) ∙ sym (s .known cs all are .0) in
+            let first =
+            edit-first undos (drop (place - 1) cs) some-left (sym (are (place - 1) (omega (arith, s .few))) ∙ e) in
+            let pends : pendingBefore undos (drop 1 (drop (place - 1) cs)) ≡ pending =
+            ap (pendingBefore undos) (behind cs) ∙ sym (s .known cs all are .0) in
             (first .0 ∙ ap (λ (n : ℕ). n - 1) pends, first .1 ∙ ap (λ (n : ℕ). eqb n 0) pends)
 
         struck-edit : 0 < pending → StruckFrom undo-places k undos places₀ places (pending - 1) (place - 1)
@@ -107,13 +119,16 @@ module _ (undo-places : List ℕ) (k undos : ℕ) (places₀ : List ℕ) where
                 sym (edit-there cs all are .0),
                 λ m from to.
                     ⊎-elim
-                    (λ here. rw here (s .clear (place - 1) (omega arith) ∙ sym (edit-there cs all are .1 ∙ ne-eqb pending 0 (λ z. omega arith))))
+                    (λ here. rw here
+                    (s .clear (place - 1) (omega arith)
+                    ∙ sym (edit-there cs all are .1 ∙ ne-eqb pending 0 (λ z. omega arith))))
                     (λ ne. s .known cs all are .1 m (omega (arith, ne)) to) (eq-or-not m (place - 1)),
               );
             }
 
         struck-kept : pending ≤ 0 → place ≤ 64 * length places₀
-            → {more : List ℕ} → more ≡ withSeen places (place - 1) → StruckFrom undo-places k undos places₀ more pending (place - 1)
+            → {more : List ℕ} → more ≡ withSeen places (place - 1)
+            → StruckFrom undo-places k undos places₀ more pending (place - 1)
         struck-kept none room is =
             rw is
             record {
@@ -127,8 +142,10 @@ module _ (undo-places : List ℕ) (k undos : ℕ) (places₀ : List ℕ) where
                     ⊎-elim
                     (λ here.
                     rw here
-                    (seen-same places (place - 1) (omega (arith, s .size)) ∙ sym (edit-there cs all are .1 ∙ eq-eqb pending 0 (omega arith))))
-                    (λ ne. seen-other places (place - 1) m ne ∙ s .known cs all are .1 m (omega (arith, ne)) to) (eq-or-not m (place - 1)),
+                    (seen-same places (place - 1) (omega (arith, s .size))
+                    ∙ sym (edit-there cs all are .1 ∙ eq-eqb pending 0 (omega arith))))
+                    (λ ne. seen-other places (place - 1) m ne ∙ s .known cs all are .1 m (omega (arith, ne)) to)
+                    (eq-or-not m (place - 1)),
               );
             }
 
@@ -143,8 +160,10 @@ module _ (undo-places : List ℕ) (k undos : ℕ) (places₀ : List ℕ) where
           subst (λ (q : ℕ). StruckFrom undo-places k undos places₀ places q (place - 1)) less
           (struck-edit (sym e) (omega (arith, n)))
 
-      pub struck-live : (b : Bool) → b ≡ isSeen undo-places (place - 1) → pending + boolByte b ≡ 0 → place ≤ 64 * length places₀
-          → {more : List ℕ} → more ≡ withSeen places (place - 1) → StruckFrom undo-places k undos places₀ more pending (place - 1)
+      pub struck-live : (b : Bool) → b ≡ isSeen undo-places (place - 1) → pending + boolByte b ≡ 0
+          → place ≤ 64 * length places₀
+          → {more : List ℕ} → more ≡ withSeen places (place - 1)
+          → StruckFrom undo-places k undos places₀ more pending (place - 1)
       struck-live true e z = absurd (omega arith)
       struck-live false e z = struck-kept (sym e) (omega arith)
 
@@ -159,7 +178,8 @@ module _ (p : ℕ) where
   taken zero e es n = absurd (n refl)
   taken (suc q) e es n = refl
 
-  pub live-begins : (c : Command) (cs : List Command) → beginsLive p (c ∷ cs) ≡ true → live p (c ∷ cs) ≡ editsOf c ++ live p cs
+  pub live-begins : (c : Command) (cs : List Command) → beginsLive p (c ∷ cs) ≡ true
+      → live p (c ∷ cs) ≡ editsOf c ++ live p cs
   live-begins (doEdit e) cs t = kept (pendingBefore p cs) e (live p cs) (eqb-true (pendingBefore p cs) 0 t)
   live-begins (undo at) cs t = let never : _≡_ {A = ℕ} 0 1 = cc in absurd (omega arith)
 

@@ -1,5 +1,5 @@
--- What MOVE on an index leaves, by the tests that the code makes: one law for each return. The record is taken out and put back with
--- its new start. Assumes nothing.
+-- What MOVE on an index leaves, by the tests that the code makes: one law for each return. The record is taken out and
+-- put back with its new start. Assumes nothing.
 use mathlib.Core.Path.{_≡_, sym, ap, _∙_}
 use mathlib.Core.Logic.{⊎-elim}
 use mathlib.Core.Bool.{true, false, not}
@@ -32,11 +32,13 @@ use Rattle.edit_index.proofs.IndexLaws.{held-length, add-records, add-index}
 use Rattle.edit_index.proofs.RiseLaws.{without-starts, own-start, place-left-before, place-left-behind}
 use Rattle.edit.specs.Indexed.{placeIn, placeLeft, Added, TakenOut, Kept, Leaves}
 use Rattle.edit.specs.declared.index.Place.{Place}
-use Rattle.edit.proofs.IndexedLaws.{does, stands-records, records-length, refuses, stays, passes, written-over, absent, id-small, present}
+use Rattle.edit.proofs.IndexedLaws.{does, stands-records, records-length, refuses, stays, passes, written-over}
+use Rattle.edit.proofs.IndexedLaws.{absent, id-small, present}
 use Rattle.edit.proofs.IndexedLaws.{its-record, its-place, out-records, out-index}
 use Rattle.edit.proofs.PutLaws.{holds, fails}
 
-module _ (sizes : Sizes) (day series list slots order ids : List ℕ) (count used : ℕ) (k : Kept list slots order ids count used) (at : ℕ)
+module _ (sizes : Sizes) (day series list slots order ids : List ℕ) (count used : ℕ)
+    (k : Kept list slots order ids count used) (at : ℕ)
     (id start : ℕ) where
   abbrev rs : List Record
   rs = slotRecords slots (take count order)
@@ -46,7 +48,8 @@ module _ (sizes : Sizes) (day series list slots order ids : List ℕ) (count use
 
   abbrev Refused : EditAnswer → Type 0
   Refused answer =
-      Leaves (does sizes day series list slots order ids count used k at (move id start)) (record { answer = answer; count = count; used = used })
+      Leaves (does sizes day series list slots order ids count used k at (move id start))
+      (record { answer = answer; count = count; used = used })
       list slots order ids
 
   pub move-outside : ltb start windowSeconds ≡ false → Refused (OutOfRange at)
@@ -76,7 +79,8 @@ module _ (sizes : Sizes) (day series list slots order ids : List ℕ) (count use
 
       others : isAmong start (startsOf (without id (recordsOf stands))) ≡ isAmong start (startsOf (without id rs))
       others =
-          ap (λ (qs : List Record). isAmong start (startsOf (without id qs))) (stands-records sizes day series list slots order ids count used k at)
+          ap (λ (qs : List Record). isAmong start (startsOf (without id qs)))
+          (stands-records sizes day series list slots order ids count used k at)
 
       module _ (p : Place) (at-place : p ≡ placeIn start rs) where
         -- another start than its own
@@ -92,7 +96,8 @@ module _ (sizes : Sizes) (day series list slots order ids : List ℕ) (count use
             (move-7 sizes (lentPools day series) stands id start (holds range) old-id
             (holds (others ∙ other-start other ∙ taken))))
 
-        pub free-other : (start ≡ event .start → ⊥) → p .«is_taken» ≡ false → T (not (isAmong start (startsOf (without id rs))))
+        pub free-other : (start ≡ event .start → ⊥) → p .«is_taken» ≡ false
+            → T (not (isAmong start (startsOf (without id rs))))
         free-other other free = fails (other-start other ∙ free)
 
       pub free-own : start ≡ event .start → T (not (isAmong start (startsOf (without id rs))))
@@ -102,11 +107,13 @@ module _ (sizes : Sizes) (day series list slots order ids : List ℕ) (count use
           (out : TakenOut order ids count (place - 1) id midOrder midIds) where
         left-records : slotRecords slots (take (count - 1) midOrder) ≡ without id rs
         left-records =
-            out-records sizes day series list slots order ids count used k at id number found some event is place was midOrder midIds out
+            out-records sizes day series list slots order ids count used k at id number found some event is place was
+            midOrder midIds out
 
         left-index : Index slots midOrder midIds (count - 1) used
         left-index =
-            out-index sizes day series list slots order ids count used k at id number found some event is place was midOrder midIds out
+            out-index sizes day series list slots order ids count used k at id number found some event is place was
+            midOrder midIds out
 
         pub id-within : event .id < length midIds
         id-within =
@@ -127,12 +134,15 @@ module _ (sizes : Sizes) (day series list slots order ids : List ℕ) (count use
             (λ before.
             rw (placeLeft, le-leb place (p .place) before)
             (ap (λ (n : ℕ). n - 1) all ∙ sym (place-left-before id rs old (k .rises) start (omega arith))))
-            (λ behind. rw (placeLeft, lt-leb place (p .place) behind) (all ∙ sym (place-left-behind id rs old (k .rises) start (omega arith))))
+            (λ behind. rw (placeLeft, lt-leb place (p .place) behind)
+            (all ∙ sym (place-left-behind id rs old (k .rises) start (omega arith))))
             (le-or-lt place (p .place))
 
         pub move-goes : T (not (isAmong start (startsOf (without id rs)))) → used < slotLimit → (moved : Record)
-            → moved ≡ withStart start event → (p : Place) → p ≡ placeIn start rs → (next : ℕ) → next ≡ placeLeft (p .place) place
-            → (newSlots newOrder newIds : List ℕ) → Added slots midOrder midIds (count - 1) used next moved newSlots newOrder newIds
+            → moved ≡ withStart start event → (p : Place) → p ≡ placeIn start rs → (next : ℕ)
+            → next ≡ placeLeft (p .place) place
+            → (newSlots newOrder newIds : List ℕ)
+            → Added slots midOrder midIds (count - 1) used next moved newSlots newOrder newIds
             → Leaves (does sizes day series list slots order ids count used k at (move id start))
             (record { answer = Done; count = count; used = used + 1 }) list newSlots newOrder newIds
         move-goes free slot moved is-moved p at-place next is-next newSlots newOrder newIds added =
@@ -158,7 +168,8 @@ module _ (sizes : Sizes) (day series list slots order ids : List ℕ) (count use
             let records : slotRecords newSlots (take count newOrder) ≡ insert r left =
             ap (λ (n : ℕ). slotRecords newSlots (take n newOrder)) (sym again)
             ∙ (rw (added .slotsAre, added .orderIs)
-            (add-records slots midOrder midIds (count - 1) used left-index next moved there (omega arith) slot (omega arith) gone))
+            (add-records slots midOrder midIds (count - 1) used left-index next moved there (omega arith) slot
+            (omega arith) gone))
             ∙ ap (λ (qs : List Record). take next qs ++ moved ∷ drop next qs) left-records
             ∙ ap (λ (n : ℕ). take n left ++ moved ∷ drop n left) at-next
             ∙ ap (λ (q : Record). take (placeOf start left) left ++ q ∷ drop (placeOf start left) left) same
@@ -166,13 +177,18 @@ module _ (sizes : Sizes) (day series list slots order ids : List ℕ) (count use
             let after : afterMove stands id start ≡ indexedList list newSlots newOrder count =
             ap
             (λ (qs : List Record).
-            lentList (overwrite (indexedNumbers list slots order count) 0 (numbersOfAll (insert (withStart start (find id qs)) (without id qs)))) count)
+            lentList (overwrite (indexedNumbers list slots order count) 0
+            (numbersOfAll (insert (withStart start (find id qs)) (without id qs)))) count)
             (stands-records sizes day series list slots order ids count used k at)
             ∙ ap (λ (ns : List ℕ). lentList ns count)
-            (written-over sizes day series list slots order ids count used k at (insert r left) (omega (arith, insert-length r left))
+            (written-over sizes day series list slots order ids count used k at (insert r left)
+            (omega (arith, insert-length r left))
             ∙ ap (λ (qs : List Record). overwrite list 0 (numbersOfAll qs)) (sym records)) in
             let index =
-            rw again at (add-index slots midOrder midIds (count - 1) used left-index next moved there (omega arith) slot (omega arith) gone) in
+            rw again at
+            (add-index slots midOrder midIds (count - 1) used left-index next moved there (omega arith) slot
+            (omega arith) gone) in
             passes sizes day series list slots order ids count used k at (move id start) (afterMove stands id start)
             (move-passes sizes (lentPools day series) stands id start (holds range) old-id (rw others free))
-            list newSlots newOrder newIds count (used + 1) after (rw (added .slotsAre, added .orderIs, added .idsAre) index) (k .fits)
+            list newSlots newOrder newIds count (used + 1) after
+            (rw (added .slotsAre, added .orderIs, added .idsAre) index) (k .fits)

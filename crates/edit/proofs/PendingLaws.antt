@@ -1,5 +1,5 @@
--- How many UNDOs pass a part of a script: of those pending behind it the edits that it keeps take away one each, and to these come
--- the UNDOs that find nothing in it to strike. By the cases of a command. Assumes nothing.
+-- How many UNDOs pass a part of a script: of those pending behind it the edits that it keeps take away one each, and to
+-- these come the UNDOs that find nothing in it to strike. By the cases of a command. Assumes nothing.
 use mathlib.Core.Path.{_≡_, refl, ap, ap₂, _∙_}
 use mathlib.Core.Logic.{⊎-elim}
 use mathlib.Core.List.{List, [], _∷_}
@@ -30,7 +30,8 @@ pending-least p (undo at ∷ cs) = omega (arith, pending-least p cs)
 
 pub live-none : (p : ℕ) (cs : List Command) → length cs ≤ p → live p cs ≡ []
 live-none p [] h = refl
-live-none p (doEdit e ∷ cs) h = struck (pendingBefore p cs) (omega (arith, pending-least p cs)) (live-none p cs (omega arith))
+live-none p (doEdit e ∷ cs) h =
+    struck (pendingBefore p cs) (omega (arith, pending-least p cs)) (live-none p cs (omega arith))
   where
     struck : (q : ℕ) → 0 < q → live p cs ≡ [] → unlessStruck q e (live p cs) ≡ []
     struck zero h none = absurd (omega arith)
@@ -39,7 +40,8 @@ live-none p (undo at ∷ cs) h = live-none p cs (omega arith)
 
 -- ---- command by command
 
--- p UNDOs are pending behind the commands; before them are `kept` edits that are not yet struck, and `over` UNDOs that found nothing
+-- p UNDOs are pending behind the commands; before them are `kept` edits that are not yet struck, and `over` UNDOs that
+-- found nothing
 abbrev pub pendingAfter : ℕ → ℕ → ℕ → List Command → ℕ
 pendingAfter over kept p cs = over + (pendingBefore p cs - kept)
 
@@ -55,13 +57,16 @@ module _ (kept code : ℕ) where
   pub pending-room : 2 * undoByte code ≤ kept + 1 + unmetByte kept code
   pending-room =
       ⊎-elim (λ h. omega (arith, byte-few (eqb code 0x04)))
-      (λ h. omega (arith, ap boolByte (lt-ltb kept (undoByte code) h), byte-few (eqb code 0x04))) (le-or-lt (undoByte code) kept)
+      (λ h. omega (arith, ap boolByte (lt-ltb kept (undoByte code) h), byte-few (eqb code 0x04)))
+      (le-or-lt (undoByte code) kept)
 
   -- and each command counts once
-  pub pending-few : (over : ℕ) → over + unmetByte kept code + (kept + 1 + unmetByte kept code - 2 * undoByte code) ≤ over + kept + 1
+  pub pending-few : (over : ℕ)
+      → over + unmetByte kept code + (kept + 1 + unmetByte kept code - 2 * undoByte code) ≤ over + kept + 1
   pending-few over =
       ⊎-elim (λ h. omega (arith, ap boolByte (le-ltb kept (undoByte code) h)))
-      (λ h. omega (arith, ap boolByte (lt-ltb kept (undoByte code) h), byte-few (eqb code 0x04))) (le-or-lt (undoByte code) kept)
+      (λ h. omega (arith, ap boolByte (lt-ltb kept (undoByte code) h), byte-few (eqb code 0x04)))
+      (le-or-lt (undoByte code) kept)
 
 module _ (over kept p k at : ℕ) (script : List ℕ) (next : ℕ)
     (e : next ≡ at + (1 + operandBytes (getD script at 0)))
@@ -74,10 +79,12 @@ module _ (over kept p k at : ℕ) (script : List ℕ) (next : ℕ)
   first c here = ap (take k) here ∙ take-more k c (commandsAt next script) some
 
   pending-edit : (getD script at 0 ≡ 0x04 → ⊥)
-      → pendingAfter over kept p (take k (commandsAt at script)) ≡ pendingAfter over (kept + 1) p (take (k - 1) (commandsAt next script))
+      → pendingAfter over kept p (take k (commandsAt at script))
+      ≡ pendingAfter over (kept + 1) p (take (k - 1) (commandsAt next script))
   pending-edit n =
       let (f, here) = commands-edit at script next e whole n in
-      let counts : over + (pred (pendingBefore p rest) - kept) ≡ over + (pendingBefore p rest - (kept + 1)) = omega arith in
+      let counts : over + (pred (pendingBefore p rest) - kept) ≡ over + (pendingBefore p rest - (kept + 1)) =
+      omega arith in
       ap (pendingAfter over kept p) (first (doEdit f) here) ∙ counts
 
   module _ (u : getD script at 0 ≡ 0x04) where
@@ -85,15 +92,19 @@ module _ (over kept p k at : ℕ) (script : List ℕ) (next : ℕ)
     undone = first (undo at) (commands-undo at script next e whole u)
 
     pending-undo : (kept ≡ 0 → ⊥)
-        → pendingAfter over kept p (take k (commandsAt at script)) ≡ pendingAfter over (kept - 1) p (take (k - 1) (commandsAt next script))
+        → pendingAfter over kept p (take k (commandsAt at script))
+        ≡ pendingAfter over (kept - 1) p (take (k - 1) (commandsAt next script))
     pending-undo n =
-        let counts : over + (suc (pendingBefore p rest) - kept) ≡ over + (pendingBefore p rest - (kept - 1)) = omega (arith, n) in
+        let counts : over + (suc (pendingBefore p rest) - kept) ≡ over + (pendingBefore p rest - (kept - 1)) =
+        omega (arith, n) in
         ap (pendingAfter over kept p) undone ∙ counts
 
     pending-over : kept ≡ 0
-        → pendingAfter over kept p (take k (commandsAt at script)) ≡ pendingAfter (over + 1) kept p (take (k - 1) (commandsAt next script))
+        → pendingAfter over kept p (take k (commandsAt at script))
+        ≡ pendingAfter (over + 1) kept p (take (k - 1) (commandsAt next script))
     pending-over none =
-        let counts : over + (suc (pendingBefore p rest) - kept) ≡ over + 1 + (pendingBefore p rest - kept) = omega arith in
+        let counts : over + (suc (pendingBefore p rest) - kept) ≡ over + 1 + (pendingBefore p rest - kept) =
+        omega arith in
         ap (pendingAfter over kept p) undone ∙ counts
 
   abbrev undos : ℕ

@@ -1,5 +1,5 @@
--- The commands of a part by their places: at which offset the command at a place stands, and which places a pass over the script has
--- noted as those of UNDOs. By one command at a time. Assumes nothing.
+-- The commands of a part by their places: at which offset the command at a place stands, and which places a pass over
+-- the script has noted as those of UNDOs. By one command at a time. Assumes nothing.
 use mathlib.Core.Path.{_≡_, refl, sym, ap, _∙_}
 use mathlib.Core.Bool.{Bool, true, false}
 use mathlib.Core.Logic.{⊎-elim}
@@ -14,7 +14,8 @@ use lib.ListN.{length, getD, set, take, drop}
 use lib.Seq.{drop-drop, set-getD}
 use Rattle.eit.proofs.Test.{eq-or-not}
 use Rattle.codec.specs.Seen.{isSeen, withSeen}
-use Rattle.codec.proofs.SeenLaws.{seenBit, bit-shifted, with-seen-new, with-seen-room, seen-length, seen-same, seen-other}
+use Rattle.codec.proofs.SeenLaws.{seenBit, bit-shifted, with-seen-new, with-seen-room, seen-length, seen-same}
+use Rattle.codec.proofs.SeenLaws.{seen-other}
 use Rattle.script.specs.Form.{Command, doEdit, undo, operandBytes, commandOf}
 use Rattle.edit_scan.specs.Commands.{isWholeAt, commandsAt}
 use Rattle.edit_scan.proofs.CommandLaws.{commands-next, commands-edit, commands-undo, whole-here, whole-inside}
@@ -57,7 +58,9 @@ module _ {script : List ℕ} {at k place i : ℕ} (s : Stands script at k place 
 
     stands-command : (c : Command) → c ≡ commandOf (getD script i 0) i (drop (suc i) script)
         → drop place (take k (commandsAt at script)) ≡ c ∷ take (k - (place + 1)) (commandsAt next script)
-    stands-command c is = starts c (commands-next i script next there stands-whole ∙ ap (λ (h : Command). h ∷ commandsAt next script) (sym is))
+    stands-command c is =
+        starts c (commands-next i script next there stands-whole
+        ∙ ap (λ (h : Command). h ∷ commandsAt next script) (sym is))
 
     pub stands-next : Stands script at k (place + 1) next
     stands-next =
@@ -82,7 +85,8 @@ module _ {script : List ℕ} {at k place i : ℕ} (s : Stands script at k place 
   -- as the code asks
   pub begins-is : eqb (getD script i 0) 0x04 ≡ beginsUndo (drop place (take k (commandsAt at script)))
   begins-is =
-      ⊎-elim (λ u. eq-eqb (getD script i 0) 0x04 u ∙ sym (begins-undo u)) (λ n. ne-eqb (getD script i 0) 0x04 n ∙ sym (begins-edit n))
+      ⊎-elim (λ u. eq-eqb (getD script i 0) 0x04 u ∙ sym (begins-undo u))
+      (λ n. ne-eqb (getD script i 0) 0x04 n ∙ sym (begins-edit n))
       (eq-or-not (getD script i 0) 0x04)
 
 -- ---- a place that is added if a test holds
@@ -120,12 +124,14 @@ module _ (places₀ : List ℕ) (cs : List Command) where
   noted-none none = record { size = refl; noted = λ m h. absurd (omega arith); clear = λ m h. none m }
 
   module _ {places : List ℕ} {place : ℕ} (n : Noted places₀ cs places place) where
-    noted-edit : beginsUndo (drop place cs) ≡ false → {same : List ℕ} → same ≡ places → Noted places₀ cs same (place + 1)
+    noted-edit : beginsUndo (drop place cs) ≡ false → {same : List ℕ} → same ≡ places
+        → Noted places₀ cs same (place + 1)
     noted-edit e is =
         rw is
         record {
           size = n .size;
-          noted = λ m h. ⊎-elim (λ here. rw here (n .clear place (omega arith) ∙ sym e)) (λ ne. n .noted m (omega (arith, ne))) (eq-or-not m place);
+          noted = λ m h. ⊎-elim (λ here. rw here (n .clear place (omega arith) ∙ sym e))
+              (λ ne. n .noted m (omega (arith, ne))) (eq-or-not m place);
           clear = λ m h. n .clear m (omega arith);
         }
 

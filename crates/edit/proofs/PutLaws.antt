@@ -31,7 +31,8 @@ use Rattle.edit_index.specs.Index.{slotLimit, orderLimit, idLimit, slotRecords,
 use Rattle.edit_index.proofs.IndexLaws.{add-records, add-index}
 use Rattle.edit.specs.Indexed.{placeIn, Added, Kept, Leaves}
 use Rattle.edit.specs.declared.index.Place.{Place}
-use Rattle.edit.proofs.IndexedLaws.{does, stands-records, records-length, refuses, stays, passes, written-over, absent, present}
+use Rattle.edit.proofs.IndexedLaws.{does, stands-records, records-length, refuses, stays, passes, written-over}
+use Rattle.edit.proofs.IndexedLaws.{absent, present}
 
 -- a test that came out true, and one that came out false
 pub holds : {b : Bool} → b ≡ true → T b
@@ -40,7 +41,8 @@ holds e = rw e tt
 pub fails : {b : Bool} → b ≡ false → T (not b)
 fails e = rw e tt
 
-module _ (sizes : Sizes) (day series list slots order ids : List ℕ) (count used : ℕ) (k : Kept list slots order ids count used) (at : ℕ)
+module _ (sizes : Sizes) (day series list slots order ids : List ℕ) (count used : ℕ)
+    (k : Kept list slots order ids count used) (at : ℕ)
     (r : Record) where
   abbrev rs : List Record
   rs = slotRecords slots (take count order)
@@ -51,7 +53,8 @@ module _ (sizes : Sizes) (day series list slots order ids : List ℕ) (count use
   -- a refusal
   abbrev Refused : EditAnswer → Type 0
   Refused answer =
-      Leaves (does sizes day series list slots order ids count used k at (put r)) (record { answer = answer; count = count; used = used })
+      Leaves (does sizes day series list slots order ids count used k at (put r))
+      (record { answer = answer; count = count; used = used })
       list slots order ids
 
   pub put-outside : inRange r ≡ false → Refused (OutOfRange at)
@@ -87,7 +90,8 @@ module _ (sizes : Sizes) (day series list slots order ids : List ℕ) (count use
 
         tested : isAmong (r .start) (startsOf (recordsOf stands)) ≡ p .«is_taken»
         tested =
-            ap (λ (qs : List Record). isAmong (r .start) (startsOf qs)) (stands-records sizes day series list slots order ids count used k at)
+            ap (λ (qs : List Record). isAmong (r .start) (startsOf qs))
+            (stands-records sizes day series list slots order ids count used k at)
             ∙ ap (λ (q : Place). q .«is_taken») (sym at-place)
 
         pub put-taken : p .«is_taken» ≡ true → Refused (StartTaken at)
@@ -101,28 +105,41 @@ module _ (sizes : Sizes) (day series list slots order ids : List ℕ) (count use
           size : length (indexedNumbers list slots order count) ≡ length list
           size =
               over-length list 0 (numbersOfAll rs)
-              (omega (arith, numbers-length rs, records-length sizes day series list slots order ids count used k at, k .fits))
+              (omega (
+                arith,
+                numbers-length rs,
+                records-length sizes day series list slots order ids count used k at,
+                k .fits,
+              ))
 
           pub put-full : min (length list / recordSize) (sizes .«event_limit») ≤ count → Refused (ListFull at)
           put-full h =
-              let most : min (length (indexedNumbers list slots order count) / recordSize) (sizes .«event_limit») ≤ count =
+              let most : min (length (indexedNumbers list slots order count) / recordSize)
+              (sizes .«event_limit») ≤ count =
               rw size h in
               stays sizes day series list slots order ids count used k at (put r) (ListFull at)
               (refuses sizes day series list slots order ids count used k at (put r) 8
               (put-8 sizes (lentPools day series) stands r (holds range) (holds chain) new-id (fails (tested ∙ free))
               (fails (le-ltb count (limitOf sizes stands) most))))
 
-          pub put-goes-in : count < sizes .«event_limit» → count < length list / recordSize → sizes .«event_limit» ≤ orderLimit
+          pub put-goes-in : count < sizes .«event_limit» → count < length list / recordSize
+              → sizes .«event_limit» ≤ orderLimit
               → used < slotLimit
-              → (newSlots newOrder newIds : List ℕ) → Added slots order ids count used (p .place) r newSlots newOrder newIds
+              → (newSlots newOrder newIds : List ℕ)
+              → Added slots order ids count used (p .place) r newSlots newOrder newIds
               → Leaves (does sizes day series list slots order ids count used k at (put r))
               (record { answer = Done; count = count + 1; used = used + 1 }) list newSlots newOrder newIds
           put-goes-in few room capacity slot newSlots newOrder newIds added =
-              let below : count < min (length (indexedNumbers list slots order count) / recordSize) (sizes .«event_limit») =
+              let below : count < min (length (indexedNumbers list slots order count) / recordSize)
+              (sizes .«event_limit») =
               rw size (omega arith) in
               let place : p .place ≡ placeOf (r .start) rs = ap (λ (q : Place). q .place) at-place in
               let there : p .place ≤ count =
-              omega (arith, place-length (r .start) rs, records-length sizes day series list slots order ids count used k at) in
+              omega (
+                arith,
+                place-length (r .start) rs,
+                records-length sizes day series list slots order ids count used k at,
+              ) in
               let small : r .id < idLimit = omega (arith, range-facts r (holds range) .id) in
               let records : slotRecords newSlots (take (count + 1) newOrder) ≡ insert r rs =
               rw (added .slotsAre, added .orderIs)
@@ -130,14 +147,16 @@ module _ (sizes : Sizes) (day series list slots order ids : List ℕ) (count use
               ∙ ap (λ (n : ℕ). take n rs ++ r ∷ drop n rs) place
               ∙ sym (insert-place r rs) in
               let next : afterPut stands r ≡ indexedList list newSlots newOrder (count + 1) =
-              ap (λ (qs : List Record). lentList (overwrite (indexedNumbers list slots order count) 0 (numbersOfAll (insert r qs))) (count + 1))
+              ap (λ (qs : List Record). lentList
+              (overwrite (indexedNumbers list slots order count) 0 (numbersOfAll (insert r qs))) (count + 1))
               (stands-records sizes day series list slots order ids count used k at)
               ∙ ap (λ (ns : List ℕ). lentList ns (count + 1))
               (written-over sizes day series list slots order ids count used k at (insert r rs)
               (omega (arith, insert-length r rs, records-length sizes day series list slots order ids count used k at))
               ∙ ap (λ (qs : List Record). overwrite list 0 (numbersOfAll qs)) (sym records)) in
               passes sizes day series list slots order ids count used k at (put r) (afterPut stands r)
-              (put-passes sizes (lentPools day series) stands r (holds range) (holds chain) new-id (fails (tested ∙ free))
+              (put-passes sizes (lentPools day series) stands r (holds range) (holds chain) new-id
+              (fails (tested ∙ free))
               (lt→ltb count (limitOf sizes stands) below))
               list newSlots newOrder newIds (count + 1) (used + 1) next
               (rw (added .slotsAre, added .orderIs, added .idsAre)

@@ -1,5 +1,5 @@
--- What an index holds, and what it is made from: the records of a sound list are what an edit asks for, an index that stands for a
--- list is made anew from its numbers, and stands for it again. Assumes nothing.
+-- What an index holds, and what it is made from: the records of a sound list are what an edit asks for, an index that
+-- stands for a list is made anew from its numbers, and stands for it again. Assumes nothing.
 use mathlib.Core.Path.{_≡_, sym, ap, subst, _∙_}
 use mathlib.Core.List.{List}
 use Prim.Native.Nat.{ℕ, _*_, _≤_, _<_}
@@ -18,7 +18,8 @@ use Rattle.eit.proofs.Overwrite.{over-length}
 use Rattle.eit.proofs.Records.{records-length, record-at, numbers-length}
 use Rattle.eit.proofs.Sound.{RecordFacts, sound-list, valid-at, range-facts}
 use Rattle.script.specs.Machine.{zeroRecord}
-use Rattle.edit_index.specs.Index.{slotLimit, orderLimit, idLimit, slotRecord, slotRecords, Index, Loadable, Loaded, indexedNumbers, indexedList}
+use Rattle.edit_index.specs.Index.{slotLimit, orderLimit, idLimit, slotRecord, slotRecords, Index, Loadable, Loaded}
+use Rattle.edit_index.specs.Index.{indexedNumbers, indexedList}
 use Rattle.edit_index.proofs.IndexLaws.{held-length, index-records, index-none, indexed-own}
 use Rattle.edit_index.proofs.RiseLaws.{rising-starts}
 use Rattle.edit.specs.Indexed.{Kept, Renewed}
@@ -26,15 +27,21 @@ use Rattle.edit.specs.Indexed.{Kept, Renewed}
 -- ---- from soundness
 
 -- ids of valid records are small
-ids-small : (pools : Pools) (rs : List Record) → T (allValid pools rs) → (id : ℕ) → T (isAmong id (idsOf rs)) → id < idLimit
+ids-small : (pools : Pools) (rs : List Record) → T (allValid pools rs) → (id : ℕ) → T (isAmong id (idsOf rs))
+    → id < idLimit
 ids-small pools rs valid id a =
     let found = among-found id (idsOf rs) a in
     let within : found .0 < length rs = omega (arith, length-map rs (λ (r : Record). r .id)) in
-    let its : getD rs (found .0) zeroRecord .id ≡ id = sym (List·getD-map (λ (r : Record). r .id) rs (found .0) zeroRecord) ∙ found .2 in
-    omega (arith, range-facts (getD rs (found .0) zeroRecord) (valid-at pools rs valid (found .0) zeroRecord within .0) .id)
+    let its : getD rs (found .0) zeroRecord .id ≡ id =
+    sym (List·getD-map (λ (r : Record). r .id) rs (found .0) zeroRecord) ∙ found .2 in
+    omega (
+      arith,
+      range-facts (getD rs (found .0) zeroRecord) (valid-at pools rs valid (found .0) zeroRecord within .0) .id,
+    )
 
 -- what an edit asks of an index
-pub kept-sound : (sizes : Sizes) (day series list slots order ids : List ℕ) (count used : ℕ) → Index slots order ids count used
+pub kept-sound : (sizes : Sizes) (day series list slots order ids : List ℕ) (count used : ℕ)
+    → Index slots order ids count used
     → count * recordSize ≤ length list → T (sound sizes (lentPools day series) (indexedList list slots order count))
     → Kept list slots order ids count used
 kept-sound sizes day series list slots order ids count used x fits t =
@@ -89,7 +96,8 @@ loaded-stands list count slots order ids fits loaded =
 
 -- ---- made anew
 
-pub index-zeros : (slots order : List ℕ) (n : ℕ) → length slots ≡ slotLimit * recordSize → length order ≡ orderLimit → n ≡ idLimit
+pub index-zeros : (slots order : List ℕ) (n : ℕ) → length slots ≡ slotLimit * recordSize → length order ≡ orderLimit
+    → n ≡ idLimit
     → Index slots order (replicate n 0) 0 0
 index-zeros slots order n slotsAre orderIs all =
     index-none slots order (replicate n 0) slotsAre orderIs (length-replicate {A = ℕ} n 0 ∙ all)
@@ -121,7 +129,8 @@ module _ (list slots order ids : List ℕ) (count used : ℕ) (k : Kept list slo
   renewed newSlots newOrder newIds loaded =
       let fits : count * recordSize ≤ length stored = omega (arith, stored-length, k .fits) in
       record {
-        same = loaded-stands stored count newSlots newOrder newIds fits loaded ∙ ap (λ (ns : List ℕ). lentList ns count) written;
+        same = loaded-stands stored count newSlots newOrder newIds fits loaded
+            ∙ ap (λ (ns : List ℕ). lentList ns count) written;
         index = loaded .index;
         free = omega (arith, k .index .few);
         fits = fits;

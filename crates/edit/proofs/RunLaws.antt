@@ -35,10 +35,12 @@ module _ (sizes : Sizes) (pools : Pools) where
   run-ends list (e ∷ es) fs refuses = by (step sizes pools list (e .act)) refl (λ next. run-ends next es fs)
     where
       by : (s : Step) → step sizes pools list (e .act) ≡ s
-          → ((next : EventList) → (run sizes pools next es .number ≡ 0 → ⊥) → run sizes pools next (es ++ fs) ≡ run sizes pools next es)
+          → ((next : EventList) → (run sizes pools next es .number ≡ 0 → ⊥)
+          → run sizes pools next (es ++ fs) ≡ run sizes pools next es)
           → run sizes pools list (e ∷ (es ++ fs)) ≡ run sizes pools list (e ∷ es)
       by (done next) q again =
           run-done sizes pools list e (es ++ fs) next q
           ∙ again next (λ z. refuses (ap (λ (o : Edited). o .number) (run-done sizes pools list e es next q) ∙ z))
           ∙ sym (run-done sizes pools list e es next q)
-      by (refused number) q again = run-refused sizes pools list e (es ++ fs) number q ∙ sym (run-refused sizes pools list e es number q)
+      by (refused number) q again =
+          run-refused sizes pools list e (es ++ fs) number q ∙ sym (run-refused sizes pools list e es number q)

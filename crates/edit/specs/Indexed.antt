@@ -1,5 +1,5 @@
--- What the machine's edits ask of the index that they run on and of the lent list, and what they leave: the list that the index stands
--- for is the plain machine's (01, "Edit"). Laws: proofs/IndexedLaws.antt. Assumes nothing.
+-- What the machine's edits ask of the index that they run on and of the lent list, and what they leave: the list that
+-- the index stands for is the plain machine's (01, "Edit"). Laws: proofs/IndexedLaws.antt. Assumes nothing.
 use mathlib.Core.Path.{_≡_}
 use Prim.Native.Nat.{ℕ, _+_, _-_, _*_, _≤_, _<_}
 use mathlib.Core.Bool.{true, false}
@@ -28,7 +28,8 @@ abbrev pub placeLeft : ℕ → ℕ → ℕ
 placeLeft place out = elim (leb out place) [ true ↦ place - 1 | false ↦ place ]
 
 -- a record put in a new slot
-pub record Added (slots order ids : List ℕ) (count used place : ℕ) (r : Record) (newSlots newOrder newIds : List ℕ) : Type 0 where
+pub record Added (slots order ids : List ℕ) (count used place : ℕ) (r : Record)
+    (newSlots newOrder newIds : List ℕ) : Type 0 where
   pub slotsAre : newSlots ≡ overwrite slots (used * recordSize) (numbersOf r)
   pub orderIs : newOrder ≡ withSlot order count place used
   pub idsAre : newIds ≡ set ids (r .id) (used + 1)
@@ -48,7 +49,8 @@ pub record Kept (list slots order ids : List ℕ) (count used : ℕ) : Type 0 wh
 
 -- after it: o is what the plain machine comes to
 pub record Leaves (o : model.Edited) (r : Reached) (list slots order ids : List ℕ) : Type 0 where
-  pub says : o ≡ outcomeOf (record { answer = r .answer; count = r .count }) (indexedNumbers list slots order (r .count))
+  pub says : o
+      ≡ outcomeOf (record { answer = r .answer; count = r .count }) (indexedNumbers list slots order (r .count))
   pub index : Index slots order ids (r .count) (r .used)
   pub fits : r .count * recordSize ≤ length list
 

@@ -1,5 +1,6 @@
--- Which commands of a part are UNDOs and which are carried out, by their place 0, 1, .. among its commands, as sets of places (01, "Edit":
--- the unstruck edits are then carried out in order). Laws: proofs/PlaceLaws.antt, LiveLaws.antt. Assumes nothing.
+-- Which commands of a part are UNDOs and which are carried out, by their place 0, 1, .. among its commands, as sets of
+-- places (01, "Edit": the unstruck edits are then carried out in order). Laws: proofs/PlaceLaws.antt, LiveLaws.antt.
+-- Assumes nothing.
 use mathlib.Core.Path.{_≡_}
 use Prim.Native.Nat.{ℕ, _<_}
 use mathlib.Core.Bool.{Bool, true, false}

@@ -1,5 +1,5 @@
--- What the machine's functions carry out, in the words of `run` of script: one command, and the live edits of a part of a script.
--- Laws: proofs/RunLaws.antt, HalfLaws.antt. Assumes nothing.
+-- What the machine's functions carry out, in the words of `run` of script: one command, and the live edits of a part of
+-- a script. Laws: proofs/RunLaws.antt, HalfLaws.antt. Assumes nothing.
 use Prim.Native.Nat.{ℕ}
 use mathlib.Core.List.{List, [], _∷_}
 use lib.ListN.{take}

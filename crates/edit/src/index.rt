@@ -1,5 +1,5 @@
-// An index of the list's records (what it is: edit_index, specs/Index.antt): looked up, a record put in and taken out, made from the
-// list and written back to it.
+// An index of the list's records (what it is: edit_index, specs/Index.antt): looked up, a record put in and taken out,
+// made from the list and written back to it.
 use eit::Record;
 use list_records::records;
 use list_records::records::RECORD_SIZE;
@@ -8,7 +8,8 @@ ghost use Prim.Native.Nat.{_+_, _*_, _/_, _≤_, _<_};
 ghost use lib.ListN.{length, getD, take, replicate};
 ghost use Rattle.eit.specs.Find.{placeOf};
 ghost use Rattle.eit.specs.Records.{recordSize};
-ghost use Rattle.edit_index.specs.Index.{slotRecord, slotRecords, Ordered, Index, Loadable, Loaded, indexedNumbers, indexedList};
+ghost use Rattle.edit_index.specs.Index.{slotRecord, slotRecords, Ordered, Index, Loadable, Loaded, indexedNumbers};
+ghost use Rattle.edit_index.specs.Index.{indexedList};
 ghost use Rattle.edit.specs.Indexed.{placeIn, placeLeft, Added, TakenOut, Kept, Renewed};
 
 // Slots of an index: those of a full list, and at least as many for edits until it is made anew.

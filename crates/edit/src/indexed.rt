@@ -1,5 +1,5 @@
-// The edits of the plain machine (01, "Edit") on an index of the list's records. While it is in use the records in the lent list are
-// stale, and only what lies behind them is kept there.
+// The edits of the plain machine (01, "Edit") on an index of the list's records. While it is in use the records in the
+// lent list are stale, and only what lies behind them is kept there.
 use crate::index;
 use codec::pools;
 use edit_answer::EditAnswer;
@@ -53,7 +53,8 @@ fn put_indexed<'a>(
     ensures { λ r. ⌜
         Leaves
         (runOne sizes (now (day .entry)) (now (series .entry))
-        (indexedList (now (list .entry)) (now (slots .entry)) (now (order .entry)) count) (modelCommand at (Command.Put event)))
+        (indexedList (now (list .entry)) (now (slots .entry)) (now (order .entry)) count)
+        (modelCommand at (Command.Put event)))
         r (now (list .entry)) (now (slots .exit)) (now (order .exit)) (now (ids .exit)) ⌝ }
 {
     if !list_sound::is_in_range(event) {

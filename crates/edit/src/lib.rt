@@ -58,7 +58,8 @@ pub fn edit<'a>(
     script: &[u8],
 ) -> Edited
     ensures { λ r. ⌜
-        edit broadcast (lentPools (now (day .entry)) (now (series .entry))) (lentList (now (list .entry)) count) (now (script .entry))
+        edit broadcast (lentPools (now (day .entry)) (now (series .entry))) (lentList (now (list .entry)) count)
+        (now (script .entry))
         ≡ outcomeOf r (now (list .exit)) ⌝ }
 {
     edit_within(list, count, day, series, script, Sizes::BROADCAST)

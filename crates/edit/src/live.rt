@@ -1,5 +1,5 @@
-// Which edits of a part of a script UNDO leaves live, by their places 0, 1, .. among its commands (01, "Edit": each UNDO strikes the
-// nearest earlier edit that is not yet struck). A set of places is one of numbers (`codec::seen`).
+// Which edits of a part of a script UNDO leaves live, by their places 0, 1, .. among its commands (01, "Edit": each
+// UNDO strikes the nearest earlier edit that is not yet struck). A set of places is one of numbers (`codec::seen`).
 use codec::seen;
 use edit_scan::command;
 ghost use mathlib.Core.Path.{_≡_};
@@ -23,7 +23,8 @@ fn add_if(places: &mut [u64], place: usize, is_undo: bool)
 
 // The places of the UNDOs among k commands from `at` on.
 pub fn undos_in(script: &[u8], at: usize, k: usize, undo_places: &mut [u64])
-    requires { ⌜ (k ≤ length (commandsAt at (now script))) × (k ≤ 64 * length (now «undo_places»)) × NoPlaces (now «undo_places») ⌝ }
+    requires { ⌜ (k ≤ length (commandsAt at (now script))) × (k ≤ 64 * length (now «undo_places»))
+        × NoPlaces (now «undo_places») ⌝ }
     ensures { λ _. ⌜ UndoPlaces (now («undo_places» .exit)) (take k (commandsAt at (now (script .entry)))) ⌝ }
 {
     let mut i = at;
@@ -35,11 +36,13 @@ pub fn undos_in(script: &[u8], at: usize, k: usize, undo_places: &mut [u64])
     }
 }
 
-// The places of the live edits among k commands, from the last to the first: an UNDO is pending until an edit before it is struck. It
-// counts as 1 and an edit as 0, so that the processor has no branch to guess. Returns how many are pending before them all.
+// The places of the live edits among k commands, from the last to the first: an UNDO is pending until an edit before it
+// is struck. It counts as 1 and an edit as 0, so that the processor has no branch to guess. Returns how many are
+// pending before them all.
 pub fn live_in(undo_places: &[u64], k: usize, undos: usize, live_places: &mut [u64]) -> usize
     requires { ⌜
-        (k ≤ 64 * length (now «live_places»)) × (k ≤ placeLimit) × (undos ≤ placeLimit) × NoPlaces (now «live_places») ⌝ }
+        (k ≤ 64 * length (now «live_places»)) × (k ≤ placeLimit) × (undos ≤ placeLimit)
+        × NoPlaces (now «live_places») ⌝ }
     ensures { λ r. ⌜
         ((cs : List Command) → length cs ≡ k → UndoPlaces (now («undo_places» .entry)) cs
         → LivePlaces (now («live_places» .exit)) undos cs × (r ≡ pendingBefore undos cs)) ⌝ }

@@ -1,4 +1,5 @@
-// The unstruck edits of a part of a script are carried out in order (01, "Edit"); a refusal leaves the list as the earlier edits made it.
+// The unstruck edits of a part of a script are carried out in order (01, "Edit"); a refusal leaves the list as the
+// earlier edits made it.
 use crate::index;
 use crate::index::SLOT_LIMIT;
 use crate::indexed;
@@ -33,8 +34,9 @@ pub const PLACE_WORDS: usize = 4_096;
 // Ids, 0 to 65,535.
 const IDS: usize = 65_536;
 
-// How many UNDOs are pending before k commands from `at` on, with so many behind them: `kept` counts the edits that are not
-// yet struck, `over` the UNDOs that find nothing among them to strike; with no branch that the processor would have to guess.
+// How many UNDOs are pending before k commands from `at` on, with so many behind them: `kept` counts the edits that are
+// not yet struck, `over` the UNDOs that find nothing among them to strike; with no branch that the processor would have
+// to guess.
 fn pending_before(script: &[u8], at: usize, k: usize, undos: usize) -> usize
     requires { ⌜ (k ≤ length (commandsAt at (now script))) × (undos ≤ length (now script)) ⌝ }
     ensures { λ r. ⌜ r ≡ pendingBefore undos (take k (commandsAt at (now (script .entry)))) ⌝ }
@@ -57,8 +59,8 @@ fn pending_before(script: &[u8], at: usize, k: usize, undos: usize) -> usize
     over + (undos - kept)
 }
 
-// The live edits among k commands from `at` on, by their places, on an index that stands for a sound list; it ends where one is
-// refused.
+// The live edits among k commands from `at` on, by their places, on an index that stands for a sound list; it ends
+// where one is refused.
 fn run_indexed<'a>(
     list: &mut [u32],
     slots: &mut [u32],
@@ -80,7 +82,8 @@ fn run_indexed<'a>(
     ensures { λ r. ⌜
         ((undos : ℕ) → LivePlaces (now («live_places» .entry)) undos (take k (commandsAt at (now (script .entry))))
         → runPart sizes (now (day .entry)) (now (series .entry))
-        (indexedList (now (list .entry)) (now (slots .entry)) (now (order .entry)) count) undos k at (now (script .entry))
+        (indexedList (now (list .entry)) (now (slots .entry)) (now (order .entry)) count) undos k at
+        (now (script .entry))
         ≡ outcomeOf r (indexedNumbers (now (list .exit)) (now (slots .exit)) (now (order .exit)) (r .count)))
         × (r .count * recordSize ≤ length (now (list .exit))) × (r .count ≤ length (now (order .exit))) ⌝ }
 {
@@ -167,8 +170,8 @@ pub fn run_live<'a>(
     r
 }
 
-// The live edits of a part that is not halved: a pass forward that notes the UNDOs, one back that finds the live edits, and one forward
-// that carries them out.
+// The live edits of a part that is not halved: a pass forward that notes the UNDOs, one back that finds the live edits,
+// and one forward that carries them out.
 fn run_short<'a>(
     list: &mut [u32],
     count: usize,
@@ -196,8 +199,9 @@ fn run_short<'a>(
     run_live(list, count, day, series, sizes, script, at, k, &live_places)
 }
 
-// The live edits among k commands from `at` on, with so many UNDOs pending behind them, on a list that is sound: those of the
-// first half, then those of the second, until a half is short. What strikes in the first is counted by a pass over the second.
+// The live edits among k commands from `at` on, with so many UNDOs pending behind them, on a list that is sound: those
+// of the first half, then those of the second, until a half is short. What strikes in the first is counted by a pass
+// over the second.
 pub fn run_part<'a>(
     list: &mut [u32],
     count: usize,

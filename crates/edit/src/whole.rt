@@ -1,4 +1,5 @@
-// A script that has its form, on a list that is sound (01, "When a call says no"): 4 over the script; then its unstruck edits.
+// A script that has its form, on a list that is sound (01, "When a call says no"): 4 over the script; then its unstruck
+// edits.
 use crate::live;
 use crate::part;
 use crate::part::PLACE_WORDS;
@@ -49,8 +50,8 @@ fn edit_long<'a>(
     part::run_part(list, count, day, series, sizes, script, 0, k, 0)
 }
 
-// A script whose commands sets of places hold: what finds the live edits also finds whether an UNDO is left with nothing to strike, and
-// only then is the script passed over for its offset.
+// A script whose commands sets of places hold: what finds the live edits also finds whether an UNDO is left with
+// nothing to strike, and only then is the script passed over for its offset.
 fn edit_short<'a>(
     list: &mut [u32],
     count: usize,

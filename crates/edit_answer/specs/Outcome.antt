@@ -35,4 +35,8 @@ answerValue count (NoChain at) = at
 -- the answer, the count and the buffer as Edit's definition has them
 abbrev pub outcomeOf : Edited → List ℕ → model.Edited
 outcomeOf r buffer =
-    record { number = answerNumber (r .answer); value = answerValue (r .count) (r .answer); list = lentList buffer (r .count) }
+    record {
+      number = answerNumber (r .answer);
+      value = answerValue (r .count) (r .answer);
+      list = lentList buffer (r .count);
+    }

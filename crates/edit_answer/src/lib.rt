@@ -1,5 +1,5 @@
-// What Edit says: a case for each cause of 01's table ("When a call says no"), with the offset of the command's byte where it
-// returns one.
+// What Edit says: a case for each cause of 01's table ("When a call says no"), with the offset of the command's byte
+// where it returns one.
 ghost use mathlib.Core.Path.{_≡_};
 ghost use Rattle.edit_answer.specs.Outcome.{answerNumber, answerValue};
 

@@ -1,5 +1,5 @@
--- An index with a record put in a new slot, and with a record taken out: what it then holds, and that it is an index. A slot that has
--- been written stays. By the laws of slots and of the order. Assumes nothing.
+-- An index with a record put in a new slot, and with a record taken out: what it then holds, and that it is an index. A
+-- slot that has been written stays. By the laws of slots and of the order. Assumes nothing.
 use mathlib.Core.Path.{_≡_, refl, sym, ap, ap₂, _∙_}
 use mathlib.Core.Logic.{⊎-elim}
 use mathlib.Core.Bool.{not}
@@ -23,10 +23,12 @@ use Rattle.list_records.proofs.WriteLaws.{read-before}
 use Rattle.script.specs.Machine.{find, without, zeroRecord}
 use Rattle.script.proofs.Placing.{without-gone, find-id}
 use Rattle.script.proofs.Places.{find-at, without-position}
-use Rattle.edit_index.specs.Index.{slotLimit, orderLimit, idLimit, slotRecord, slotRecords, slotOf, Index, indexedNumbers, indexedList}
+use Rattle.edit_index.specs.Index.{slotLimit, orderLimit, idLimit, slotRecord, slotRecords, slotOf, Index}
+use Rattle.edit_index.specs.Index.{indexedNumbers, indexedList}
 use Rattle.edit_index.specs.Order.{withSlot, withoutSlot}
 use Rattle.edit_index.proofs.OrderLaws.{with-length, with-around, without-length, without-around}
-use Rattle.edit_index.proofs.SlotLaws.{below-more, below-at, below-insert, below-leave, map-insert, map-leave, map-at}
+use Rattle.edit_index.proofs.SlotLaws.{below-more, below-at, below-insert, below-leave, map-insert, map-leave}
+use Rattle.edit_index.proofs.SlotLaws.{map-at}
 use Rattle.edit_index.proofs.SlotLaws.{slot-insert-other, slot-insert-same, slot-leave-other}
 use Rattle.edit_index.proofs.SlotLaws.{slot-none, slot-some, slot-absent, slot-present}
 use Rattle.edit_index.proofs.SlotLaws.{records-same, slot-same}
@@ -58,7 +60,8 @@ module _ (slots : List ℕ) (used : ℕ) (r : Record) (room : used * recordSize 
         «chain_length» = number 5 (omega arith) i;
       }
     where
-      number : (k : ℕ) → k < recordSize → getD (drop (s * recordSize) slotsWith) k 0 ≡ getD (drop (s * recordSize) slots) k 0
+      number : (k : ℕ) → k < recordSize
+          → getD (drop (s * recordSize) slotsWith) k 0 ≡ getD (drop (s * recordSize) slots) k 0
       number k few =
           getD-drop (s * recordSize) slotsWith k 0
           ∙ read-before slots (used * recordSize) (numbersOf r) (omega arith) (s * recordSize + k) (omega arith)
@@ -80,7 +83,8 @@ module _ (slots order ids : List ℕ) (count used : ℕ) (x : Index slots order 
   held-length = length-map (take count order) (slotRecord slots) ∙ entries-length
 
   -- the records of the list that it stands for are those that it holds
-  pub index-records : (list : List ℕ) → recordsOf (indexedList list slots order count) ≡ slotRecords slots (take count order)
+  pub index-records : (list : List ℕ)
+      → recordsOf (indexedList list slots order count) ≡ slotRecords slots (take count order)
   index-records list =
       ap (λ (n : ℕ). recordsOf (lentList (indexedNumbers list slots order count) n)) (sym held-length)
       ∙ records-written (slotRecords slots (take count order)) list
@@ -94,7 +98,8 @@ module _ (slots order ids : List ℕ) (count used : ℕ) (x : Index slots order 
     pub id-present : (getD ids id 0 ≡ 0 → ⊥) → T (isAmong id (idsOf (slotRecords slots (take count order))))
     id-present nz = slot-present (slotRecord slots) id (take count order) (λ z. nz (x .found id small ∙ z))
 
-    module _ (a : T (isAmong id (idsOf (slotRecords slots (take count order))))) (slot : ℕ) (is : slot ≡ getD ids id 0 - 1) where
+    module _ (a : T (isAmong id (idsOf (slotRecords slots (take count order))))) (slot : ℕ)
+        (is : slot ≡ getD ids id 0 - 1) where
       pub id-place : positionOf id (slotRecords slots (take count order)) < count
       id-place = omega (arith, position-length id (slotRecords slots (take count order)) a, held-length)
 
@@ -131,14 +136,17 @@ module _ (slots order ids : List ℕ) (count used : ℕ) (x : Index slots order 
     around = with-around order count place used (omega (arith, x .orderSize)) there (take count order) refl
 
     same-records : slotRecords newSlots (take count order) ≡ slotRecords slots (take count order)
-    same-records = records-same (slotRecord slots) (slotRecord newSlots) used (slot-kept slots used r fits) (take count order) (x .below)
+    same-records =
+        records-same (slotRecord slots) (slotRecord newSlots) used (slot-kept slots used r fits) (take count order)
+        (x .below)
 
     pub add-records : slotRecords newSlots (take (count + 1) newOrder)
         ≡ take place (slotRecords slots (take count order)) ++ r ∷ drop place (slotRecords slots (take count order))
     add-records =
         ap (slotRecords newSlots) around
         ∙ map-insert (slotRecord newSlots) used place (take count order)
-        ∙ ap₂ (λ (rs : List Record) (q : Record). take place rs ++ q ∷ drop place rs) same-records (slot-new slots used r fits)
+        ∙ ap₂ (λ (rs : List Record) (q : Record). take place rs ++ q ∷ drop place rs) same-records
+        (slot-new slots used r fits)
 
     finds : (id : ℕ) → id < idLimit
         → getD (set ids (r .id) (used + 1)) id 0 ≡ slotOf (slotRecord newSlots) id (take (count + 1) newOrder)
@@ -151,23 +159,29 @@ module _ (slots order ids : List ℕ) (count used : ℕ) (x : Index slots order 
         its-id : slotRecord newSlots used .id ≡ r .id
         its-id = ap (λ (q : Record). q .id) (slot-new slots used r fits)
 
-        same : id ≡ r .id → getD (set ids (r .id) (used + 1)) id 0 ≡ slotOf (slotRecord newSlots) id (take place es ++ used ∷ drop place es)
+        same : id ≡ r .id
+            → getD (set ids (r .id) (used + 1)) id 0
+            ≡ slotOf (slotRecord newSlots) id (take place es ++ used ∷ drop place es)
         same e =
             let one : used + 1 ≡ suc used = omega arith in
             let gone : T (not (isAmong id (idsOf (slotRecords newSlots es)))) = rw (same-records, e) new in
             ap (λ (n : ℕ). getD (set ids (r .id) (used + 1)) n 0) e
             ∙ getD-set-same ids (r .id) (used + 1) 0 (omega (arith, x .idsSize))
             ∙ one
-            ∙ sym (slot-insert-same (slotRecord newSlots) id used (eq-test id (slotRecord newSlots used .id) (e ∙ sym its-id)) place es gone)
+            ∙ sym (slot-insert-same (slotRecord newSlots) id used
+            (eq-test id (slotRecord newSlots used .id) (e ∙ sym its-id)) place es gone)
 
         other : (id ≡ r .id → ⊥)
-            → getD (set ids (r .id) (used + 1)) id 0 ≡ slotOf (slotRecord newSlots) id (take place es ++ used ∷ drop place es)
+            → getD (set ids (r .id) (used + 1)) id 0
+            ≡ slotOf (slotRecord newSlots) id (take place es ++ used ∷ drop place es)
         other ne =
             getD-set-other ids (r .id) id (used + 1) 0 ne
             ∙ x .found id few
-            ∙ sym (slot-same (slotRecord slots) (slotRecord newSlots) used (slot-kept slots used r fits) id es (x .below))
+            ∙ sym (slot-same (slotRecord slots) (slotRecord newSlots) used (slot-kept slots used r fits) id es
+            (x .below))
             ∙ sym
-            (slot-insert-other (slotRecord newSlots) id used (ne-test id (slotRecord newSlots used .id) (λ e. ne (e ∙ its-id))) place es)
+            (slot-insert-other (slotRecord newSlots) id used
+            (ne-test id (slotRecord newSlots used .id) (λ e. ne (e ∙ its-id))) place es)
 
     pub add-index : Index newSlots newOrder (set ids (r .id) (used + 1)) (count + 1) (used + 1)
     add-index =
@@ -198,7 +212,8 @@ module _ (slots order ids : List ℕ) (count used : ℕ) (x : Index slots order 
     left-around : take (count - 1) oldOrder ≡ take place (take count order) ++ drop (suc place) (take count order)
     left-around = without-around order count place (omega (arith, x .few, x .orderSize)) there (take count order) refl
 
-    pub take-out-records : slotRecords slots (take (count - 1) oldOrder) ≡ without id (slotRecords slots (take count order))
+    pub take-out-records : slotRecords slots (take (count - 1) oldOrder)
+        ≡ without id (slotRecords slots (take count order))
     take-out-records =
         ap (slotRecords slots) left-around
         ∙ map-leave (slotRecord slots) place (take count order)
@@ -213,7 +228,8 @@ module _ (slots order ids : List ℕ) (count used : ℕ) (x : Index slots order 
         ∙ sym (find-at id held zeroRecord a))
         ∙ find-id id held a
 
-    still-finds : (other : ℕ) → other < idLimit → getD (set ids id 0) other 0 ≡ slotOf (slotRecord slots) other (take (count - 1) oldOrder)
+    still-finds : (other : ℕ) → other < idLimit
+        → getD (set ids id 0) other 0 ≡ slotOf (slotRecord slots) other (take (count - 1) oldOrder)
     still-finds other few = ⊎-elim same apart (eq-or-not other id)
       where
         same : other ≡ id → getD (set ids id 0) other 0 ≡ slotOf (slotRecord slots) other (take (count - 1) oldOrder)
@@ -224,7 +240,8 @@ module _ (slots order ids : List ℕ) (count used : ℕ) (x : Index slots order 
             ∙ getD-set-same ids id 0 0 (omega (arith, x .idsSize))
             ∙ sym (slot-none (slotRecord slots) other (take (count - 1) oldOrder) gone)
 
-        apart : (other ≡ id → ⊥) → getD (set ids id 0) other 0 ≡ slotOf (slotRecord slots) other (take (count - 1) oldOrder)
+        apart : (other ≡ id → ⊥)
+            → getD (set ids id 0) other 0 ≡ slotOf (slotRecord slots) other (take (count - 1) oldOrder)
         apart ne =
             getD-set-other ids id other 0 0 ne
             ∙ x .found other few
@@ -261,7 +278,8 @@ index-none slots order ids slotsAre orderIs idsAre zeros =
     }
 
 pub indexed-own : (list slots order : List ℕ) (count : ℕ) → count * recordSize ≤ length list
-    → slotRecords slots (take count order) ≡ recordsOf (lentList list count) → indexedList list slots order count ≡ lentList list count
+    → slotRecords slots (take count order) ≡ recordsOf (lentList list count)
+    → indexedList list slots order count ≡ lentList list count
 unfolding recordsOf
 indexed-own list slots order count fits same =
     ap (λ (ns : List ℕ). lentList ns count)

@@ -1,5 +1,5 @@
--- An index made from a list record by record, and written back to it record by record: each step puts one record more at the end.
--- Assumes nothing.
+-- An index made from a list record by record, and written back to it record by record: each step puts one record more
+-- at the end. Assumes nothing.
 use mathlib.Core.Path.{_≡_, refl, sym, ap, _∙_}
 use mathlib.Core.Bool.{not}
 use mathlib.Core.List.{List, [], _∷_, _++_}
@@ -24,7 +24,8 @@ use Rattle.edit_index.proofs.IndexLaws.{held-length, add-records, add-i
 
 -- ---- one record more
 
-id-take : (rs : List Record) (n k : ℕ) → k < n → k < length (idsOf (take n rs)) → getD (idsOf (take n rs)) k 0 ≡ getD (idsOf rs) k 0
+id-take : (rs : List Record) (n k : ℕ) → k < n → k < length (idsOf (take n rs))
+    → getD (idsOf (take n rs)) k 0 ≡ getD (idsOf rs) k 0
 id-take [] zero k below within = absurd (omega arith)
 id-take [] (suc n) k below within = absurd (omega arith)
 id-take (r ∷ rs) zero k below within = absurd (omega arith)
@@ -52,7 +53,8 @@ next-new rs differ n r within =
 
 -- ---- an index made
 
-pub load-none : (list : List ℕ) (count : ℕ) (slots order ids : List ℕ) → Index slots order ids 0 0 → Loaded list count 0 slots order ids
+pub load-none : (list : List ℕ) (count : ℕ) (slots order ids : List ℕ) → Index slots order ids 0 0
+    → Loaded list count 0 slots order ids
 load-none list count slots order ids x = record { index = x; records = refl }
 
 module _ (list : List ℕ) (count : ℕ) (loadable : Loadable list count) (n : ℕ) (slots order ids : List ℕ)
@@ -66,10 +68,12 @@ module _ (list : List ℕ) (count : ℕ) (loadable : Loadable list count) (n : �
   new : T (not (isAmong (slotRecord list n .id) (idsOf (slotRecords slots (take n order)))))
   new =
       rw (so-far .records)
-      (rw its-place at (next-new (recordsIn count list) (loadable .differ) n zeroRecord (omega (arith, records-length count list))))
+      (rw its-place at
+      (next-new (recordsIn count list) (loadable .differ) n zeroRecord (omega (arith, records-length count list))))
 
   pub load-next : (r : Record) → r ≡ slotRecord list n → (newSlots newOrder newIds : List ℕ)
-      → newSlots ≡ overwrite slots (n * recordSize) (numbersOf r) → newOrder ≡ withSlot order n n n → newIds ≡ set ids (r .id) (n + 1)
+      → newSlots ≡ overwrite slots (n * recordSize) (numbersOf r) → newOrder ≡ withSlot order n n n
+      → newIds ≡ set ids (r .id) (n + 1)
       → Loaded list count (n + 1) newSlots newOrder newIds
   load-next r is newSlots newOrder newIds slotsAre orderIs idsAre =
       let x = so-far .index in
@@ -86,7 +90,8 @@ module _ (list : List ℕ) (count : ℕ) (loadable : Loadable list count) (n : �
       rw (slotsAre, orderIs, idsAre, is)
       record {
         index = add-index slots order ids n n x n next (omega arith) few (omega arith) (loadable .small n within) new;
-        records = add-records slots order ids n n x n next (omega arith) few (omega arith) (loadable .small n within) new ∙ more;
+        records = add-records slots order ids n n x n next (omega arith) few (omega arith) (loadable .small n within)
+            new ∙ more;
       }
 
 -- ---- the list written back
@@ -103,7 +108,8 @@ module _ (list slots order : List ℕ) (n : ℕ) (within : n < length order) (fi
       (snoc (take n order) (getD order n 0))
     where
       snoc : (es : List ℕ) (s : ℕ)
-          → numbersOfAll (slotRecords slots (es ++ (s ∷ []))) ≡ numbersOfAll (slotRecords slots es) ++ numbersOf (slotRecord slots s)
+          → numbersOfAll (slotRecords slots (es ++ (s ∷ [])))
+          ≡ numbersOfAll (slotRecords slots es) ++ numbersOf (slotRecord slots s)
       snoc [] s = refl
       snoc (e ∷ es) s = ap (λ (ns : List ℕ). numbersOf (slotRecord slots e) ++ ns) (snoc es s)
 

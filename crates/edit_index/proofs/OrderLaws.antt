@@ -1,5 +1,5 @@
--- The order with a slot put in or taken out, as one write and as the slots around the place. By the cuts of the order at the place.
--- Assumes nothing.
+-- The order with a slot put in or taken out, as one write and as the slots around the place. By the cuts of the order
+-- at the place. Assumes nothing.
 use mathlib.Core.Path.{_≡_, refl, sym, ap, ap₂, _∙_}
 use mathlib.Core.List.{List, [], _∷_, _++_}
 use Prim.Native.Nat.{ℕ, suc, _+_, _-_, _≤_, _<_}
@@ -46,7 +46,8 @@ module _ (order : List ℕ) (count place slot : ℕ) where
     with-length = ap length with-is ∙ over-length order place (slot ∷ moved) (omega (arith, moved-length))
 
     -- what the loop leaves, with the slot written
-    pub with-ends : (moving : List ℕ) (k : ℕ) → k ≡ place → moving ≡ movedUp order k count → length moving ≡ length order
+    pub with-ends : (moving : List ℕ) (k : ℕ) → k ≡ place → moving ≡ movedUp order k count
+        → length moving ≡ length order
         → set moving place slot ≡ withSlot order count place slot
     with-ends moving k ends is size =
         over-one moving place slot (omega arith)

@@ -1,5 +1,5 @@
--- Places by starts that rise strictly: the place of a start, whether a record has it, and the place of the record of an id. By the
--- records before the place and the one behind it. Assumes nothing.
+-- Places by starts that rise strictly: the place of a start, whether a record has it, and the place of the record of an
+-- id. By the records before the place and the one behind it. Assumes nothing.
 use mathlib.Core.Path.{_≡_, refl, sym, ap, subst, _∙_}
 use mathlib.Core.Logic.{⊎-elim}
 use mathlib.Core.Bool.{Bool, not, _||_}
@@ -30,7 +30,8 @@ starts-length rs = length-map rs (λ (r : Record). r .start)
 -- ---- the starts of a sound list rise
 
 module _ (pools : Pools) where
-  all-after : (s : ℕ) (rs : List Record) → AllAfter s (eventsIn pools rs) → (j : ℕ) → j < length (startsOf rs) → s < getD (startsOf rs) j 0
+  all-after : (s : ℕ) (rs : List Record) → AllAfter s (eventsIn pools rs) → (j : ℕ) → j < length (startsOf rs)
+      → s < getD (startsOf rs) j 0
   all-after s [] a j h = absurd (omega arith)
   all-after s (r ∷ rs) a zero h = a .0
   all-after s (r ∷ rs) a (suc j) h = all-after s rs (a .1) j (omega arith)
@@ -62,12 +63,14 @@ place-is start (r ∷ rs) (suc k) few before behind =
 pub place-before : (start : ℕ) (rs : List Record) (i : ℕ) → i < placeOf start rs → getD (startsOf rs) i 0 ≤ start
 place-before start [] i h = omega arith
 place-before start (r ∷ rs) zero h =
-    ⊎-elim (λ t. absurd (omega (arith, place-here start r rs t))) (λ t. nltb→le start (r .start) t) (test-or (ltb start (r .start)))
+    ⊎-elim (λ t. absurd (omega (arith, place-here start r rs t))) (λ t. nltb→le start (r .start) t)
+    (test-or (ltb start (r .start)))
 place-before start (r ∷ rs) (suc i) h =
     ⊎-elim (λ t. absurd (omega (arith, place-here start r rs t)))
     (λ t. place-before start rs i (omega (arith, place-later start r rs t))) (test-or (ltb start (r .start)))
 
-pub place-behind : (start : ℕ) (rs : List Record) → placeOf start rs < length rs → start < getD (startsOf rs) (placeOf start rs) 0
+pub place-behind : (start : ℕ) (rs : List Record) → placeOf start rs < length rs
+    → start < getD (startsOf rs) (placeOf start rs) 0
 place-behind start [] h = absurd (omega arith)
 place-behind start (r ∷ rs) h =
     ⊎-elim (λ t. rw (place-here start r rs t) (ltb→lt start (r .start) t))
@@ -84,7 +87,8 @@ module _ (rs : List Record) (rises : Rises (startsOf rs)) where
       (le-or-lt j i)
     where
       ap-le : i ≡ j → getD (startsOf rs) i 0 ≤ getD (startsOf rs) j 0
-      ap-le e = let q : getD (startsOf rs) i 0 ≡ getD (startsOf rs) j 0 = ap (λ (n : ℕ). getD (startsOf rs) n 0) e in omega arith
+      ap-le e = let q : getD (startsOf rs) i 0 ≡ getD (startsOf rs) j 0 =
+          ap (λ (n : ℕ). getD (startsOf rs) n 0) e in omega arith
 
   -- a record's own start has its place behind it
   pub place-own : (i start : ℕ) → i < length rs → getD (startsOf rs) i 0 ≡ start → placeOf start rs ≡ suc i
@@ -94,9 +98,11 @@ module _ (rs : List Record) (rises : Rises (startsOf rs)) where
 
   -- a record has the start exactly if the one before the start's place has it
   module _ (start place : ℕ) (at-place : place ≡ placeOf start rs) where
-    pub start-has : 0 < place → place ≤ length rs → getD (startsOf rs) (place - 1) 0 ≡ start → T (isAmong start (startsOf rs))
+    pub start-has : 0 < place → place ≤ length rs → getD (startsOf rs) (place - 1) 0 ≡ start
+        → T (isAmong start (startsOf rs))
     start-has some few is =
-        subst (λ (n : ℕ). T (isAmong n (startsOf rs))) is (among-at (startsOf rs) (place - 1) (omega (arith, starts-length rs)))
+        subst (λ (n : ℕ). T (isAmong n (startsOf rs))) is
+        (among-at (startsOf rs) (place - 1) (omega (arith, starts-length rs)))
 
     -- where it stands
     pub has-start : T (isAmong start (startsOf rs)) → (0 < place) × (getD (startsOf rs) (place - 1) 0 ≡ start)
@@ -107,7 +113,8 @@ module _ (rs : List Record) (rises : Rises (startsOf rs)) where
         let i : place - 1 ≡ found .0 = omega arith in
         (omega arith, ap (λ (n : ℕ). getD (startsOf rs) n 0) i ∙ found .2)
 
-    pub start-none : ((0 < place) → getD (startsOf rs) (place - 1) 0 ≡ start → ⊥) → T (not (isAmong start (startsOf rs)))
+    pub start-none : ((0 < place) → getD (startsOf rs) (place - 1) 0 ≡ start → ⊥)
+        → T (not (isAmong start (startsOf rs)))
     start-none none = not-T (isAmong start (startsOf rs)) (λ a. let h = has-start a in none (h .0) (h .1))
 
 -- ---- starts with one taken out
@@ -140,10 +147,17 @@ module _ (ss : List ℕ) (rises : Rises ss) (i : ℕ) (within : i < length ss) w
       ⊎-elim
       (λ behind.
       ⊎-elim
-      (λ both. omega (arith, leave-behind i ss a both, leave-behind i ss b behind, rises (suc a) (suc b) (omega arith) (omega arith)))
-      (λ before. omega (arith, leave-before i ss a before, leave-behind i ss b behind, rises a (suc b) (omega arith) (omega arith)))
+      (λ both. omega (
+        arith,
+        leave-behind i ss a both,
+        leave-behind i ss b behind,
+        rises (suc a) (suc b) (omega arith) (omega arith),
+      ))
+      (λ before. omega
+      (arith, leave-before i ss a before, leave-behind i ss b behind, rises a (suc b) (omega arith) (omega arith)))
       (le-or-lt i a))
-      (λ before. omega (arith, leave-before i ss a (omega arith), leave-before i ss b before, rises a b lt (omega arith)))
+      (λ before. omega
+      (arith, leave-before i ss a (omega arith), leave-before i ss b before, rises a b lt (omega arith)))
       (le-or-lt i b)
 
   -- none of them has its start
@@ -154,7 +168,8 @@ module _ (ss : List ℕ) (rises : Rises ss) (i : ℕ) (within : i < length ss) w
       let found = among-found (getD ss i 0) others a in
       let size : suc (length others) ≡ length ss = others-length in
       ⊎-elim
-      (λ behind. omega (arith, leave-behind i ss (found .0) behind, rises i (suc (found .0)) (omega arith) (omega arith)))
+      (λ behind. omega
+      (arith, leave-behind i ss (found .0) behind, rises i (suc (found .0)) (omega arith) (omega arith)))
       (λ before. omega (arith, leave-before i ss (found .0) before, rises (found .0) i before within))
       (le-or-lt i (found .0)))
 
@@ -166,7 +181,8 @@ module _ (id : ℕ) (rs : List Record) (a : T (isAmong id (idsOf rs))) where
       List·getD-map (λ (r : Record). r .start) rs (positionOf id rs) zeroRecord
       ∙ ap (λ (r : Record). r .start) (sym (find-at id rs zeroRecord a))
 
-  others-are : startsOf (without id rs) ≡ take (positionOf id rs) (startsOf rs) ++ drop (suc (positionOf id rs)) (startsOf rs)
+  others-are : startsOf (without id rs)
+      ≡ take (positionOf id rs) (startsOf rs) ++ drop (suc (positionOf id rs)) (startsOf rs)
   others-are = ap startsOf (without-position id rs a) ∙ map-leave (λ (r : Record). r .start) (positionOf id rs) rs
 
   -- another start is among the others exactly if it is among all
@@ -183,7 +199,9 @@ module _ (id : ℕ) (rs : List Record) (a : T (isAmong id (idsOf rs))) where
           let apart : start ≡ q .start → ⊥ = λ e. ne (e ∙ ap (λ (r : Record). r .start) (sym (find-here id q qs t))) in
           rw (without-here id q qs t, false-is (eqb start (q .start)) (ne-test start (q .start) apart)))
           (λ t.
-          let rest = by qs (among-later id q qs t b) (λ e. ne (e ∙ ap (λ (r : Record). r .start) (sym (find-later id q qs t)))) in
+          let rest =
+          by qs (among-later id q qs t b)
+          (λ e. ne (e ∙ ap (λ (r : Record). r .start) (sym (find-later id q qs t)))) in
           rw (without-later id q qs t) (ap (λ (c : Bool). eqb start (q .start) || c) rest))
           (test-or (eqb id (q .id)))
 
@@ -224,11 +242,16 @@ module _ (id : ℕ) (rs : List Record) (a : T (isAmong id (idsOf rs))) where
           place-is start (without id rs) (placeOf start rs - 1) (omega arith)
           (λ k h.
           ⊎-elim (λ behind. omega (arith, left-behind k behind, place-before start rs (suc k) (omega arith)))
-          (λ before. omega (arith, left-before k before, place-before start rs k (omega arith))) (le-or-lt (positionOf id rs) k))
+          (λ before. omega (arith, left-before k before, place-before start rs k (omega arith)))
+          (le-or-lt (positionOf id rs) k))
           (λ h.
           let next : suc (placeOf start rs - 1) ≡ placeOf start rs = omega arith in
           let moved = ap (λ (n : ℕ). getD (startsOf rs) n 0) next in
-          omega (arith, left-behind (placeOf start rs - 1) (omega arith), later (placeOf start rs) (omega arith) (omega arith)))
+          omega (
+            arith,
+            left-behind (placeOf start rs - 1) (omega arith),
+            later (placeOf start rs) (omega arith) (omega arith),
+          ))
 
       pub place-left-behind : placeOf start rs ≤ positionOf id rs → placeOf start (without id rs) ≡ placeOf start rs
       place-left-behind stood =
@@ -239,6 +262,11 @@ module _ (id : ℕ) (rs : List Record) (a : T (isAmong id (idsOf rs))) where
           (λ h.
           ⊎-elim
           (λ behind.
-          omega (arith, left-behind (placeOf start rs) behind, later (suc (placeOf start rs)) (omega arith) (omega arith)))
-          (λ before. omega (arith, left-before (placeOf start rs) before, later (placeOf start rs) (omega arith) (omega arith)))
+          omega (
+            arith,
+            left-behind (placeOf start rs) behind,
+            later (suc (placeOf start rs)) (omega arith) (omega arith),
+          ))
+          (λ before. omega
+          (arith, left-before (placeOf start rs) before, later (placeOf start rs) (omega arith) (omega arith)))
           (le-or-lt (positionOf id rs) (placeOf start rs)))

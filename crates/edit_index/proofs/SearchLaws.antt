@@ -1,5 +1,5 @@
--- The place of a start by halving: records before the lower bound start no later, those from the upper one on start later, and each look
--- at a record keeps it so, for starts rise. Assumes nothing.
+-- The place of a start by halving: records before the lower bound start no later, those from the upper one on start
+-- later, and each look at a record keeps it so, for starts rise. Assumes nothing.
 use mathlib.Core.Path.{_≡_, refl, sym, ap, _∙_}
 use mathlib.Core.Bool.{Bool, true, false}
 use mathlib.Core.List.{List}
@@ -31,7 +31,9 @@ module _ (slots order : List ℕ) (count : ℕ) (o : Ordered slots order count) 
   module _ (i : ℕ) (within : i < count) where
     pub slot-in : getD order i 0 < length slots / recordSize
     slot-in =
-        let slot = below-at (length slots / recordSize) (take count order) (o .within) i (omega (arith, length-take-le count order (o .few))) in
+        let slot =
+        below-at (length slots / recordSize) (take count order) (o .within) i
+        (omega (arith, length-take-le count order (o .few))) in
         omega (arith, getD-take count order i 0 within)
 
     pub start-in : getD (startsOf (slotRecords slots (take count order))) i 0 ≡ slotRecord slots (getD order i 0) .start
@@ -49,7 +51,12 @@ module _ (slots order : List ℕ) (count : ℕ) (o : Ordered slots order count) 
 
     pub between-all : Between 0 count
     between-all =
-        record { inOrder = omega arith; within = omega arith; before = λ i h. omega arith; behind = λ i h k. omega arith }
+        record {
+          inOrder = omega arith;
+          within = omega arith;
+          before = λ i h. omega arith;
+          behind = λ i h k. omega arith;
+        }
 
     module _ (low high middle : ℕ) (b : Between low high) (least : low ≤ middle) (most : middle < high) where
       pub between-upper : slotRecord slots (getD order middle 0) .start ≤ start → Between (middle + 1) high
@@ -62,7 +69,8 @@ module _ (slots order : List ℕ) (count : ℕ) (o : Ordered slots order count) 
                 omega (
                   arith,
                   start-in middle (omega (arith, b .within)),
-                  rises-to (slotRecords slots (take count order)) (o .rises) i middle (omega arith) (omega (arith, b .within, ordered-length)),
+                  rises-to (slotRecords slots (take count order)) (o .rises) i middle (omega arith)
+                      (omega (arith, b .within, ordered-length)),
                 );
             behind = b .behind;
           }
@@ -82,10 +90,12 @@ module _ (slots order : List ℕ) (count : ℕ) (o : Ordered slots order count) 
                 );
           }
 
-    pub between-none : (low high : ℕ) → Between low high → high ≤ low → low ≡ placeOf start (slotRecords slots (take count order))
+    pub between-none : (low high : ℕ) → Between low high → high ≤ low
+        → low ≡ placeOf start (slotRecords slots (take count order))
     between-none low high b met =
         sym
-        (place-is start (slotRecords slots (take count order)) low (omega (arith, b .inOrder, b .within, ordered-length)) (b .before)
+        (place-is start (slotRecords slots (take count order)) low
+        (omega (arith, b .inOrder, b .within, ordered-length)) (b .before)
         (λ h. b .behind low met (omega (arith, ordered-length))))
 
     -- whether a record has the start: the one before the place tells
@@ -97,10 +107,12 @@ module _ (slots order : List ℕ) (count : ℕ) (o : Ordered slots order count) 
       taken-first none =
           sym
           (false-is (isAmong start (startsOf (slotRecords slots (take count order))))
-          (start-none (slotRecords slots (take count order)) (o .rises) start place at-place (λ some. absurd (omega arith))))
+          (start-none (slotRecords slots (take count order)) (o .rises) start place at-place
+          (λ some. absurd (omega arith))))
 
       pub taken-is : (place ≡ 0 → ⊥)
-          → eqb (slotRecord slots (getD order (place - 1) 0) .start) start ≡ isAmong start (startsOf (slotRecords slots (take count order)))
+          → eqb (slotRecord slots (getD order (place - 1) 0) .start) start
+          ≡ isAmong start (startsOf (slotRecords slots (take count order)))
       taken-is some =
           by (eqb (slotRecord slots (getD order (place - 1) 0) .start) start) refl
         where
@@ -113,7 +125,8 @@ module _ (slots order : List ℕ) (count : ℕ) (o : Ordered slots order count) 
           at : getD (startsOf rs) (place - 1) 0 ≡ slotRecord slots (getD order (place - 1) 0) .start
           at = start-in (place - 1) (omega (arith, positive, place-few))
 
-          by : (t : Bool) → eqb (slotRecord slots (getD order (place - 1) 0) .start) start ≡ t → t ≡ isAmong start (startsOf rs)
+          by : (t : Bool) → eqb (slotRecord slots (getD order (place - 1) 0) .start) start ≡ t
+              → t ≡ isAmong start (startsOf rs)
           by true e =
               sym
               (true-is (isAmong start (startsOf rs))

@@ -1,5 +1,5 @@
--- Slots that a loop moves by one place, one at a time: each step, and what is written in the end, keeps the form of one overwrite. By the
--- cuts of the order at the ends of the write. Assumes nothing.
+-- Slots that a loop moves by one place, one at a time: each step, and what is written in the end, keeps the form of one
+-- overwrite. By the cuts of the order at the ends of the write. Assumes nothing.
 use mathlib.Core.Path.{_≡_, sym, ap, _∙_}
 use mathlib.Core.List.{List, [], _∷_, _++_}
 use Prim.Native.Nat.{ℕ, suc, _+_, _-_, _≤_, _<_}

@@ -1,4 +1,5 @@
--- The records in slots and the slot of an id, with a slot put in or taken out. By induction over the slots. Assumes nothing.
+-- The records in slots and the slot of an id, with a slot put in or taken out. By induction over the slots.
+-- Assumes nothing.
 use mathlib.Core.Path.{_≡_, refl, sym, ap, ap₂, _∙_}
 use mathlib.Core.Logic.{⊎-elim}
 use mathlib.Core.Bool.{true, false, not}
@@ -41,12 +42,14 @@ module _ (n : ℕ) where
 -- ---- any values, mapped, with one put in or taken out
 
 module _ {A B : Type 0} (f : A → B) where
-  pub map-insert : (s : A) (p : ℕ) (es : List A) → map f (take p es ++ s ∷ drop p es) ≡ take p (map f es) ++ f s ∷ drop p (map f es)
+  pub map-insert : (s : A) (p : ℕ) (es : List A)
+      → map f (take p es ++ s ∷ drop p es) ≡ take p (map f es) ++ f s ∷ drop p (map f es)
   map-insert s zero es = refl
   map-insert s (suc p) [] = refl
   map-insert s (suc p) (e ∷ es) = ap (λ (rs : List B). f e ∷ rs) (map-insert s p es)
 
-  pub map-leave : (p : ℕ) (es : List A) → map f (take p es ++ drop (suc p) es) ≡ take p (map f es) ++ drop (suc p) (map f es)
+  pub map-leave : (p : ℕ) (es : List A)
+      → map f (take p es ++ drop (suc p) es) ≡ take p (map f es) ++ drop (suc p) (map f es)
   map-leave zero [] = refl
   map-leave zero (e ∷ es) = refl
   map-leave (suc p) [] = refl
@@ -76,7 +79,8 @@ module _ (f : ℕ → Record) where
 
   -- the slots behind the first one change
   rest-changes : (id e m n : ℕ) → m ≡ n
-      → _≡_ {A = ℕ} (elim (eqb id (f e .id)) [ true ↦ suc e | false ↦ m ]) (elim (eqb id (f e .id)) [ true ↦ suc e | false ↦ n ])
+      → _≡_ {A = ℕ} (elim (eqb id (f e .id)) [ true ↦ suc e | false ↦ m ])
+      (elim (eqb id (f e .id)) [ true ↦ suc e | false ↦ n ])
   rest-changes id e m n q = ap (λ (k : ℕ). elim (eqb id (f e .id)) [ true ↦ suc e | false ↦ k ]) q
 
   pub slot-insert-other : (id s : ℕ) → T (not (eqb id (f s .id))) → (p : ℕ) (es : List ℕ)
@@ -86,7 +90,8 @@ module _ (f : ℕ → Record) where
   slot-insert-other id s t (suc p) (e ∷ es) =
       rest-changes id e (slotOf f id (take p es ++ s ∷ drop p es)) (slotOf f id es) (slot-insert-other id s t p es)
 
-  pub slot-insert-same : (id s : ℕ) → T (eqb id (f s .id)) → (p : ℕ) (es : List ℕ) → T (not (isAmong id (idsOf (map f es))))
+  pub slot-insert-same : (id s : ℕ) → T (eqb id (f s .id)) → (p : ℕ) (es : List ℕ)
+      → T (not (isAmong id (idsOf (map f es))))
       → slotOf f id (take p es ++ s ∷ drop p es) ≡ suc s
   slot-insert-same id s t zero es n = slot-here id s es t
   slot-insert-same id s t (suc p) [] n = slot-here id s [] t
@@ -99,7 +104,8 @@ module _ (f : ℕ → Record) where
   slot-leave-other id p [] h t = absurd (omega arith)
   slot-leave-other id zero (e ∷ es) h t = sym (slot-later id e es t)
   slot-leave-other id (suc p) (e ∷ es) h t =
-      rest-changes id e (slotOf f id (take p es ++ drop (suc p) es)) (slotOf f id es) (slot-leave-other id p es (omega arith) t)
+      rest-changes id e (slotOf f id (take p es ++ drop (suc p) es)) (slotOf f id es)
+      (slot-leave-other id p es (omega arith) t)
 
   -- absent, present
   pub slot-none : (id : ℕ) (es : List ℕ) → T (not (isAmong id (idsOf (map f es)))) → slotOf f id es ≡ 0
@@ -130,9 +136,11 @@ module _ (f : ℕ → Record) where
 module _ (f g : ℕ → Record) (used : ℕ) (same : (s : ℕ) → s < used → g s ≡ f s) where
   pub records-same : (es : List ℕ) → AllBelow used es → map g es ≡ map f es
   records-same [] all = refl
-  records-same (s ∷ es) all = ap₂ (λ (r : Record) (rs : List Record). r ∷ rs) (same s (all .0)) (records-same es (all .1))
+  records-same (s ∷ es) all =
+      ap₂ (λ (r : Record) (rs : List Record). r ∷ rs) (same s (all .0)) (records-same es (all .1))
 
   pub slot-same : (id : ℕ) (es : List ℕ) → AllBelow used es → slotOf g id es ≡ slotOf f id es
   slot-same id [] all = refl
   slot-same id (s ∷ es) all =
-      ap₂ (λ (r : Record) (k : ℕ). elim (eqb id (r .id)) [ true ↦ suc s | false ↦ k ]) (same s (all .0)) (slot-same id es (all .1))
+      ap₂ (λ (r : Record) (k : ℕ). elim (eqb id (r .id)) [ true ↦ suc s | false ↦ k ]) (same s (all .0))
+      (slot-same id es (all .1))

@@ -1,5 +1,6 @@
--- An index of a list's records: slots that hold records, the order of the list's slots, and for each id the slot of its record. The
--- machine of document 01 ("Edit") runs on it and the list is written back from it. Laws: proofs/IndexLaws.antt. Assumes nothing.
+-- An index of a list's records: slots that hold records, the order of the list's slots, and for each id the slot of its
+-- record. The machine of document 01 ("Edit") runs on it and the list is written back from it. Laws:
+-- proofs/IndexLaws.antt. Assumes nothing.
 use mathlib.Core.Path.{_≡_}
 use Prim.Native.Nat.{ℕ, suc, _*_, _/_, _≤_, _<_}
 use mathlib.Core.Bool.{true, false}
@@ -70,8 +71,8 @@ pub record Loaded (list : List ℕ) (count n : ℕ) (slots order ids : List ℕ)
   pub index : Index slots order ids n n
   pub records : slotRecords slots (take n order) ≡ take n (recordsIn count list)
 
--- the numbers of the list that an index stands for, and the list. Those of its records in the lent list are stale; those behind them
--- are the list's
+-- the numbers of the list that an index stands for, and the list. Those of its records in the lent list are stale;
+-- those behind them are the list's
 abbrev pub indexedNumbers : List ℕ → List ℕ → List ℕ → ℕ → List ℕ
 indexedNumbers list slots order count = overwrite list 0 (numbersOfAll (slotRecords slots (take count order)))
 

@@ -1,5 +1,5 @@
--- The order of an index: the slots of the list's records, by the records' starts. A slot is put in or taken out in place, as PUT and
--- WITHDRAW of document 01 ("Edit") do with a record. Laws: proofs/OrderLaws.antt. Assumes nothing.
+-- The order of an index: the slots of the list's records, by the records' starts. A slot is put in or taken out in
+-- place, as PUT and WITHDRAW of document 01 ("Edit") do with a record. Laws: proofs/OrderLaws.antt. Assumes nothing.
 use Prim.Native.Nat.{ℕ, suc, _-_}
 use mathlib.Core.Bool.{true, false, _&&_}
 use mathlib.Core.List.{List, _∷_}

@@ -2,7 +2,8 @@
 ghost use mathlib.Core.Path.{_≡_};
 ghost use Rattle.edit_index.specs.Order.{withSlot, withoutSlot};
 
-// Puts a slot in place `place` of `count` slots, later ones moving up. Where there is no such place or no room, all stays.
+// Puts a slot in place `place` of `count` slots, later ones moving up. Where there is no such place or no room, all
+// stays.
 pub fn insert_slot(order: &mut [u16], count: usize, place: usize, slot: u16)
     ensures { λ _. ⌜ now (order .exit) ≡ withSlot (now (order .entry)) count place slot ⌝ }
 {

@@ -1,5 +1,5 @@
--- A script is read command by command: where a whole command stands, the commands from there on are this one and those behind its
--- operands, elsewhere there are none; and so goes the form of the rest of a script.
+-- A script is read command by command: where a whole command stands, the commands from there on are this one and those
+-- behind its operands, elsewhere there are none; and so goes the form of the rest of a script.
 --
 -- In order: the commands of a script with a form; whole commands; the form from an offset on; edits and UNDOs.
 -- Assumes nothing.
@@ -24,7 +24,8 @@ use Rattle.edit_scan.specs.declared.scan.Form.the-variants.{Whole, Broke
 
 -- ---- the commands of a script with a form
 
-whole-form : (skip at : ℕ) (bs : List ℕ) (cs : List Command) → formFrom skip at bs ≡ commands cs → wholeFrom skip at bs ≡ cs
+whole-form : (skip at : ℕ) (bs : List ℕ) (cs : List Command) → formFrom skip at bs ≡ commands cs
+    → wholeFrom skip at bs ≡ cs
 whole-form zero at [] cs h = cc
 whole-form (suc skip) at [] cs h = cc
 whole-form (suc skip) at (b ∷ bs) cs h = whole-form skip (suc at) bs cs h
@@ -37,7 +38,8 @@ whole-form zero at (code ∷ bs) cs h =
     let (ds, tail, split) = before-only c (formFrom k (suc at) bs) cs read in
     let rest : wholeFrom k (suc at) bs ≡ ds = whole-form k (suc at) bs ds tail in
     rw (wholeFrom, true-is (isWhole code bs) whole) (cc))
-    (λ t. let never : _≡_ {A = ℕ} 0 1 = cc (form-broken code at bs t) in absurd (omega arith)) (test-or (isWhole code bs))
+    (λ t. let never : _≡_ {A = ℕ} 0 1 = cc (form-broken code at bs t) in absurd (omega arith))
+    (test-or (isWhole code bs))
 
 pub commands-are : (script : List ℕ) (cs : List Command) → formOf script ≡ commands cs → commandsAt 0 script ≡ cs
 unfolding formOf commandsAt
@@ -55,7 +57,8 @@ whole-skip (suc k) at (b ∷ bs) h =
 
 whole-first : (code at : ℕ) (bs : List ℕ)
     → T (isWhole code bs)
-    → wholeFrom 0 at (code ∷ bs) ≡ commandOf code at bs ∷ wholeFrom 0 (at + 1 + operandBytes code) (drop (operandBytes code) bs)
+    → wholeFrom 0 at (code ∷ bs)
+    ≡ commandOf code at bs ∷ wholeFrom 0 (at + 1 + operandBytes code) (drop (operandBytes code) bs)
 whole-first code at bs whole =
     let next : operandBytes code + suc at ≡ at + 1 + operandBytes code = omega arith in
     rw (
@@ -86,7 +89,9 @@ after-more n c (broken at) = refl
 module _ (at : ℕ) (script : List ℕ) where
   -- the command's byte lies in the script, and so do its operands
   pub whole-here : T (isWholeAt at script) → at < length script
-  whole-here whole = ltb→lt at (length script) (and-left (ltb at (length script)) (isWhole (getD script at 0) (drop (suc at) script)) whole)
+  whole-here whole =
+      ltb→lt at (length script)
+      (and-left (ltb at (length script)) (isWhole (getD script at 0) (drop (suc at) script)) whole)
 
   pub whole-is : T (isWholeAt at script) → T (isWhole (getD script at 0) (drop (suc at) script))
   whole-is whole = and-right (ltb at (length script)) (isWhole (getD script at 0) (drop (suc at) script)) whole
@@ -118,17 +123,20 @@ module _ (at : ℕ) (script : List ℕ) where
   whole-fails r e t = rw (sym e ∙ t) tt
 
   -- a byte of the script with no whole command at it
-  truncated-is : at < length script → T (not (isWholeAt at script)) → T (not (isWhole (getD script at 0) (drop (suc at) script)))
+  truncated-is : at < length script → T (not (isWholeAt at script))
+      → T (not (isWhole (getD script at 0) (drop (suc at) script)))
   truncated-is h t = rw (lt-ltb at (length script) h) at t
 
-  behind : drop (operandBytes (getD script at 0)) (drop (suc at) script) ≡ drop (at + 1 + operandBytes (getD script at 0)) script
+  behind : drop (operandBytes (getD script at 0)) (drop (suc at) script)
+      ≡ drop (at + 1 + operandBytes (getD script at 0)) script
   behind =
       let next : suc at + operandBytes (getD script at 0) ≡ at + 1 + operandBytes (getD script at 0) = omega arith in
       rw (drop-drop (operandBytes (getD script at 0)) (suc at) script, next)
 
   pub commands-whole : T (isWholeAt at script)
       → commandsAt at script
-      ≡ commandOf (getD script at 0) at (drop (suc at) script) ∷ commandsAt (at + 1 + operandBytes (getD script at 0)) script
+      ≡ commandOf (getD script at 0) at (drop (suc at) script) ∷ commandsAt (at + 1 + operandBytes (getD script at 0))
+      script
   unfolding commandsAt
   commands-whole whole =
       rw (drop-cons script at 0 (whole-here whole))
@@ -169,33 +177,40 @@ module _ (at : ℕ) (script : List ℕ) where
       )
 
   pub form-stop : at < length script → T (not (isWholeAt at script)) → formFrom 0 at (drop at script) ≡ broken at
-  form-stop h t = rw (drop-cons script at 0 h) (form-broken (getD script at 0) at (drop (suc at) script) (truncated-is h t))
+  form-stop h t =
+      rw (drop-cons script at 0 h) (form-broken (getD script at 0) at (drop (suc at) script) (truncated-is h t))
 
   pub form-all : length script ≤ at → formFrom 0 at (drop at script) ≡ commands []
   form-all h = rw (drop-of-length-le script h)
 
 -- ---- edits and UNDOs
 
-pub edit-of : (at : ℕ) (bs : List ℕ) (code : ℕ) → T (isCommand code) → (code ≡ 0x04 → ⊥) → (e : Edit) × (commandOf code at bs ≡ doEdit e)
+pub edit-of : (at : ℕ) (bs : List ℕ) (code : ℕ) → T (isCommand code) → (code ≡ 0x04 → ⊥)
+    → (e : Edit) × (commandOf code at bs ≡ doEdit e)
 edit-of at bs =
-    by-code (λ code. (code ≡ 0x04 → ⊥) → (e : Edit) × (commandOf code at bs ≡ doEdit e)) (λ n. (_, refl)) (λ n. (_, refl)) (λ n. (_, refl))
+    by-code (λ code. (code ≡ 0x04 → ⊥) → (e : Edit) × (commandOf code at bs ≡ doEdit e)) (λ n. (_, refl))
+    (λ n. (_, refl)) (λ n. (_, refl))
     (λ n. absurd (n refl))
 
 pub undo-of : (at : ℕ) (bs : List ℕ) (code : ℕ) → code ≡ 0x04 → commandOf code at bs ≡ undo at
 undo-of at bs code e = ap (λ (k : ℕ). commandOf k at bs) e
 
-module _ (at : ℕ) (script : List ℕ) (next : ℕ) (e : next ≡ at + (1 + operandBytes (getD script at 0))) (whole : T (isWholeAt at script)) where
-  pub commands-edit : (getD script at 0 ≡ 0x04 → ⊥) → (f : Edit) × (commandsAt at script ≡ doEdit f ∷ commandsAt next script)
+module _ (at : ℕ) (script : List ℕ) (next : ℕ) (e : next ≡ at + (1 + operandBytes (getD script at 0)))
+    (whole : T (isWholeAt at script)) where
+  pub commands-edit : (getD script at 0 ≡ 0x04 → ⊥)
+      → (f : Edit) × (commandsAt at script ≡ doEdit f ∷ commandsAt next script)
   commands-edit n =
       let code : ℕ = getD script at 0 in
       let bs : List ℕ = drop (suc at) script in
-      let known : T (isCommand code) = and-left (isCommand code) (leb (operandBytes code) (length bs)) (whole-is at script whole) in
+      let known : T (isCommand code) =
+      and-left (isCommand code) (leb (operandBytes code) (length bs)) (whole-is at script whole) in
       let (f, is) = edit-of at bs code known n in
       (f, commands-next at script next e whole ∙ ap (λ (c : Command). c ∷ commandsAt next script) is)
 
   pub commands-undo : getD script at 0 ≡ 0x04 → commandsAt at script ≡ undo at ∷ commandsAt next script
   commands-undo h =
-      commands-next at script next e whole ∙ ap (λ (c : Command). c ∷ commandsAt next script) (undo-of at (drop (suc at) script) (getD script at 0) h)
+      commands-next at script next e whole
+      ∙ ap (λ (c : Command). c ∷ commandsAt next script) (undo-of at (drop (suc at) script) (getD script at 0) h)
 
 -- any other byte than those of the edits
 module _ (code : ℕ) (p : code ≡ 0x01 → ⊥) (w : code ≡ 0x02 → ⊥) (m : code ≡ 0x03 → ⊥) where

@@ -42,7 +42,8 @@ module _ (script : List ℕ) (bytes : Bytes script) (at : ℕ) where
       let next : at + 1 ≡ suc at = omega arith in
       rest-whole script (at + 1) ∙ rw next
 
-  operand : (from width n : ℕ) → width ≤ 4 → n ≡ field from width (partBehind at script) % 2 ^ 32 → n ≡ field from width (drop (suc at) script)
+  operand : (from width n : ℕ) → width ≤ 4 → n ≡ field from width (partBehind at script) % 2 ^ 32
+      → n ≡ field from width (drop (suc at) script)
   operand from width n narrow e =
       e ∙ ap (λ (bs : List ℕ). field from width bs % 2 ^ 32) part-is
       ∙ field-exact (drop (suc at) script) from width (bytes-drop (suc at) script bytes) narrow
@@ -62,7 +63,8 @@ module _ (script : List ℕ) (bytes : Bytes script) (at : ℕ) where
       → getD script at 0 ≡ 0x02
       → id ≡ field 0 2 (partBehind at script) % 2 ^ 32
       → modelCommand at (Withdraw id) ≡ commandOf (getD script at 0) at (drop (suc at) script)
-  read-withdraw id is e = ap (λ (n : ℕ). modelCommand at (Withdraw n)) (operand 0 2 id (omega arith) e) ∙ of-code 0x02 is
+  read-withdraw id is e =
+      ap (λ (n : ℕ). modelCommand at (Withdraw n)) (operand 0 2 id (omega arith) e) ∙ of-code 0x02 is
 
   pub read-move : (id start : ℕ)
       → getD script at 0 ≡ 0x03
@@ -70,7 +72,8 @@ module _ (script : List ℕ) (bytes : Bytes script) (at : ℕ) where
       → start ≡ field 2 4 (partBehind at script) % 2 ^ 32
       → modelCommand at (Move id start) ≡ commandOf (getD script at 0) at (drop (suc at) script)
   read-move id start is e f =
-      ap₂ (λ (m n : ℕ). modelCommand at (Move m n)) (operand 0 2 id (omega arith) e) (operand 2 4 start (omega arith) f) ∙ of-code 0x03 is
+      ap₂ (λ (m n : ℕ). modelCommand at (Move m n)) (operand 0 2 id (omega arith) e) (operand 2 4 start (omega arith) f)
+      ∙ of-code 0x03 is
 
 -- beyond the script
 pub read-beyond : (script : List ℕ) (at : ℕ)

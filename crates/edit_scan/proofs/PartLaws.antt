@@ -1,5 +1,5 @@
--- Parts of a script, counted in commands: how long they are, where they begin, and which commands they hold. By induction over the
--- commands. Assumes nothing.
+-- Parts of a script, counted in commands: how long they are, where they begin, and which commands they hold. By
+-- induction over the commands. Assumes nothing.
 use mathlib.Core.Path.{_≡_, refl, sym, ap, _∙_}
 use mathlib.Core.Bool.{not}
 use mathlib.Core.Logic.{⊎-elim}
@@ -20,7 +20,8 @@ whole-fit zero at [] = omega arith
 whole-fit (suc skip) at [] = omega arith
 whole-fit (suc skip) at (b ∷ bs) = omega (arith, whole-fit skip (suc at) bs)
 whole-fit zero at (code ∷ bs) =
-    ⊎-elim (λ whole. rw (wholeFrom, true-is (isWhole code bs) whole) (omega (arith, whole-fit (operandBytes code) (suc at) bs)))
+    ⊎-elim (λ whole. rw (wholeFrom, true-is (isWhole code bs) whole)
+    (omega (arith, whole-fit (operandBytes code) (suc at) bs)))
     (λ t. rw (wholeFrom, false-is (isWhole code bs) t) (omega arith)) (test-or (isWhole code bs))
 
 pub take-more : (k : ℕ) (c : Command) (cs : List Command) → 0 < k → take k (c ∷ cs) ≡ c ∷ take (k - 1) cs
@@ -38,7 +39,8 @@ module _ (script : List ℕ) where
   -- where there are commands, one stands
   pub part-whole : (at : ℕ) → 0 < length (commandsAt at script) → T (isWholeAt at script)
   part-whole at h =
-      ⊎-elim (λ t. t) (λ t. absurd (omega (arith, ap length (commands-stop at script t)))) (test-or (isWholeAt at script))
+      ⊎-elim (λ t. t) (λ t. absurd (omega (arith, ap length (commands-stop at script t))))
+      (test-or (isWholeAt at script))
 
   -- ---- the offset behind a part
 

@@ -1,4 +1,5 @@
--- What the answers of the passes over a script say of it: the script's commands, and the edits that are left. Assumes nothing.
+-- What the answers of the passes over a script say of it: the script's commands, and the edits that are left.
+-- Assumes nothing.
 use mathlib.Core.Path.{_≡_, refl, sym, ap, _∙_}
 use mathlib.Core.List.{List}
 use Prim.Native.Nat.{ℕ}
@@ -14,7 +15,8 @@ use Rattle.edit_scan.proofs.CommandLaws.{commands-are}
 
 -- ---- 3 over the script
 
-found-whole : (form : Form) (k : ℕ) → formFound form ≡ Whole k → (cs : List Command) × (form ≡ commands cs) × (k ≡ length cs)
+found-whole : (form : Form) (k : ℕ) → formFound form ≡ Whole k
+    → (cs : List Command) × (form ≡ commands cs) × (k ≡ length cs)
 found-whole (commands cs) k e = (cs, refl, cc)
 found-whole (broken at) k e = let never : _≡_ {A = ℕ} 0 1 = cc in absurd (omega arith)
 
@@ -42,7 +44,8 @@ found-enough : (u : Unstruck) → strikesFound u ≡ Enough → (es : List Edit)
 found-enough (unstruck es) e = (es, refl)
 found-enough (nothingAt at) e = let never : _≡_ {A = ℕ} 0 1 = cc in absurd (omega arith)
 
-pub strikes-enough-is : (cs : List Command) → strikesFound (unstruckIn cs) ≡ Enough → unstruckIn cs ≡ unstruck (live 0 cs)
+pub strikes-enough-is : (cs : List Command) → strikesFound (unstruckIn cs) ≡ Enough
+    → unstruckIn cs ≡ unstruck (live 0 cs)
 strikes-enough-is cs e =
     let (es, is) = found-enough (unstruckIn cs) e in
     is ∙ ap unstruck (struck-live cs es is)
@@ -51,5 +54,6 @@ found-nothing : (u : Unstruck) (at : ℕ) → strikesFound u ≡ NothingAt at �
 found-nothing (unstruck es) at e = cc
 found-nothing (nothingAt there) at e = cc
 
-pub strikes-nothing-is : (cs : List Command) (at : ℕ) → strikesFound (unstruckIn cs) ≡ NothingAt at → unstruckIn cs ≡ nothingAt at
+pub strikes-nothing-is : (cs : List Command) (at : ℕ) → strikesFound (unstruckIn cs) ≡ NothingAt at
+    → unstruckIn cs ≡ nothingAt at
 strikes-nothing-is cs at e = found-nothing (unstruckIn cs) at e

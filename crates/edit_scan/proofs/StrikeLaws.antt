@@ -1,5 +1,5 @@
--- What the pass over UNDOs counts: only the number of kept edits matters, and with each command that is passed it is one more (an
--- edit) or one less (an UNDO). Assumes nothing.
+-- What the pass over UNDOs counts: only the number of kept edits matters, and with each command that is passed it is
+-- one more (an edit) or one less (an UNDO). Assumes nothing.
 use mathlib.Core.Path.{_≡_, refl, ap, _∙_}
 use mathlib.Core.Bool.{Bool, true, false, not}
 use mathlib.Core.Logic.{⊎-elim}
@@ -37,7 +37,8 @@ pub strikes-all : (cs : List Command) → strikesFound (unstruckIn cs) ≡ strik
 unfolding unstruckIn
 strikes-all cs = strikes-count [] cs
 
-strikes-less : (kept at : ℕ) (cs : List Command) → (kept ≡ 0 → ⊥) → strikesAfter kept (undo at ∷ cs) ≡ strikesAfter (kept - 1) cs
+strikes-less : (kept at : ℕ) (cs : List Command) → (kept ≡ 0 → ⊥)
+    → strikesAfter kept (undo at ∷ cs) ≡ strikesAfter (kept - 1) cs
 strikes-less zero at cs n = absurd (n refl)
 strikes-less (suc kept) at cs n =
     let same : kept ≡ suc kept - 1 = omega arith in
@@ -45,7 +46,8 @@ strikes-less (suc kept) at cs n =
 
 -- ---- at an offset of a script
 
-pub strikes-stop : (kept at : ℕ) (script : List ℕ) → T (not (isWholeAt at script)) → strikesAfter kept (commandsAt at script) ≡ Enough
+pub strikes-stop : (kept at : ℕ) (script : List ℕ) → T (not (isWholeAt at script))
+    → strikesAfter kept (commandsAt at script) ≡ Enough
 strikes-stop kept at script t = rw (commands-stop at script t)
 
 module _ (kept at : ℕ) (script : List ℕ) (next : ℕ)
@@ -78,7 +80,8 @@ module _ (kept at : ℕ) (script : List ℕ) (next : ℕ)
 
   pub strikes-nothing : kept < undos → strikesAfter kept (commandsAt at script) ≡ NothingAt at
   strikes-nothing less =
-      ⊎-elim (λ h. strikes-none h (omega (arith, one h))) (λ n. absurd (omega (arith, no n))) (eq-or-not (getD script at 0) 0x04)
+      ⊎-elim (λ h. strikes-none h (omega (arith, one h))) (λ n. absurd (omega (arith, no n)))
+      (eq-or-not (getD script at 0) 0x04)
 
   pub strikes-on : undos ≤ kept
       → strikesAfter kept (commandsAt at script) ≡ strikesAfter (kept + 1 - 2 * undos) (commandsAt next script)

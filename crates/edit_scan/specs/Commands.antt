@@ -1,5 +1,5 @@
--- The model's value for each case of a script's form, of its UNDOs and of a command; the commands from an offset on, and the offset
--- behind some of them (01, "Edit"). Laws: proofs/CommandLaws.antt, PartLaws.antt. Assumes nothing.
+-- The model's value for each case of a script's form, of its UNDOs and of a command; the commands from an offset on,
+-- and the offset behind some of them (01, "Edit"). Laws: proofs/CommandLaws.antt, PartLaws.antt. Assumes nothing.
 use Prim.Native.Nat.{ℕ, zero, suc, _+_}
 use mathlib.Core.Bool.{Bool, true, false, _&&_}
 use mathlib.Core.List.{List, [], _∷_}
@@ -36,8 +36,8 @@ modelCommand at Undo = undo at
 abbrev pub isWholeAt : ℕ → List ℕ → Bool
 isWholeAt at script = ltb at (length script) && isWhole (getD script at 0) (drop (suc at) script)
 
--- the whole commands of the rest of a script from the offset `at` on, up to the first that is broken; the first `skip` bytes are
--- operands of a command that has begun
+-- the whole commands of the rest of a script from the offset `at` on, up to the first that is broken; the first `skip`
+-- bytes are operands of a command that has begun
 abbrev pub wholeFrom : ℕ → ℕ → List ℕ → List model.Command
 wholeFrom zero at [] = []
 -- never met: a cut operand is not begun

@@ -34,7 +34,8 @@ pub fn is_command(code: u8) -> bool
     PUT <= code && code <= UNDO
 }
 
-// How many operand bytes a command has: byte `code` of a number that holds them all, so that the processor has no branch to guess.
+// How many operand bytes a command has: byte `code` of a number that holds them all, so that the processor has no
+// branch to guess.
 pub fn operand_bytes(code: u8) -> usize
     ensures { λ r. ⌜ r ≡ operandBytes code ⌝ }
 {
@@ -58,10 +59,11 @@ pub fn put_record(operands: &[u8]) -> Record
     }
 }
 
-// The command whose byte stands at `at`; any other byte than those of the edits, and none, counts as UNDO, and operands that are
-// cut as far as there are bytes.
+// The command whose byte stands at `at`; any other byte than those of the edits, and none, counts as UNDO, and operands
+// that are cut as far as there are bytes.
 pub fn command_at(script: &[u8], at: usize) -> Command
-    ensures { λ r. ⌜ modelCommand at r ≡ commandOf (getD (now (script .entry)) at 0) at (drop (suc at) (now (script .entry))) ⌝ }
+    ensures { λ r.
+        ⌜ modelCommand at r ≡ commandOf (getD (now (script .entry)) at 0) at (drop (suc at) (now (script .entry))) ⌝ }
 {
     if script.len() <= at {
         return Command::Undo;

@@ -1,5 +1,5 @@
-// The passes over a script that come before any edit (01, "When a call says no": 3 over the script, 4 over the script), and a pass
-// that skips commands.
+// The passes over a script that come before any edit (01, "When a call says no": 3 over the script, 4 over the script),
+// and a pass that skips commands.
 use crate::command;
 ghost use mathlib.Core.Path.{_≡_};
 ghost use Rattle.script.specs.Form.{formOf};
@@ -48,8 +48,8 @@ pub fn form_of(script: &[u8]) -> Form
     Form::Whole(count)
 }
 
-// Whether each UNDO has something to strike: `kept` counts the edits that are not yet struck, one more for an edit and one less for an
-// UNDO, with no branch between the two that the processor would have to guess.
+// Whether each UNDO has something to strike: `kept` counts the edits that are not yet struck, one more for an edit and
+// one less for an UNDO, with no branch between the two that the processor would have to guess.
 pub fn strikes_in(script: &[u8]) -> Strikes
     ensures { λ r. ⌜ r ≡ strikesFound (unstruckIn (commandsAt 0 (now (script .entry)))) ⌝ }
 {

@@ -1,5 +1,5 @@
--- `isAmong` and `allDiffer` mean what their names say, position by position, and over numbers that are joined: by induction over the
--- numbers. Assumes nothing.
+-- `isAmong` and `allDiffer` mean what their names say, position by position, and over numbers that are joined: by
+-- induction over the numbers. Assumes nothing.
 use mathlib.Core.Path.{_≡_, refl, sym, ap, subst, _∙_}
 use mathlib.Core.Logic.{_↔_, ⊎-elim}
 use mathlib.Core.Bool.{Bool, true, false, not, _||_}
@@ -56,7 +56,8 @@ among-append n (m ∷ ms) ns =
     ap (λ (b : Bool). eqb n m || b) (among-append n ms ns) ∙ or-assoc (eqb n m) (isAmong n ms) (isAmong n ns)
 
 -- a number is not among some numbers joined exactly if it is in neither part
-apart-append : (n : ℕ) (ms ns : List ℕ) → T (not (isAmong n (ms ++ ns))) ↔ (T (not (isAmong n ms)) × T (not (isAmong n ns)))
+apart-append : (n : ℕ) (ms ns : List ℕ)
+    → T (not (isAmong n (ms ++ ns))) ↔ (T (not (isAmong n ms)) × T (not (isAmong n ns)))
 apart-append n ms ns = rw (among-append n ms ns) (λ t. (search tests, search tests), λ p. search (tests, p .0, p .1))
 
 -- one number more, at the end

@@ -1,5 +1,5 @@
--- A list of bytes is a chain exactly if it is the bytes of some descriptors: by recursion on the bytes, with the bytes that are
--- left of the descriptor that has begun. Assumes nothing.
+-- A list of bytes is a chain exactly if it is the bytes of some descriptors: by recursion on the bytes, with the bytes
+-- that are left of the descriptor that has begun. Assumes nothing.
 use Prim.Native.Nat.{ℕ, zero, suc}
 use mathlib.Core.Bool.{true, false, _&&_}
 use mathlib.Core.List.{List, [], _∷_, _++_}

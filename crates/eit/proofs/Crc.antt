@@ -1,10 +1,11 @@
--- The CRC of a section is 0 with its own four bytes at the end, and with no other four: a bit's step is linear over xor, so the
--- four bytes act as one 32-bit number added to the register, and only the register 0 ends at 0.
+-- The CRC of a section is 0 with its own four bytes at the end, and with no other four: a bit's step is linear over
+-- xor, so the four bytes act as one 32-bit number added to the register, and only the register 0 ends at 0.
 -- Assumes nothing.
 use mathlib.Core.Path.{_≡_, refl, sym, ap, ap₂, _∙_}
 use mathlib.Core.List.{List, [], _∷_, _++_}
 use Prim.Native.Nat.{ℕ, zero, suc, _+_, _-_, _*_, _/_, _%_, _^_, _≤_, _<_}
-use native.Mathlib.Nat.{mod-lt, add-zero, mod-eq-of-lt, mul-mod-left, mul-one, zero-mul, add-mul, mul-lt-mul-of-pos-right}
+use native.Mathlib.Nat.{mod-lt, add-zero, mod-eq-of-lt, mul-mod-left, mul-one, zero-mul, add-mul}
+use native.Mathlib.Nat.{mul-lt-mul-of-pos-right}
 use native.Mathlib.Nat.{mul-assoc, le-mul-of-pos-right, pow-succ', zero-add, suc-add}
 use native.Mathlib.Decide.{decLt}
 use native.Mathlib.Omega.{arith}
@@ -38,10 +39,12 @@ crc-bit-form r h = elim (decLt r (2 ^ 31)) [ yes l ↦ low l | no l ↦ high (om
     high l = let e : r / 2 ^ 31 ≡ 1 = omega arith in rw e (crc-bit-high r l)
 
     low : r < 2 ^ 31 → crcBit r ≡ bitXor (r * 2 % 2 ^ 32) (r / 2 ^ 31 * polynomial)
-    low l = let e : r / 2 ^ 31 ≡ 0 = omega arith in rw (e, xor-zero-r) (crc-bit-low r l ∙ sym (mod-eq-of-lt (omega arith)))
+    low l = let e : r / 2 ^ 31 ≡ 0 =
+        omega arith in rw (e, xor-zero-r) (crc-bit-low r l ∙ sym (mod-eq-of-lt (omega arith)))
 
 pub crc-bit-lt : (r : ℕ) → r < 2 ^ 32 → crcBit r < 2 ^ 32
-crc-bit-lt r h = rw (crc-bit-form r h) (xor-lt 32 (r * 2 % 2 ^ 32) (r / 2 ^ 31 * polynomial) (omega arith) (omega arith))
+crc-bit-lt r h =
+    rw (crc-bit-form r h) (xor-lt 32 (r * 2 % 2 ^ 32) (r / 2 ^ 31 * polynomial) (omega arith) (omega arith))
 
 -- a polynomial for each of two bits, or one for their xor
 polynomial-xor : (x y : ℕ) → x < 2 → y < 2 → bitXor x y * polynomial ≡ bitXor (x * polynomial) (y * polynomial)
@@ -61,7 +64,8 @@ crc-bit-xor u v hu hv =
     moved = ap (λ (x : ℕ). x % 2 ^ 32) (sym (xor-shl u v 1)) ∙ xor-mod (u * 2) (v * 2) 32
 
     left : bitXor u v / 2 ^ 31 * polynomial ≡ bitXor (u / 2 ^ 31 * polynomial) (v / 2 ^ 31 * polynomial)
-    left = ap (λ (x : ℕ). x * polynomial) (xor-shr u v 31) ∙ polynomial-xor (u / 2 ^ 31) (v / 2 ^ 31) (omega arith) (omega arith)
+    left = ap (λ (x : ℕ). x * polynomial) (xor-shr u v 31)
+        ∙ polynomial-xor (u / 2 ^ 31) (v / 2 ^ 31) (omega arith) (omega arith)
 
 -- only 0 goes to 0: the register moved up is even, and the polynomial is odd
 crc-bit-only : (r : ℕ) → r < 2 ^ 32 → crcBit r ≡ 0 → r ≡ 0
@@ -70,7 +74,8 @@ crc-bit-only r h e = elim (decLt r (2 ^ 31)) [ yes l ↦ low l | no l ↦ absurd
     high : 2 ^ 31 ≤ r → ⊥
     high l =
         let even : r * 2 % 2 ^ 32 ≡ (r - 2 ^ 31) * 2 = omega arith in
-        let same : polynomial ≡ (r - 2 ^ 31) * 2 = xor-zero-only (r * 2 % 2 ^ 32) polynomial (sym (crc-bit-high r l) ∙ e) ∙ even in
+        let same : polynomial ≡ (r - 2 ^ 31) * 2 =
+        xor-zero-only (r * 2 % 2 ^ 32) polynomial (sym (crc-bit-high r l) ∙ e) ∙ even in
         let odd : _≡_ {A = ℕ} 1 0 = ap (λ (x : ℕ). x % 2) same ∙ mul-mod-left (r - 2 ^ 31) 2 in
         omega arith
 
@@ -129,7 +134,8 @@ unfolding crcByte
 crc-byte-bits r b = refl
 
 pub crc-byte-lt : (r b : ℕ) → r < 2 ^ 32 → b < 256 → crcByte r b < 2 ^ 32
-crc-byte-lt r b hr hb = rw crc-byte-bits (crc-bits-lt 8 (bitXor r (b * 2 ^ 24)) (xor-lt 32 r (b * 2 ^ 24) hr (omega arith)))
+crc-byte-lt r b hr hb =
+    rw crc-byte-bits (crc-bits-lt 8 (bitXor r (b * 2 ^ 24)) (xor-lt 32 r (b * 2 ^ 24) hr (omega arith)))
 
 pub crc-lt : (r : ℕ) (bs : List ℕ) → r < 2 ^ 32 → Bytes bs → crcOf r bs < 2 ^ 32
 unfolding crcOf
@@ -142,7 +148,8 @@ crc-append r [] ys = refl
 crc-append r (x ∷ xs) ys = crc-append (crcByte r x) xs ys
 
 -- the high byte of the register decides what a byte adds, and the rest moves up: what a table of 256 entries holds
-pub crc-byte-table : (r b : ℕ) → r < 2 ^ 32 → b < 256 → crcByte r b ≡ bitXor (crcBits 8 (bitXor (r / 2 ^ 24) b * 2 ^ 24)) (r * 2 ^ 8 % 2 ^ 32)
+pub crc-byte-table : (r b : ℕ) → r < 2 ^ 32 → b < 256
+    → crcByte r b ≡ bitXor (crcBits 8 (bitXor (r / 2 ^ 24) b * 2 ^ 24)) (r * 2 ^ 8 % 2 ^ 32)
 crc-byte-table r b hr hb =
     crc-byte-bits r b ∙ ap (crcBits 8) parted
     ∙ crc-bits-xor 8 (high * 2 ^ 24) low (omega (arith, high-lt)) (omega (arith, low-lt))
@@ -184,7 +191,8 @@ crc-number : (r : ℕ) (bs : List ℕ) (j : ℕ) → r < 2 ^ 32 → Bytes bs →
 crc-number r [] j hr hb e = crc-nil r ∙ sym (crc-bits-zero (bitXor r (0 * 2 ^ j)) ∙ rw (zero-mul, xor-zero-r))
 crc-number r (b ∷ bs) j hr hb e =
     crc-cons r b bs
-    ∙ crc-number (crcByte r b) bs (j + 8) (crc-byte-lt r b hr (hb .0)) (hb .1) (up (256 ^ k) ∙ ap (λ (x : ℕ). x * 2 ^ 8) room)
+    ∙ crc-number (crcByte r b) bs (j + 8) (crc-byte-lt r b hr (hb .0)) (hb .1)
+    (up (256 ^ k) ∙ ap (λ (x : ℕ). x * 2 ^ 8) room)
     ∙ ap (λ (x : ℕ). crcBits (8 * k) (bitXor (crcByte r b) x)) (up v)
     ∙ ap (crcBits (8 * k)) (crc-byte-then r b (v * 2 ^ j) hr (hb .0) small)
     ∙ sym (crc-bits-add 8 (8 * k) (bitXor r (b * 2 ^ 24 + v * 2 ^ j)))
@@ -212,7 +220,8 @@ crc-number r (b ∷ bs) j hr hb e =
     whole = rw (add-mul, mul-assoc, room)
 
 -- four bytes are one number of 32 bits
-pub crc-four : (r : ℕ) (bs : List ℕ) → r < 2 ^ 32 → length bs ≡ 4 → Bytes bs → crcOf r bs ≡ crcBits 32 (bitXor r (valueOf bs))
+pub crc-four : (r : ℕ) (bs : List ℕ) → r < 2 ^ 32 → length bs ≡ 4 → Bytes bs
+    → crcOf r bs ≡ crcBits 32 (bitXor r (valueOf bs))
 crc-four r bs hr four hb =
     crc-number r bs 0 hr hb (ap (λ (n : ℕ). 256 ^ n * 1) four)
     ∙ ap₂ (λ (n x : ℕ). crcBits (8 * n) (bitXor r x)) four (mul-one (valueOf bs))
@@ -230,7 +239,8 @@ pub crc-only : (r : ℕ) (bs : List ℕ) → r < 2 ^ 32 → length bs ≡ 4 → 
 crc-only r bs hr four hb e =
     let hv : valueOf bs < 2 ^ 32 = rw four at (value-lt bs hb) in
     let last : crcBits 32 (bitXor r (valueOf bs)) ≡ 0 = sym (crc-four r bs hr four hb) ∙ e in
-    let first : bitXor r (valueOf bs) ≡ 0 = crc-bits-only 32 (bitXor r (valueOf bs)) (xor-lt 32 r (valueOf bs) hr hv) last in
+    let first : bitXor r (valueOf bs) ≡ 0 =
+    crc-bits-only 32 (bitXor r (valueOf bs)) (xor-lt 32 r (valueOf bs) hr hv) last in
     sym (big-endian-value bs hb) ∙ ap₂ bigEndian four (xor-zero-only r (valueOf bs) first)
 
 -- ---- a section
@@ -248,7 +258,8 @@ crc32-append xs ys = simp crc32-of (crc-append crcFirst xs ys)
 pub crc-right : (bs : List ℕ) → Bytes bs → crc32 (bs ++ bigEndian 4 (crc32 bs)) ≡ 0
 crc-right bs h = crc32-append bs (bigEndian 4 (crc32 bs)) ∙ crc-leaves-0 (crc32 bs) (crc32-lt bs h)
 
-pub crc-right-only : (bs cs : List ℕ) → Bytes bs → Bytes cs → length cs ≡ 4 → crc32 (bs ++ cs) ≡ 0 → cs ≡ bigEndian 4 (crc32 bs)
+pub crc-right-only : (bs cs : List ℕ) → Bytes bs → Bytes cs → length cs ≡ 4 → crc32 (bs ++ cs) ≡ 0
+    → cs ≡ bigEndian 4 (crc32 bs)
 crc-right-only bs cs hb hc four e = crc-only (crc32 bs) cs (crc32-lt bs hb) four hc (sym (crc32-append bs cs) ∙ e)
 
 -- the usual check value (the digits 1 to 9 in ASCII), one byte 0, and the four bytes that close an empty section

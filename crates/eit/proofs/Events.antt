@@ -1,5 +1,5 @@
--- `follows` means a later start, and one start decides it; in a list that rises every event may follow all before it; and what one
--- event more at the end asks: by induction, and by transitivity of `follows`. Assumes nothing.
+-- `follows` means a later start, and one start decides it; in a list that rises every event may follow all before it;
+-- and what one event more at the end asks: by induction, and by transitivity of `follows`. Assumes nothing.
 use mathlib.Core.Path.{_≡_}
 use mathlib.Core.Logic.{_↔_}
 use Prim.Native.Nat.{ℕ, zero, suc, _+_, _<_}
@@ -75,13 +75,15 @@ after-at s [] a j d h = absurd (omega arith)
 after-at s (e ∷ es) a zero d h = a .0
 after-at s (e ∷ es) a (suc j) d h = after-at s es (a .1) j d (omega arith)
 
-pub rising-at : (es : List Event) → T (rising es) → (i j : ℕ) (d : Event) → i < j → j < length es → getD es i d .start < getD es j d .start
+pub rising-at : (es : List Event) → T (rising es) → (i j : ℕ) (d : Event) → i < j → j < length es
+    → getD es i d .start < getD es j d .start
 rising-at [] t i j d l h = absurd (omega arith)
 rising-at (e ∷ es) t i zero d l h = absurd (omega arith)
 rising-at (e ∷ es) t zero (suc j) d l h = after-at (e .start) es (rising-after e es t) j d (omega arith)
 rising-at (e ∷ es) t (suc i) (suc j) d l h = rising-at es (rising-rest e es t) i j d (omega arith) (omega arith)
 
-pub rising-all : (es : List Event) (d : Event) → ((i : ℕ) → suc i < length es → getD es i d .start < getD es (suc i) d .start) → T (rising es)
+pub rising-all : (es : List Event) (d : Event)
+    → ((i : ℕ) → suc i < length es → getD es i d .start < getD es (suc i) d .start) → T (rising es)
 rising-all [] d h = tt
 rising-all (e ∷ []) d h = tt
 rising-all (e ∷ f ∷ es) d h =
@@ -91,7 +93,8 @@ rising-all (e ∷ f ∷ es) d h =
 -- ---- at the end
 
 -- one event more, behind the last one
-pub rising-snoc : (ds : List Event) (d e : Event) → T (rising (ds ++ (d ∷ e ∷ []))) ↔ (T (rising (ds ++ (d ∷ []))) × T (follows d e))
+pub rising-snoc : (ds : List Event) (d e : Event)
+    → T (rising (ds ++ (d ∷ e ∷ []))) ↔ (T (rising (ds ++ (d ∷ []))) × T (follows d e))
 rising-snoc [] d e = (λ t. (tt, search tests), λ p. search (tests, p .1))
 rising-snoc (c ∷ []) d e = (λ t. (search tests, search tests), λ p. search (tests, p .0, p .1))
 rising-snoc (c ∷ b ∷ ds) d e =

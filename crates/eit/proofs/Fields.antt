@@ -1,11 +1,11 @@
--- A big-endian field and the number it holds say the same, for any width: by induction on the bytes, each step one digit to the
--- base 256 (`mod-mul`, `digits-div`).
--- Assumes nothing.
+-- A big-endian field and the number it holds say the same, for any width: by induction on the bytes, each step one
+-- digit to the base 256 (`mod-mul`, `digits-div`). Assumes nothing.
 use mathlib.Core.Path.{_≡_, refl, sym, ap, ap₂, _∙_}
 use mathlib.Core.List.{List, [], _∷_, _++_}
 use Prim.Native.Nat.{ℕ, zero, suc, _+_, _*_, _/_, _%_, _^_, _≤_, _<_}
 use native.Mathlib.Omega.{arith}
-use native.Mathlib.Nat.{zero-lt-suc, one-le-pow, pow-succ', mod-lt, mod-mod, mod-one, mod-eq-of-lt, add-mul, mul-assoc, add-assoc, zero-add, zero-mul}
+use native.Mathlib.Nat.{zero-lt-suc, one-le-pow, pow-succ', mod-lt, mod-mod, mod-one, mod-eq-of-lt, add-mul, mul-assoc}
+use native.Mathlib.Nat.{add-assoc, zero-add, zero-mul}
 use lib.Arith.{digits-lt, digits-div, digits-mod, mod-mul}
 use lib.Pow.{pow-add}
 use lib.ListN.{length, take, drop, getD, length-append, length-drop}
@@ -63,7 +63,8 @@ big-endian-bytes (suc w) n = (mod-lt (n / 256 ^ w) (zero-lt-suc 255), big-endian
 pub value-big-endian : (w n : ℕ) → valueOf (bigEndian w n) ≡ n % 256 ^ w
 value-big-endian zero n = sym (mod-one n)
 value-big-endian (suc w) n =
-    ap₂ (λ (l v : ℕ). n / 256 ^ w % 256 * 256 ^ l + v) (big-endian-length w n) (value-big-endian w n) ∙ sym (mod-suc w n)
+    ap₂ (λ (l v : ℕ). n / 256 ^ w % 256 * 256 ^ l + v) (big-endian-length w n) (value-big-endian w n)
+    ∙ sym (mod-suc w n)
 
 pub value-back : (w n : ℕ) → n < 256 ^ w → valueOf (bigEndian w n) ≡ n
 value-back w n h = value-big-endian w n ∙ mod-eq-of-lt h
@@ -95,7 +96,8 @@ big-endian-value (b ∷ bs) h =
     let high : (b * 256 ^ length bs + v) / 256 ^ length bs % 256 ≡ b = rw digits-div (mod-eq-of-lt (h .0)) in
     let low : (b * 256 ^ length bs + v) % 256 ^ length bs ≡ v = digits-mod b lt in
     ap₂ (λ (d : ℕ) (ds : List ℕ). d ∷ ds) high
-    (sym (big-endian-mod (length bs) (b * 256 ^ length bs + v)) ∙ ap (bigEndian (length bs)) low ∙ big-endian-value bs (h .1))
+    (sym (big-endian-mod (length bs) (b * 256 ^ length bs + v)) ∙ ap (bigEndian (length bs)) low
+    ∙ big-endian-value bs (h .1))
 
 pub value-append : (xs ys : List ℕ) → valueOf (xs ++ ys) ≡ valueOf xs * 256 ^ length ys + valueOf ys
 value-append [] ys = rw (zero-mul, zero-add)
@@ -111,12 +113,15 @@ module _ (bs : List ℕ) (bytes : Bytes bs) where
   field-bytes at width = bytes-take width (drop at bs) (bytes-drop at bs bytes)
 
   pub field-fits : (at width : ℕ) → at + width ≤ length bs → field at width bs < 256 ^ width
-  field-fits at width room = rw (field-length bs at width room) at (value-lt (bytesAt at width bs) (field-bytes at width))
+  field-fits at width room =
+      rw (field-length bs at width room) at (value-lt (bytesAt at width bs) (field-bytes at width))
 
   pub field-forth : (at width : ℕ) → at + width ≤ length bs → bigEndian width (field at width bs) ≡ bytesAt at width bs
-  field-forth at width room = rw (field-length bs at width room) at (big-endian-value (bytesAt at width bs) (field-bytes at width))
+  field-forth at width room =
+      rw (field-length bs at width room) at (big-endian-value (bytesAt at width bs) (field-bytes at width))
 
 -- computed: the high byte comes first
-pub field-examples : (bigEndian 2 0x1234 ≡ 0x12 ∷ 0x34 ∷ []) × (bigEndian 4 0x0102_0304 ≡ 0x01 ∷ 0x02 ∷ 0x03 ∷ 0x04 ∷ [])
+pub field-examples : (bigEndian 2 0x1234 ≡ 0x12 ∷ 0x34 ∷ [])
+    × (bigEndian 4 0x0102_0304 ≡ 0x01 ∷ 0x02 ∷ 0x03 ∷ 0x04 ∷ [])
     × (valueOf (0x12 ∷ 0x34 ∷ []) ≡ 0x1234)
 field-examples = (refl, refl, refl)

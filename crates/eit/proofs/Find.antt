@@ -32,14 +32,16 @@ module _ (id : ℕ) (r : Record) (rs : List Record) where
 pub place-length : (start : ℕ) (rs : List Record) → placeOf start rs ≤ length rs
 place-length start [] = omega arith
 place-length start (r ∷ rs) =
-    ⊎-elim (λ t. rw (place-here start r rs t) (omega arith)) (λ t. rw (place-later start r rs t) (omega (arith, place-length start rs)))
+    ⊎-elim (λ t. rw (place-here start r rs t) (omega arith))
+    (λ t. rw (place-later start r rs t) (omega (arith, place-length start rs)))
     (test-or (ltb start (r .start)))
 
 pub position-length : (id : ℕ) (rs : List Record) → T (isAmong id (idsOf rs)) → positionOf id rs < length rs
 position-length id [] a = absurd a
 position-length id (r ∷ rs) a =
     ⊎-elim (λ t. rw (position-here id r rs t) (omega arith))
-    (λ t. rw (position-later id r rs t) (omega (arith, position-length id rs (or-other (eqb id (r .id)) (isAmong id (idsOf rs)) t a))))
+    (λ t. rw (position-later id r rs t)
+    (omega (arith, position-length id rs (or-other (eqb id (r .id)) (isAmong id (idsOf rs)) t a))))
     (test-or (eqb id (r .id)))
 
 -- and an id is present where its position is not behind all records
@@ -47,5 +49,6 @@ pub position-among : (id : ℕ) (rs : List Record) → positionOf id rs < length
 position-among id [] h = absurd (omega arith)
 position-among id (r ∷ rs) h =
     ⊎-elim (λ t. or-left (eqb id (r .id)) (isAmong id (idsOf rs)) t)
-    (λ t. or-right (eqb id (r .id)) (isAmong id (idsOf rs)) (position-among id rs (omega (arith, position-later id r rs t))))
+    (λ t. or-right (eqb id (r .id)) (isAmong id (idsOf rs))
+    (position-among id rs (omega (arith, position-later id r rs t))))
     (test-or (eqb id (r .id)))

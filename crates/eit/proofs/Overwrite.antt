@@ -1,5 +1,5 @@
--- Writes into a buffer: what a write leaves and changes, and how two writes are one. Each law cuts the buffer at the two ends of
--- the write. Assumes nothing.
+-- Writes into a buffer: what a write leaves and changes, and how two writes are one. Each law cuts the buffer at the
+-- two ends of the write. Assumes nothing.
 use Prim.Native.Nat.{ℕ, zero, suc, _+_, _-_, _≤_, _<_}
 use mathlib.Core.List.{List, [], _∷_, _++_, append-assoc}
 use mathlib.Core.Path.{_≡_, refl, sym, ap, _∙_}
@@ -15,7 +15,8 @@ module _ {A : Type 0} where
   pub over-nothing : (d : List A) (at : ℕ) → overwrite d at [] ≡ d
   over-nothing d at = sym (paste-zero d at [])
 
-  pub over-length : (d : List A) (at : ℕ) (xs : List A) → at + length xs ≤ length d → length (overwrite d at xs) ≡ length d
+  pub over-length : (d : List A) (at : ℕ) (xs : List A) → at + length xs ≤ length d
+      → length (overwrite d at xs) ≡ length d
   over-length d at xs fits = simp (length-append, length-take, length-drop) (omega arith)
 
   -- what stands before the end of the write
@@ -64,7 +65,8 @@ module _ {A : Type 0} where
   over-paste d at xs = rw (take-length xs)
 
   -- a write from the front that begins with what stands there
-  pub over-front : (d : List A) (at : ℕ) (xs : List A) → at ≤ length d → overwrite d 0 (take at d ++ xs) ≡ overwrite d at xs
+  pub over-front : (d : List A) (at : ℕ) (xs : List A) → at ≤ length d
+      → overwrite d 0 (take at d ++ xs) ≡ overwrite d at xs
   over-front d at xs inside =
       let e : 0 + length (take at d ++ xs) ≡ at + length xs = omega (arith, front-length d at xs inside) in
       ap (λ (k : ℕ). take at d ++ xs ++ drop k d) e

@@ -30,7 +30,8 @@ module _ (pool : List ℕ) (offset size : ℕ) where
 
 -- each of the three marks is its own bit
 pub marks-bits : (marksFreeCa 1 ≡ true) × (marksFreeCa 2 ≡ false) × (marksFreeCa 4 ≡ false) × (marksSeries 1 ≡ false)
-    × (marksSeries 2 ≡ true) × (marksSeries 4 ≡ false) × (marksOffAir 1 ≡ false) × (marksOffAir 2 ≡ false) × (marksOffAir 4 ≡ true)
+    × (marksSeries 2 ≡ true) × (marksSeries 4 ≡ false) × (marksOffAir 1 ≡ false) × (marksOffAir 2 ≡ false)
+    × (marksOffAir 4 ≡ true)
 marks-bits = (refl, refl, refl, refl, refl, refl, refl, refl, refl)
 
 -- marks with 2 choose the series pool, all others the day pool
@@ -40,13 +41,15 @@ pub pool-marks : (pools : Pools)
     × (poolOf pools 6 ≡ pools .series) × (poolOf pools 7 ≡ pools .series)
 pool-marks pools = (refl, refl, refl, refl, refl, refl, refl, refl)
 
-pub choose-part : (pools : Pools) (marks offset size : ℕ) → choose pools marks offset size ≡ part (poolOf pools marks) offset size
+pub choose-part : (pools : Pools) (marks offset size : ℕ)
+    → choose pools marks offset size ≡ part (poolOf pools marks) offset size
 unfolding choose
 choose-part pools marks offset size = refl
 
 -- a part of bytes is bytes
 pub part-bytes : (pool : List ℕ) (offset size : ℕ) → Bytes pool → Bytes (part pool offset size)
 part-bytes pool offset size bytes =
-    ⊎-elim (λ h. rw (part-inside pool offset size h) (bytes-take size (drop offset pool) (bytes-drop offset pool bytes)))
+    ⊎-elim (λ h. rw (part-inside pool offset size h)
+    (bytes-take size (drop offset pool) (bytes-drop offset pool bytes)))
     (λ h. rw (part-outside pool offset size h) tt)
     (le-or-lt (offset + size) (length pool))

@@ -24,7 +24,8 @@ numbers-append [] ss = refl
 numbers-append (r ∷ rs) ss = ap (λ (ns : List ℕ). numbersOf r ++ ns) (numbers-append rs ss)
 
 -- records that stand as numbers at the front of a buffer are read back, as many as are asked for
-pub records-front : (n : ℕ) (rs : List Record) (rest : List ℕ) → n ≤ length rs → recordsIn n (numbersOfAll rs ++ rest) ≡ take n rs
+pub records-front : (n : ℕ) (rs : List Record) (rest : List ℕ) → n ≤ length rs
+    → recordsIn n (numbersOfAll rs ++ rest) ≡ take n rs
 unfolding recordsIn
 records-front zero rs rest h = refl
 records-front (suc n) [] rest h = absurd (omega arith)
@@ -41,7 +42,8 @@ front-back (a ∷ b ∷ c ∷ d ∷ e ∷ []) h = absurd (omega arith)
 front-back (a ∷ b ∷ c ∷ d ∷ e ∷ f ∷ rest) h = refl
 
 -- the numbers of a list's records are the front of its buffer
-pub numbers-back : (n : ℕ) (d : List ℕ) → n * recordSize ≤ length d → numbersOfAll (recordsIn n d) ≡ take (n * recordSize) d
+pub numbers-back : (n : ℕ) (d : List ℕ) → n * recordSize ≤ length d
+    → numbersOfAll (recordsIn n d) ≡ take (n * recordSize) d
 unfolding recordsIn
 numbers-back zero d h = refl
 numbers-back (suc n) d h =
@@ -52,7 +54,8 @@ numbers-back (suc n) d h =
     ∙ ap (λ (k : ℕ). take k d) e
 
 -- record i stands at i × 6
-pub record-at : (n : ℕ) (d : List ℕ) (i : ℕ) (r : Record) → i < n → getD (recordsIn n d) i r ≡ frontRecord (drop (i * recordSize) d)
+pub record-at : (n : ℕ) (d : List ℕ) (i : ℕ) (r : Record) → i < n
+    → getD (recordsIn n d) i r ≡ frontRecord (drop (i * recordSize) d)
 unfolding recordsIn
 record-at zero d i r h = absurd (omega arith)
 record-at (suc n) d zero r h = refl
@@ -62,14 +65,16 @@ record-at (suc n) d (suc i) r h =
     ∙ ap frontRecord (drop-drop (i * recordSize) recordSize d ∙ ap (λ (k : ℕ). drop k d) e)
 
 -- the numbers of the first k records are the first k × 6 numbers, and those of the others the rest
-pub numbers-take : (k : ℕ) (rs : List Record) (rest : List ℕ) → k ≤ length rs → take (k * recordSize) (numbersOfAll rs ++ rest) ≡ numbersOfAll (take k rs)
+pub numbers-take : (k : ℕ) (rs : List Record) (rest : List ℕ) → k ≤ length rs
+    → take (k * recordSize) (numbersOfAll rs ++ rest) ≡ numbersOfAll (take k rs)
 numbers-take zero rs rest h = refl
 numbers-take (suc k) [] rest h = absurd (omega arith)
 numbers-take (suc k) (r ∷ rs) rest h =
     let e : suc k * recordSize ≡ suc (suc (suc (suc (suc (suc (k * recordSize)))))) = omega arith in
     rw (e, numbers-take k rs rest (omega arith))
 
-pub numbers-drop : (k : ℕ) (rs : List Record) (rest : List ℕ) → k ≤ length rs → drop (k * recordSize) (numbersOfAll rs ++ rest) ≡ numbersOfAll (drop k rs) ++ rest
+pub numbers-drop : (k : ℕ) (rs : List Record) (rest : List ℕ) → k ≤ length rs
+    → drop (k * recordSize) (numbersOfAll rs ++ rest) ≡ numbersOfAll (drop k rs) ++ rest
 numbers-drop zero rs rest h = refl
 numbers-drop (suc k) [] rest h = absurd (omega arith)
 numbers-drop (suc k) (r ∷ rs) rest h =
@@ -88,7 +93,8 @@ pub buffer-is : (list : EventList) → list .count * recordSize ≤ length (list
     → list .buffer ≡ numbersOfAll (recordsOf list) ++ drop (list .count * recordSize) (list .buffer)
 unfolding recordsOf
 buffer-is list held =
-    rw (numbers-back (list .count) (list .buffer) held) (sym (take-append-drop (list .count * recordSize) (list .buffer)))
+    rw (numbers-back (list .count) (list .buffer) held)
+    (sym (take-append-drop (list .count * recordSize) (list .buffer)))
 
 -- records that are written over the front of a buffer are read back
 pub records-written : (rs : List Record) (buffer : List ℕ)

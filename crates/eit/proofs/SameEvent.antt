@@ -1,5 +1,6 @@
--- Two records have the same event exactly if id, start, duration, marks other than 2 and chain bytes are equal (01, "Event record
--- and sound list"): the two truth values of an event are the two bits that are left of the marks. Assumes nothing.
+-- Two records have the same event exactly if id, start, duration, marks other than 2 and chain bytes are equal (01,
+-- "Event record and sound list"): the two truth values of an event are the two bits that are left of the marks.
+-- Assumes nothing.
 use mathlib.Core.Path.{_≡_, refl, sym, ap, ap₂, _∙_}
 use mathlib.Core.Bool.{false≢true, true≢false}
 use mathlib.Core.Logic.{_↔_}
@@ -56,7 +57,8 @@ same-event p q r s hr hs = (forth, back)
           id = ap (λ (x : Event). x .id) e;
           start = ap (λ (x : Event). x .start) e;
           duration = ap (λ (x : Event). x .duration) e;
-          marks = marks-same (r .marks) (s .marks) hr hs .1 (ap (λ (x : Event). x .freeCa) e, ap (λ (x : Event). x .offAir) e);
+          marks = marks-same (r .marks) (s .marks) hr hs .1
+              (ap (λ (x : Event). x .freeCa) e, ap (λ (x : Event). x .offAir) e);
           chain = ap (λ (x : Event). x .chain) e;
         }
 
@@ -81,12 +83,16 @@ all-same p q (r ∷ rs) [] v w = (λ e. omega (arith, ap length e), λ same. abs
 all-same p q (r ∷ rs) (s ∷ ss) v w =
     let one = same-event p q r s (range-facts r (search tests) .marks) (range-facts s (search tests) .marks) in
     let rest = all-same p q rs ss (search tests) (search tests) in (
-      λ e. (one .0 (ap (λ (es : List Event). getD es 0 (eventOf p r)) e), rest .0 (ap (λ (es : List Event). drop 1 es) e)),
+      λ e. (
+        one .0 (ap (λ (es : List Event). getD es 0 (eventOf p r)) e),
+        rest .0 (ap (λ (es : List Event). drop 1 es) e),
+      ),
       λ (first, others). ap₂ (λ (e : Event) (es : List Event). e ∷ es) (one .1 first) (rest .1 others),
     )
 
 -- so two sound lists hold the same events, record by record, exactly if they stand for equal events
-pub same-lists : (sizes : Sizes) (p q : Pools) (list other : EventList) → T (sound sizes p list) → T (sound sizes q other)
+pub same-lists : (sizes : Sizes) (p q : Pools) (list other : EventList) → T (sound sizes p list)
+    → T (sound sizes q other)
     → (eventsOf p list ≡ eventsOf q other) ↔ AllSame p q (recordsOf list) (recordsOf other)
 unfolding eventsOf
 same-lists sizes p q list other is also =

@@ -89,7 +89,8 @@ valid-all pools (r ∷ rs) d h =
     search (tests, first .0, first .1)
 
 -- records in two parts
-pub valid-append : (pools : Pools) (rs qs : List Record) → T (allValid pools rs) → T (allValid pools qs) → T (allValid pools (rs ++ qs))
+pub valid-append : (pools : Pools) (rs qs : List Record) → T (allValid pools rs) → T (allValid pools qs)
+    → T (allValid pools (rs ++ qs))
 valid-append pools [] qs v w = w
 valid-append pools (r ∷ rs) qs v w = let rest = valid-append pools rs qs (search tests) w in search tests
 
@@ -97,7 +98,8 @@ valid-append pools (r ∷ rs) qs v w = let rest = valid-append pools rs qs (sear
 pub chain-facts : (pools : Pools) (r : Record) → T (hasChain pools r)
     → (r .offset + r .«chain_length» ≤ length (poolOf pools (r .marks)))
     × T (isChain (choose pools (r .marks) (r .offset) (r .«chain_length»)))
-chain-facts pools r t = (leb→le (r .offset + r .«chain_length») (length (poolOf pools (r .marks))) (search tests), search tests)
+chain-facts pools r t =
+    (leb→le (r .offset + r .«chain_length») (length (poolOf pools (r .marks))) (search tests), search tests)
 
 pub facts-chain : (pools : Pools) (r : Record) → r .offset + r .«chain_length» ≤ length (poolOf pools (r .marks))
     → T (isChain (choose pools (r .marks) (r .offset) (r .«chain_length»))) → T (hasChain pools r)
@@ -110,6 +112,7 @@ unfolding eventsOf
 events-length pools list = length-map (recordsOf list) (eventOf pools) ∙ count-records list
 
 -- those of a sound list rise
-pub events-rise : (sizes : Sizes) (pools : Pools) (list : EventList) → T (sound sizes pools list) → T (rising (eventsOf pools list))
+pub events-rise : (sizes : Sizes) (pools : Pools) (list : EventList) → T (sound sizes pools list)
+    → T (rising (eventsOf pools list))
 unfolding eventsOf
 events-rise sizes pools list t = sound-list sizes pools list t .records .rises

@@ -88,7 +88,8 @@ pub eq-or-not : (m n : ℕ) → (m ≡ n) ⊎ (m ≡ n → ⊥)
 eq-or-not m n = ⊎-elim (λ t. inl (eqb→eq m n t)) (λ t. inr (λ e. T-not (eqb m n) t (eq-test m n e))) (test-or (eqb m n))
 
 pub ne-sym : (m n : ℕ) → T (not (eqb m n)) → T (not (eqb n m))
-ne-sym m n t = not-T (eqb n m) (λ e. T-not (eqb m n) t (subst (λ (k : ℕ). T (eqb m k)) (sym (eqb→eq n m e)) (eqb-refl m)))
+ne-sym m n t =
+    not-T (eqb n m) (λ e. T-not (eqb m n) t (subst (λ (k : ℕ). T (eqb m k)) (sym (eqb→eq n m e)) (eqb-refl m)))
 
 -- what `search` takes tests apart and puts them together with
 pub ruleset tests = (and-left, and-right, and-both, or-other, nor-left, nor-right, nor-both)

@@ -1,5 +1,5 @@
--- Seconds in range come back from their bytes, and bytes that pass the test are those of the seconds that they show: two digits by
--- arithmetic, a time as three pairs of digits, a start as a day and a time of that day. Assumes nothing.
+-- Seconds in range come back from their bytes, and bytes that pass the test are those of the seconds that they show:
+-- two digits by arithmetic, a time as three pairs of digits, a start as a day and a time of that day. Assumes nothing.
 use Prim.Native.Nat.{ℕ, _+_, _-_, _*_, _/_, _%_, _≤_, _<_}
 use mathlib.Core.Bool.{Bool, true, false, _&&_}
 use mathlib.Core.List.{List, [], _∷_, _++_}
@@ -209,7 +209,8 @@ pub time-examples :
     × (timeOf 360_000 ≡ record { hours = 99; minutes = 59; seconds = 59 })
 time-examples = (refl, refl, refl, refl)
 
--- computed: what is no time. 24 hours, 60 minutes, 60 seconds, a digit above 9; no second; a day before the base day, 64 days after it
+-- computed: what is no time. 24 hours, 60 minutes, 60 seconds, a digit above 9; no second; a day before the base day,
+-- 64 days after it
 pub time-refused :
     (isTime 23 (0x24 ∷ 0x00 ∷ 0x00 ∷ []) ≡ false)
     × (isTime 99 (0x24 ∷ 0x60 ∷ 0x00 ∷ []) ≡ false)

@@ -1,6 +1,5 @@
--- Bitwise xor is associative, each number is its own inverse, and shifts pass through it: by induction on the binary digits, where
--- the lowest digit of an xor is a sum modulo 2.
--- Assumes nothing.
+-- Bitwise xor is associative, each number is its own inverse, and shifts pass through it: by induction on the binary
+-- digits, where the lowest digit of an xor is a sum modulo 2. Assumes nothing.
 use mathlib.Core.Path.{_≡_, refl, sym, ap, _∙_}
 use Prim.Native.Nat.{ℕ, zero, suc, _+_, _*_, _/_, _%_, _^_, _<_}
 use native.Mathlib.Nat.{mod-lt, zero-lt-suc, add-zero}
@@ -45,7 +44,8 @@ assoc-odd a b c =
 pub xor-assoc : (a b c : ℕ) → bitXor (bitXor a b) c ≡ bitXor a (bitXor b c)
 xor-assoc a =
     bin-ind (λ (n : ℕ). (b c : ℕ) → bitXor (bitXor n b) c ≡ bitXor n (bitXor b c)) (λ b c. refl)
-    (λ n ih b c. by-digits (bitXor (bitXor n b) c) (bitXor n (bitXor b c)) (assoc-half n b c (ih (b / 2) (c / 2))) (assoc-odd n b c)) a
+    (λ n ih b c. by-digits (bitXor (bitXor n b) c) (bitXor n (bitXor b c)) (assoc-half n b c (ih (b / 2) (c / 2)))
+    (assoc-odd n b c)) a
 
 -- ---- what follows
 

@@ -1,5 +1,5 @@
--- CRC_32 bit by bit (01, "The file of sections": register first 0xFFFFFFFF, polynomial 0x04C11DB7, high bit first, no final
--- inversion; over the whole section it leaves 0). The laws are in proofs/Crc.antt. Assumes nothing.
+-- CRC_32 bit by bit (01, "The file of sections": register first 0xFFFFFFFF, polynomial 0x04C11DB7, high bit first, no
+-- final inversion; over the whole section it leaves 0). The laws are in proofs/Crc.antt. Assumes nothing.
 use Prim.Native.Nat.{ℕ, zero, suc, _*_, _%_, _^_}
 use mathlib.Core.Bool.{true, false}
 use mathlib.Core.List.{List, [], _∷_}

@@ -1,5 +1,5 @@
--- Soundness and events computed from raw numbers (01, "Event record and sound list"): each limit at its two sides, each fault, and
--- the order of a record's six numbers. The value is in proofs/Examples.antt. Assumes nothing.
+-- Soundness and events computed from raw numbers (01, "Event record and sound list"): each limit at its two sides, each
+-- fault, and the order of a record's six numbers. The value is in proofs/Examples.antt. Assumes nothing.
 use Prim.Native.Nat.{ℕ}
 use mathlib.Core.Path.{_≡_}
 use mathlib.Core.Bool.{Bool, true, false}

@@ -1,5 +1,5 @@
--- Big-endian fields (01, "The file of sections": all fields are big-endian; "Edit": big-endian operands).
--- A field of `width` bytes holds a number; its high byte comes first. The laws are in proofs/Fields.antt, over the width.
+-- Big-endian fields (01, "The file of sections": all fields are big-endian; "Edit": big-endian operands). A field of
+-- `width` bytes holds a number; its high byte comes first. The laws are in proofs/Fields.antt, over the width.
 -- Assumes nothing.
 use Prim.Native.Nat.{ℕ, zero, suc, _+_, _*_, _/_, _%_, _^_, _<_}
 use mathlib.Core.List.{List, [], _∷_}

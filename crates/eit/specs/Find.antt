@@ -1,5 +1,5 @@
--- Where a record of an id, or of a start, has its place among the records (01, "Edit": PUT inserts by start, WITHDRAW and MOVE
--- go by id). Laws: proofs/Find.antt. Assumes nothing.
+-- Where a record of an id, or of a start, has its place among the records (01, "Edit": PUT inserts by start, WITHDRAW
+-- and MOVE go by id). Laws: proofs/Find.antt. Assumes nothing.
 use Prim.Native.Nat.{ℕ, suc}
 use mathlib.Core.Bool.{true, false}
 use mathlib.Core.List.{List, [], _∷_}

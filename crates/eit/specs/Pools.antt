@@ -1,5 +1,5 @@
--- The two lent pools and the part of one that a record chooses (01, "Event record and sound list"). Laws: proofs/Pools.antt.
--- Assumes nothing.
+-- The two lent pools and the part of one that a record chooses (01, "Event record and sound list"). Laws:
+-- proofs/Pools.antt. Assumes nothing.
 use Prim.Native.Nat.{ℕ, _+_, _/_, _%_}
 use mathlib.Core.Bool.{Bool, true, false}
 use mathlib.Core.List.{List, []}

@@ -1,5 +1,5 @@
--- Event records in the lent buffer (01, "Event record and sound list": a record is six u32 numbers; a list is a lent u32 buffer
--- and a count). Laws: proofs/Records.antt. Assumes nothing.
+-- Event records in the lent buffer (01, "Event record and sound list": a record is six u32 numbers; a list is a lent
+-- u32 buffer and a count). Laws: proofs/Records.antt. Assumes nothing.
 use Prim.Native.Nat.{ℕ, zero, suc}
 use mathlib.Core.List.{List, [], _∷_, _++_}
 use lib.ListN.{getD, drop}

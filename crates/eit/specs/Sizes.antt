@@ -3,8 +3,8 @@
 use Prim.Native.Nat.{ℕ, _-_}
 use Rattle.eit.specs.declared.Sizes.{Sizes}
 
--- 01, "The file of sections": section_length, the bytes after its field, is at most 4,093, so a section has at most 4,096;
--- "Event record and sound list": the count is at most 2,048
+-- 01, "The file of sections": section_length, the bytes after its field, is at most 4,093, so a section has at most
+-- 4,096; "Event record and sound list": the count is at most 2,048
 abbrev pub broadcast : Sizes
 broadcast = record { «section_limit» = 4096; «event_limit» = 2048 }
 

@@ -1,5 +1,5 @@
--- Soundness of a list, total in every buffer, count and pools, and the events that a list stands for (01, "Event record and
--- sound list"). Laws: proofs/Sound.antt. Assumes nothing.
+-- Soundness of a list, total in every buffer, count and pools, and the events that a list stands for (01, "Event record
+-- and sound list"). Laws: proofs/Sound.antt. Assumes nothing.
 use Prim.Native.Nat.{ℕ, _*_}
 use mathlib.Core.Bool.{Bool, true, _&&_}
 use mathlib.Core.List.{List, [], _∷_, map}
@@ -39,8 +39,8 @@ idsOf rs = map (λ (r : Record). r .id) rs
 abbrev pub startsOf : List Record → List ℕ
 startsOf rs = map (λ (r : Record). r .start) rs
 
--- what soundness asks of the records: values in range, parts and chains, starts rise strictly, and ids differ. Overlap is not
--- looked at
+-- what soundness asks of the records: values in range, parts and chains, starts rise strictly, and ids differ. Overlap
+-- is not looked at
 unfoldable pub soundRecords : Pools → List Record → Bool
 soundRecords pools rs = allValid pools rs && (rising (eventsIn pools rs) && allDiffer (idsOf rs))
 

@@ -1,5 +1,5 @@
--- Seconds as BCD digits, the MJD of a start under a base day, and both back (01, "The file of sections", an event's start and
--- duration; "The time type .."). Laws: proofs/TimeLaws.antt. Assumes nothing.
+-- Seconds as BCD digits, the MJD of a start under a base day, and both back (01, "The file of sections", an event's
+-- start and duration; "The time type .."). Laws: proofs/TimeLaws.antt. Assumes nothing.
 use Prim.Native.Nat.{ℕ, _+_, _-_, _*_, _/_, _%_}
 use mathlib.Core.Bool.{Bool, true, false, _&&_}
 use mathlib.Core.List.{List, [], _∷_, _++_}

@@ -1,5 +1,5 @@
--- The records from a place on: the one that stands there and the others, none behind the last. Record i stands at i × 6.
--- Assumes nothing.
+-- The records from a place on: the one that stands there and the others, none behind the last. Record i stands at i ×
+-- 6. Assumes nothing.
 use mathlib.Core.Path.{_≡_, ap, _∙_}
 use mathlib.Core.List.{List, [], _∷_}
 use Prim.Native.Nat.{ℕ, suc, _*_, _≤_, _<_}
@@ -11,7 +11,8 @@ use Rattle.eit.specs.declared.Record.{Record}
 use Rattle.eit.proofs.Records.{records-length, record-at}
 
 module _ (n : ℕ) (d : List ℕ) (i : ℕ) where
-  pub records-from : i < n → drop i (recordsIn n d) ≡ frontRecord (drop (i * recordSize) d) ∷ drop (suc i) (recordsIn n d)
+  pub records-from : i < n
+      → drop i (recordsIn n d) ≡ frontRecord (drop (i * recordSize) d) ∷ drop (suc i) (recordsIn n d)
   records-from within =
       let inside : i < length (recordsIn n d) = omega (arith, records-length n d) in
       drop-cons (recordsIn n d) i (frontRecord []) inside

@@ -1,5 +1,5 @@
--- Writes into a buffer, read and joined, and a record that is written in its place: record i stands at i × 6. By the cuts of the buffer at
--- the ends of a write. Assumes nothing.
+-- Writes into a buffer, read and joined, and a record that is written in its place: record i stands at i × 6. By the
+-- cuts of the buffer at the ends of a write. Assumes nothing.
 use mathlib.Core.Path.{_≡_, sym, ap, _∙_}
 use mathlib.Core.List.{List, _++_, append-assoc}
 use Prim.Native.Nat.{ℕ, suc, _+_, _*_, _/_, _≤_, _<_}
@@ -24,11 +24,13 @@ module _ (d : List ℕ) (at : ℕ) (xs : List ℕ) (inside : at ≤ length d) wh
 
   pub read-after : (k : ℕ) → at + length xs ≤ k → getD (overwrite d at xs) k 0 ≡ getD d k 0
   read-after k after =
-      let front : (l : List ℕ) → getD (drop k l) 0 0 ≡ getD l k 0 = λ l. getD-drop k l 0 0 ∙ ap (λ (n : ℕ). getD l n 0) (omega arith) in
+      let front : (l : List ℕ) → getD (drop k l) 0 0 ≡ getD l k 0 =
+      λ l. getD-drop k l 0 0 ∙ ap (λ (n : ℕ). getD l n 0) (omega arith) in
       sym (front (overwrite d at xs)) ∙ ap (λ (l : List ℕ). getD l 0 0) (over-after d at xs k inside after) ∙ front d
 
   -- another write right behind it
-  pub over-behind : (seam : ℕ) (ys : List ℕ) → at + length xs ≡ seam → overwrite (overwrite d at xs) seam ys ≡ overwrite d at (xs ++ ys)
+  pub over-behind : (seam : ℕ) (ys : List ℕ) → at + length xs ≡ seam
+      → overwrite (overwrite d at xs) seam ys ≡ overwrite d at (xs ++ ys)
   over-behind seam ys ends =
       ap (λ (k : ℕ). overwrite (overwrite d at xs) k ys) (sym ends) ∙ over-over d at xs ys inside
 
@@ -47,7 +49,8 @@ module _ (d : List ℕ) (at : ℕ) (xs : List ℕ) (inside : at ≤ length d) wh
 
 pub record-sets : (d : List ℕ) (at : ℕ) (r : Record) → at + recordSize ≤ length d
     → set
-    (set (set (set (set (set d at (r .id)) (at + 1) (r .start)) (at + 2) (r .duration)) (at + 3) (r .marks)) (at + 4) (r .offset))
+    (set (set (set (set (set d at (r .id)) (at + 1) (r .start)) (at + 2) (r .duration)) (at + 3) (r .marks)) (at + 4)
+    (r .offset))
     (at + 5)
     (r .«chain_length»)
     ≡ overwrite d at (numbersOf r)
@@ -62,9 +65,11 @@ record-sets d at r fits =
 -- ---- a record in its place
 
 module _ (d : List ℕ) (i : ℕ) (r : Record) where
-  pub written-is : i * recordSize + recordSize ≤ length d → recordWritten d i r ≡ overwrite d (i * recordSize) (numbersOf r)
+  pub written-is : i * recordSize + recordSize ≤ length d
+      → recordWritten d i r ≡ overwrite d (i * recordSize) (numbersOf r)
   unfolding recordWritten
-  written-is room = let there : i < length d / recordSize = omega arith in rw (recordWritten, lt-ltb i (length d / recordSize) there)
+  written-is room =
+      let there : i < length d / recordSize = omega arith in rw (recordWritten, lt-ltb i (length d / recordSize) there)
 
   pub written-beyond : length d / recordSize ≤ i → recordWritten d i r ≡ d
   unfolding recordWritten

@@ -1,5 +1,5 @@
--- A record that is written in its place of the lent buffer (01, "Event record and sound list": a record is six u32 numbers). Laws:
--- proofs/WriteLaws.antt. Assumes nothing.
+-- A record that is written in its place of the lent buffer (01, "Event record and sound list": a record is six u32
+-- numbers). Laws: proofs/WriteLaws.antt. Assumes nothing.
 use Prim.Native.Nat.{ℕ, _*_, _/_}
 use mathlib.Core.Bool.{true, false}
 use mathlib.Core.List.{List}

@@ -1,5 +1,5 @@
--- One pass over the records, with the ids seen and the least start, asks what soundness asks of them: by induction over the records,
--- with the facts of the records that are left. Assumes nothing.
+-- One pass over the records, with the ids seen and the least start, asks what soundness asks of them: by induction over
+-- the records, with the facts of the records that are left. Assumes nothing.
 use mathlib.Core.Path.{_≡_, sym, subst}
 use mathlib.Core.Bool.{false, not, and-false}
 use Prim.Native.Nat.{ℕ, _*_, _/_, _≤_, _<_}
@@ -32,14 +32,16 @@ AllApart seen (n ∷ ns) = T (not (isAmong n seen)) × AllApart seen ns
 
 -- starts that rise, record by record
 module _ (pools : Pools) (r : Record) where
-  rising-more : (rs : List Record) → FrontFrom (leastBehind (eventOf pools r)) rs → T (rising (eventsIn pools rs)) → T (rising (eventsIn pools (r ∷ rs)))
+  rising-more : (rs : List Record) → FrontFrom (leastBehind (eventOf pools r)) rs → T (rising (eventsIn pools rs))
+      → T (rising (eventsIn pools (r ∷ rs)))
   rising-more [] later t = tt
   rising-more (s ∷ rs) later t =
       let first : T (follows (eventOf pools r) (eventOf pools s)) =
       rw (follows-least (eventOf pools r) (eventOf pools s)) (le→leb _ (s .start) later) in
       search tests
 
-  rising-less : (rs : List Record) → T (rising (eventsIn pools (r ∷ rs))) → FrontFrom (leastBehind (eventOf pools r)) rs × T (rising (eventsIn pools rs))
+  rising-less : (rs : List Record) → T (rising (eventsIn pools (r ∷ rs)))
+      → FrontFrom (leastBehind (eventOf pools r)) rs × T (rising (eventsIn pools rs))
   rising-less [] t = (tt, tt)
   rising-less (s ∷ rs) t =
       let first : T (follows (eventOf pools r) (eventOf pools s)) = search tests in
@@ -56,8 +58,10 @@ apart-less m seen (n ∷ ns) a =
 apart-more : (m : ℕ) (seen ns : List ℕ) → T (not (isAmong m ns)) → AllApart seen ns → AllApart (m ∷ seen) ns
 apart-more m seen [] t a = tt
 apart-more m seen (n ∷ ns) t a =
-    let other : T (not (eqb n m)) = ne-sym m n (nor-left (eqb m n) (isAmong m ns) t) in
-    (nor-both (eqb n m) (isAmong n seen) other (a .0), apart-more m seen ns (nor-right (eqb m n) (isAmong m ns) t) (a .1))
+    let other : T (not (eqb n m)) = ne-sym m n (nor-left (eqb m n) (isAmong m ns) t) in (
+      nor-both (eqb n m) (isAmong n seen) other (a .0),
+      apart-more m seen ns (nor-right (eqb m n) (isAmong m ns) t) (a .1),
+    )
 
 apart-none : (ns : List ℕ) → AllApart [] ns
 apart-none [] = tt
@@ -69,8 +73,10 @@ record ForwardFacts (pools : Pools) (seen : List ℕ) (least : ℕ) (rs : List R
   from : FrontFrom least rs
   apart : AllApart seen (idsOf rs)
 
-forward-facts : (pools : Pools) (seen : List ℕ) (least : ℕ) (rs : List Record) → T (soundFrom pools seen least rs) → ForwardFacts pools seen least rs
-forward-facts pools seen least [] t = record { records = record { valid = tt; rises = tt; differ = tt }; from = tt; apart = tt }
+forward-facts : (pools : Pools) (seen : List ℕ) (least : ℕ) (rs : List Record) → T (soundFrom pools seen least rs)
+    → ForwardFacts pools seen least rs
+forward-facts pools seen least [] t =
+    record { records = record { valid = tt; rises = tt; differ = tt }; from = tt; apart = tt }
 forward-facts pools seen least (r ∷ rs) t =
     let rest = forward-facts pools (r .id ∷ seen) (leastBehind (eventOf pools r)) rs (search tests) in
     let ids = apart-less (r .id) seen (idsOf rs) (rest .apart) in
@@ -84,7 +90,8 @@ forward-facts pools seen least (r ∷ rs) t =
       apart = (search tests, ids .1);
     }
 
-facts-forward : (pools : Pools) (seen : List ℕ) (least : ℕ) (rs : List Record) → ForwardFacts pools seen least rs → T (soundFrom pools seen least rs)
+facts-forward : (pools : Pools) (seen : List ℕ) (least : ℕ) (rs : List Record) → ForwardFacts pools seen least rs
+    → T (soundFrom pools seen least rs)
 facts-forward pools seen least [] f = tt
 facts-forward pools seen least (r ∷ rs) f =
     let starts = rising-less pools r rs (f .records .rises) in
@@ -106,7 +113,8 @@ pub forward-sound : (pools : Pools) (rs : List Record) → soundFrom pools [] 0 
 forward-sound pools rs =
     both-ways (soundFrom pools [] 0 rs) (soundRecords pools rs)
     (λ t. records-sound pools rs (forward-facts pools [] 0 rs t .records))
-    (λ t. facts-forward pools [] 0 rs (record { records = sound-records pools rs t; from = from-zero rs; apart = apart-none (idsOf rs) }))
+    (λ t. facts-forward pools [] 0 rs
+    (record { records = sound-records pools rs t; from = from-zero rs; apart = apart-none (idsOf rs) }))
   where
     from-zero : (rs : List Record) → FrontFrom 0 rs
     from-zero [] = tt

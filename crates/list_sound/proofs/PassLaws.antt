@@ -1,5 +1,6 @@
--- One pass over a list's records with the ids kept in words of 64 bits: where it stands before a record, what the next record decides,
--- and what its end says. The words hold just the ids seen, so their test is that of `soundFrom`. Assumes nothing.
+-- One pass over a list's records with the ids kept in words of 64 bits: where it stands before a record, what the next
+-- record decides, and what its end says. The words hold just the ids seen, so their test is that of `soundFrom`.
+-- Assumes nothing.
 use mathlib.Core.Path.{_≡_, refl, sym, ap, subst, _∙_}
 use mathlib.Core.Logic.{⊎-elim}
 use mathlib.Core.Bool.{Bool, true, false, not, _&&_}
@@ -24,10 +25,11 @@ use Rattle.list_records.proofs.RestLaws.{records-from, records-end}
 
 -- what the pass tests of the next record
 abbrev pub mayFollowBy : Pools → List ℕ → ℕ → Record → Bool
-mayFollowBy pools words least r = inRange r && (hasChain pools r && (leb least (r .start) && not (isSeen words (r .id))))
+mayFollowBy pools words least r =
+    inRange r && (hasChain pools r && (leb least (r .start) && not (isSeen words (r .id))))
 
--- where the pass stands before record i: the words, with a bit for each id in range, hold the ids of the records passed, and
--- all records are sound exactly if those from i on may stand behind these
+-- where the pass stands before record i: the words, with a bit for each id in range, hold the ids of the records
+-- passed, and all records are sound exactly if those from i on may stand behind these
 pub record Pass (pools : Pools) (d : List ℕ) (count : ℕ) (words : List ℕ) (least i : ℕ) : Type 0 where
   pub within : i ≤ count
   pub size : length words ≡ 1024
@@ -45,7 +47,8 @@ pass-start pools d count =
       decided = refl;
     }
 
-module _ {pools : Pools} {d : List ℕ} {count : ℕ} {words : List ℕ} {least i : ℕ} (p : Pass pools d count words least i) where
+module _ {pools : Pools} {d : List ℕ} {count : ℕ} {words : List ℕ} {least i : ℕ}
+    (p : Pass pools d count words least i) where
   pub pass-end : count ≤ i → soundFrom pools [] 0 (recordsIn count d) ≡ true
   pass-end h = p .decided ∙ ap (soundFrom pools (p .ids) least) (records-end count d i h)
 
@@ -55,7 +58,8 @@ module _ {pools : Pools} {d : List ℕ} {count : ℕ} {words : List ℕ} {least 
     same-test : mayFollowBy pools words least r ≡ mayFollow pools (p .ids) least r
     same-test =
         ⊎-elim
-        (λ t. let inside : r .id < 64 * length words = omega (arith, range-facts r t .id, p .size) in rw (p .held (r .id) inside))
+        (λ t. let inside : r .id < 64 * length words = omega (arith, range-facts r t .id, p .size) in
+        rw (p .held (r .id) inside))
         (λ t. rw (false-is (inRange r) t))
         (test-or (inRange r))
 
@@ -63,7 +67,8 @@ module _ {pools : Pools} {d : List ℕ} {count : ℕ} {words : List ℕ} {least 
         ≡ (mayFollowBy pools words least r
         && soundFrom pools (r .id ∷ p .ids) (leastBehind (eventOf pools r)) (drop (suc i) (recordsIn count d)))
     next-decides =
-        let split : drop i (recordsIn count d) ≡ r ∷ drop (suc i) (recordsIn count d) = rw e (records-from count d i h) in
+        let split : drop i (recordsIn count d) ≡ r ∷ drop (suc i) (recordsIn count d) =
+        rw e (records-from count d i h) in
         rw same-test (p .decided ∙ ap (soundFrom pools (p .ids) least) split)
 
     pub pass-stop : mayFollowBy pools words least r ≡ false → soundFrom pools [] 0 (recordsIn count d) ≡ false

@@ -1,5 +1,5 @@
--- Soundness of records looked at one after the other: the ids seen so far, and the least start that the next may have. `forward-sound`
--- of proofs/ForwardLaws.antt says that it is what soundness asks of the records. Assumes nothing.
+-- Soundness of records looked at one after the other: the ids seen so far, and the least start that the next may have.
+-- `forward-sound` of proofs/ForwardLaws.antt says that it is what soundness asks of the records. Assumes nothing.
 use Prim.Native.Nat.{ℕ}
 use mathlib.Core.Bool.{Bool, true, not, _&&_}
 use mathlib.Core.List.{List, [], _∷_}
@@ -16,4 +16,5 @@ mayFollow pools seen least r = inRange r && (hasChain pools r && (leb least (r .
 
 abbrev pub soundFrom : Pools → List ℕ → ℕ → List Record → Bool
 soundFrom pools seen least [] = true
-soundFrom pools seen least (r ∷ rs) = mayFollow pools seen least r && soundFrom pools (r .id ∷ seen) (leastBehind (eventOf pools r)) rs
+soundFrom pools seen least (r ∷ rs) =
+    mayFollow pools seen least r && soundFrom pools (r .id ∷ seen) (leastBehind (eventOf pools r)) rs

@@ -1,10 +1,9 @@
--- Greedy packing (01, "Build, Read", the packing rule) is the best packing in order, by one idea: parts that start later never
--- end earlier, so a packing that is behind after one part is behind after every part.
+-- Greedy packing (01, "Build, Read", the packing rule) is the best packing in order, by one idea: parts that start
+-- later never end earlier, so a packing that is behind after one part is behind after every part.
 --
--- In order: what `fit` is; starting later; dominance; the parts that greedy packing makes; when a list is packable; the fewest
--- parts; an element larger than the room; no part is empty. `fit-fits` and `fit-most` determine `fit`: but for `fit-length`,
--- nothing after them looks at its clauses.
--- Assumes nothing.
+-- In order: what `fit` is; starting later; dominance; the parts that greedy packing makes; when a list is packable; the
+-- fewest parts; an element larger than the room; no part is empty. `fit-fits` and `fit-most` determine `fit`: but for
+-- `fit-length`, nothing after them looks at its clauses. Assumes nothing.
 use mathlib.Core.Path.{_≡_, refl, sym, ap, _∙_}
 use mathlib.Core.Logic.{_⊎_, inl, inr, ⊎-elim}
 use mathlib.Core.Bool.{Bool, true, false, not}
@@ -16,7 +15,8 @@ use borrow.Author.Tests.{leb-true, leb-false, le-ltb}
 use lib.Dec.{T, leb, ltb→lt, lt→ltb, nltb→le}
 use lib.ListN.{length, take, drop, length-append, length-drop}
 use lib.Seq.{take-all, take-nil, take-add, drop-drop, length-take-le, take-append-seam, drop-append-add}
-use Rattle.packing.specs.Greedy.{joined, held, NoneEmpty, sizeOf, fits, fit, reach, greedy, unpackable, AllFit, Packing}
+use Rattle.packing.specs.Greedy.{joined, held, NoneEmpty, sizeOf, fits, fit, reach, greedy, unpackable, AllFit}
+use Rattle.packing.specs.Greedy.{Packing}
 
 -- a test passes or fails, and each case has the equation that says so
 by-test : {C : Type 0} (b : Bool) → (b ≡ true → C) → (b ≡ false → C) → C
@@ -37,18 +37,21 @@ module _ {A : Type 0} (size : A → ℕ) where
       (λ e. rw (fit, e) (omega arith))
 
   -- nothing more would have fitted
-  pub fit-most : (room : ℕ) (xs : List A) (n : ℕ) → n ≤ length xs → sizeOf size (take n xs) ≤ room → n ≤ fit size room xs
+  pub fit-most : (room : ℕ) (xs : List A) (n : ℕ) → n ≤ length xs → sizeOf size (take n xs) ≤ room
+      → n ≤ fit size room xs
   fit-most room [] n l h = omega arith
   fit-most room (x ∷ xs) zero l h = omega arith
   fit-most room (x ∷ xs) (suc n) l h =
-      by-test (fits size room x) (λ e. rw (fit, e) (omega (arith, fit-most (room - size x) xs n (omega arith) (omega arith))))
+      by-test (fits size room x)
+      (λ e. rw (fit, e) (omega (arith, fit-most (room - size x) xs n (omega arith) (omega arith))))
       (λ e. absurd (omega (arith, leb-false)))
 
   -- a part takes no more than there are
   pub fit-length : (room : ℕ) (xs : List A) → fit size room xs ≤ length xs
   fit-length room [] = omega arith
   fit-length room (x ∷ xs) =
-      by-test (fits size room x) (λ e. rw (fit, e) (omega (arith, fit-length (room - size x) xs))) (λ e. rw (fit, e) (omega arith))
+      by-test (fits size room x) (λ e. rw (fit, e) (omega (arith, fit-length (room - size x) xs)))
+      (λ e. rw (fit, e) (omega arith))
 
   -- what k parts take, one after the other
   pub reach-none : (room : ℕ) (xs : List A) → reach size room 0 xs ≡ 0
@@ -75,7 +78,8 @@ module _ {A : Type 0} (size : A → ℕ) where
   size-append [] ys = omega arith
   size-append (x ∷ xs) ys = omega (arith, size-append xs ys)
 
-  size-take : (c n : ℕ) (xs : List A) → sizeOf size (take (c + n) xs) ≡ sizeOf size (take c xs) + sizeOf size (take n (drop c xs))
+  size-take : (c n : ℕ) (xs : List A)
+      → sizeOf size (take (c + n) xs) ≡ sizeOf size (take c xs) + sizeOf size (take n (drop c xs))
   size-take c n xs = rw (take-add, size-append)
 
   -- a part that starts c elements later ends no earlier: the other's elements from there on fit in it
@@ -86,7 +90,8 @@ module _ {A : Type 0} (size : A → ℕ) where
       overlap : (n : ℕ) → fit size room xs ≡ c + n → fit size room xs ≤ c + fit size room (drop c xs)
       overlap n e =
           let there : n ≤ length (drop c xs) = rw length-drop (omega (arith, fit-length room xs)) in
-          let small : sizeOf size (take n (drop c xs)) ≤ room = omega (arith, size-take c n xs, rw e at (fit-fits room xs)) in
+          let small : sizeOf size (take n (drop c xs)) ≤ room =
+          omega (arith, size-take c n xs, rw e at (fit-fits room xs)) in
           omega (arith, fit-most room (drop c xs) n there small)
 
   -- and so do k parts
@@ -110,9 +115,11 @@ module _ {A : Type 0} (size : A → ℕ) where
   parts-best room (suc k) (p ∷ ps) h =
       let xs : List A = p ++ joined ps in
       let n : ℕ = fit size room xs in
-      let first : length p ≤ n = fit-most room xs (length p) (rw length-append (omega arith)) (rw take-append-seam (h .0)) in
+      let first : length p ≤ n =
+      fit-most room xs (length p) (rw length-append (omega arith)) (rw take-append-seam (h .0)) in
       let meet : length p + (n - length p) ≡ n = omega arith in
-      let rest : drop n xs ≡ drop (n - length p) (joined ps) = rw meet at (drop-append-add p (joined ps) (n - length p)) in
+      let rest : drop n xs ≡ drop (n - length p) (joined ps) =
+      rw meet at (drop-append-add p (joined ps) (n - length p)) in
       omega (
         arith,
         length-append p (joined (take k ps)),
@@ -121,7 +128,8 @@ module _ {A : Type 0} (size : A → ℕ) where
       )
 
   -- after any number of parts, no packing in order holds more than greedy packing
-  pub greedy-best : (room k : ℕ) (xs : List A) (ps : List (List A)) → Packing size room xs ps → held k ps ≤ reach size room k xs
+  pub greedy-best : (room k : ℕ) (xs : List A) (ps : List (List A)) → Packing size room xs ps
+      → held k ps ≤ reach size room k xs
   greedy-best room k xs ps h = rw (h .ordered) at (parts-best room k ps (h .allFit))
 
   -- ---- the parts that greedy packing makes
@@ -149,7 +157,8 @@ module _ {A : Type 0} (size : A → ℕ) where
   unfolding greedy
   greedy-fits room zero xs = tt
   greedy-fits room (suc k) [] = tt
-  greedy-fits room (suc k) (x ∷ xs) = (fit-fits room (x ∷ xs), greedy-fits room k (drop (fit size room (x ∷ xs)) (x ∷ xs)))
+  greedy-fits room (suc k) (x ∷ xs) =
+      (fit-fits room (x ∷ xs), greedy-fits room k (drop (fit size room (x ∷ xs)) (x ∷ xs)))
 
   -- there are at most k
   pub greedy-count : (room k : ℕ) (xs : List A) → length (greedy size room k xs) ≤ k
@@ -178,7 +187,8 @@ module _ {A : Type 0} (size : A → ℕ) where
   greedy-take room zero k xs h = refl
   greedy-take room (suc j) zero xs h = absurd (omega arith)
   greedy-take room (suc j) (suc k) [] h = refl
-  greedy-take room (suc j) (suc k) (x ∷ xs) h = rw (greedy-take room j k (drop (fit size room (x ∷ xs)) (x ∷ xs)) (omega arith))
+  greedy-take room (suc j) (suc k) (x ∷ xs) h =
+      rw (greedy-take room j k (drop (fit size room (x ∷ xs)) (x ∷ xs)) (omega arith))
 
   -- and the first j hold as many as `reach` says of j
   pub greedy-held : (room j k : ℕ) (xs : List A) → j ≤ k → held j (greedy size room k xs) ≡ reach size room j xs
@@ -196,15 +206,20 @@ module _ {A : Type 0} (size : A → ℕ) where
   -- so the list is not unpackable
   pub greedy-packable : (room k : ℕ) (xs : List A) (ps : List (List A)) → Packing size room xs ps → length ps ≤ k
       → unpackable size room k xs ≡ false
-  greedy-packable room k xs ps h l = le-ltb (reach size room k xs) (length xs) (omega (arith, greedy-all room k xs ps h l))
+  greedy-packable room k xs ps h l =
+      le-ltb (reach size room k xs) (length xs) (omega (arith, greedy-all room k xs ps h l))
 
   -- greedy packing that reaches the end is a packing
   reached : (room k : ℕ) (xs : List A) → length xs ≤ reach size room k xs → Packing size room xs (greedy size room k xs)
   reached room k xs h =
-      record { ordered = greedy-joined room k xs ∙ take-all (reach size room k xs) xs h; allFit = greedy-fits room k xs }
+      record {
+        ordered = greedy-joined room k xs ∙ take-all (reach size room k xs) xs h;
+        allFit = greedy-fits room k xs;
+      }
 
   -- a list that is not unpackable has a packing, the greedy one, and that has at most k parts (`greedy-count`)
-  pub packable : (room k : ℕ) (xs : List A) → T (not (unpackable size room k xs)) → Packing size room xs (greedy size room k xs)
+  pub packable : (room k : ℕ) (xs : List A) → T (not (unpackable size room k xs))
+      → Packing size room xs (greedy size room k xs)
   packable room k xs t = reached room k xs (nltb→le (reach size room k xs) (length xs) t)
 
   -- if some packing has at most k parts, so has the greedy one
@@ -251,7 +266,8 @@ module _ {A : Type 0} (size : A → ℕ) where
   mem-fits : (room : ℕ) {x : A} (ps : List (List A)) → AllFit size room ps → List·Memᴰ x (joined ps) → size x ≤ room
   mem-fits room [] h m = absurd (List·Memᴰ·not-nil m)
   mem-fits room (p ∷ ps) h m =
-      ⊎-elim (λ here. omega (arith, h .0, mem-size here)) (λ later. mem-fits room ps (h .1) later) (List·Memᴰ·append-cases p m)
+      ⊎-elim (λ here. omega (arith, h .0, mem-size here)) (λ later. mem-fits room ps (h .1) later)
+      (List·Memᴰ·append-cases p m)
 
   -- a list that has it has no packing
   pub too-large : (room : ℕ) {x : A} {xs : List A} → List·Memᴰ x xs → room < size x → (ps : List (List A))
@@ -259,7 +275,8 @@ module _ {A : Type 0} (size : A → ℕ) where
   too-large room m l ps h = omega (arith, mem-fits room ps (h .allFit) (rw (← h .ordered) at m))
 
   -- so it is unpackable, whatever the number of parts
-  pub too-large-unpackable : (room k : ℕ) {x : A} {xs : List A} → List·Memᴰ x xs → room < size x → T (unpackable size room k xs)
+  pub too-large-unpackable : (room k : ℕ) {x : A} {xs : List A} → List·Memᴰ x xs → room < size x
+      → T (unpackable size room k xs)
   too-large-unpackable room k {xs = xs} m l = none-unpackable room k xs (λ ps h n. too-large room m l ps h)
 
   -- ---- no part is empty
@@ -270,7 +287,8 @@ module _ {A : Type 0} (size : A → ℕ) where
   fit-moves room zero xs h = absurd (omega arith)
   fit-moves room (suc k) xs h =
       let n : ℕ = fit size room xs in
-      ⊎-elim (λ none. let e : n ≡ 0 = omega arith in fit-moves room k xs (omega (arith, rw e at h))) (λ some. some) (le-or-lt n 0)
+      ⊎-elim (λ none. let e : n ≡ 0 = omega arith in fit-moves room k xs (omega (arith, rw e at h))) (λ some. some)
+      (le-or-lt n 0)
 
   reached-nonempty : (room k : ℕ) (xs : List A) → length xs ≤ reach size room k xs → NoneEmpty (greedy size room k xs)
   unfolding greedy reach
@@ -283,7 +301,8 @@ module _ {A : Type 0} (size : A → ℕ) where
       (omega arith, reached-nonempty room k (drop n (x ∷ xs)) (rw length-drop (omega arith)))
 
   -- a list that is not unpackable gets no empty part
-  pub greedy-nonempty : (room k : ℕ) (xs : List A) → T (not (unpackable size room k xs)) → NoneEmpty (greedy size room k xs)
+  pub greedy-nonempty : (room k : ℕ) (xs : List A) → T (not (unpackable size room k xs))
+      → NoneEmpty (greedy size room k xs)
   greedy-nonempty room k xs t = reached-nonempty room k xs (nltb→le (reach size room k xs) (length xs) t)
 
   -- so the first j parts of a packing in order hold at most as many as the first j of the greedy one

@@ -1,5 +1,5 @@
--- Parts and what they hold: `joined` is the library's `flatten`; and parts of the same elements, as many, with as many elements
--- in the first k for every k, are the same. By induction over the parts. Assumes nothing.
+-- Parts and what they hold: `joined` is the library's `flatten`; and parts of the same elements, as many, with as many
+-- elements in the first k for every k, are the same. By induction over the parts. Assumes nothing.
 use mathlib.Core.Path.{_≡_, refl, sym, ap, ap₂, _∙_}
 use mathlib.Core.List.{List, [], _∷_, _++_, flatten}
 use Prim.Native.Nat.{ℕ, suc, _+_, _≤_}
@@ -21,8 +21,8 @@ module _ {A : Type 0} where
   held-more : (k : ℕ) (p : List A) (ps : List (List A)) → held (suc k) (p ∷ ps) ≡ length p + held k ps
   held-more k p ps = length-append p (joined (take k ps))
 
-  -- parts with the same elements joined, as many, and as many elements in the first k for every k up to their number, are the
-  -- same
+  -- parts with the same elements joined, as many, and as many elements in the first k for every k up to their number,
+  -- are the same
   pub parts-only : (ps qs : List (List A)) → joined ps ≡ joined qs → length ps ≡ length qs
       → ((k : ℕ) → k ≤ length ps → held k ps ≡ held k qs)
       → ps ≡ qs

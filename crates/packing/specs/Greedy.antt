@@ -1,10 +1,10 @@
--- Greedy packing (01, "Build, Read": "Packing rule: each section takes as many of the segment's next events as fit"), over any
--- element type, any size and any room, and what it is measured against: every packing of the same elements in the same order.
+-- Greedy packing (01, "Build, Read": "Packing rule: each section takes as many of the segment's next events as fit"),
+-- over any element type, any size and any room, and what it is measured against: every packing of the same elements in
+-- the same order.
 --
--- An element is an event, a part a section's events. Where an element is larger than the room `fit` is 0, so no number of
--- parts reaches past it: "a segment that would need a ninth section" and one "that has an event with over 4,066 chain bytes"
--- are one test, `unpackable`.
--- Assumes nothing.
+-- An element is an event, a part a section's events. Where an element is larger than the room `fit` is 0, so no number
+-- of parts reaches past it: "a segment that would need a ninth section" and one "that has an event with over 4,066
+-- chain bytes" are one test, `unpackable`. Assumes nothing.
 use mathlib.Core.Path.{_≡_}
 use mathlib.Core.Bool.{Bool, true, false}
 use mathlib.Core.List.{List, [], _∷_, _++_}
@@ -47,15 +47,15 @@ module _ {A : Type 0} (size : A → ℕ) where
   reach room zero xs = 0
   reach room (suc k) xs = let n = fit room xs in n + reach room k (drop n xs)
 
-  -- 01, "Build, Read": "each section takes as many of the segment's next events as fit": the parts, at most k of them, and
-  -- none once nothing is left
+  -- 01, "Build, Read": "each section takes as many of the segment's next events as fit": the parts, at most k of them,
+  -- and none once nothing is left
   unfoldable pub greedy : ℕ → ℕ → List A → List (List A)
   greedy room zero xs = []
   greedy room (suc k) [] = []
   greedy room (suc k) (x ∷ xs) = let n = fit room (x ∷ xs) in take n (x ∷ xs) ∷ greedy room k (drop n (x ∷ xs))
 
-  -- 01's term: unpackable ("Build, Read": "A segment that would need a ninth section .. is unpackable"). An element is left
-  -- after k parts
+  -- 01's term: unpackable ("Build, Read": "A segment that would need a ninth section .. is unpackable"). An element is
+  -- left after k parts
   abbrev pub unpackable : ℕ → ℕ → List A → Bool
   unpackable room k xs = ltb (reach room k xs) (length xs)
 

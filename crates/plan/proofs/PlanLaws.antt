@@ -21,7 +21,8 @@ use Rattle.plan.specs.PlanText.{builtText, listText, editedText, textWit
 
 module _ (output : List ℕ) (list : EventList) (built : Built)
     (is : build broadcast noPools list baseDay zeroIdentity output ≡ built) where
-  pub list-refused : {number : ℕ} → number ≡ built .number → (number ≡ 0 → ⊥) → listText output list ≡ refusedText number
+  pub list-refused : {number : ℕ} → number ≡ built .number → (number ≡ 0 → ⊥)
+      → listText output list ≡ refusedText number
   unfolding listText builtText
   list-refused {number} number-is refused =
       let not-0 : built .number ≡ 0 → ⊥ = λ e. refused (number-is ∙ e) in
@@ -58,7 +59,8 @@ module _ (buffer output script : List ℕ) where
     pub script-list : {number : ℕ} → number ≡ edited .number → number ≡ 0
         → textWithin buffer output script ≡ listText output (edited .list)
     unfolding editedText
-    script-list {number} number-is success = script-edited ∙ rw (editedText, eq-eqb (edited .number) 0 (sym number-is ∙ success))
+    script-list {number} number-is success =
+        script-edited ∙ rw (editedText, eq-eqb (edited .number) 0 (sym number-is ∙ success))
 
 -- ---- what is written
 

@@ -1,4 +1,5 @@
--- What program plan writes for a script (01, "Samples with the cuts marked"). Laws: proofs/PlanLaws.antt. Assumes nothing.
+-- What program plan writes for a script (01, "Samples with the cuts marked"). Laws: proofs/PlanLaws.antt.
+-- Assumes nothing.
 use Prim.Native.Nat.{ℕ, _≤_}
 use mathlib.Core.Bool.{true, false}
 use mathlib.Core.List.{List, []}

@@ -1,4 +1,5 @@
-// Program plan (01, "Samples with the cuts marked"): the sections of the schedule that a script on standard input makes.
+// Program plan (01, "Samples with the cuts marked"): the sections of the schedule that a script on standard input
+// makes.
 use libc::STDERR_FILENO;
 use libc::STDIN_FILENO;
 use libc::STDOUT_FILENO;
@@ -25,7 +26,8 @@ const BASE_DAY: u32 = 49_273;
 // The text for a list, with a lent output for Build. Returns how many of its bytes had room.
 fn write_built(list: &[u32], count: usize, output: &mut [u8], text: &mut [u8]) -> usize
     ensures { λ r. ⌜
-        Written (now (text .entry)) (listText (now (output .entry)) (lentList (now (list .entry)) count)) (now (text .exit)) r
+        Written (now (text .entry)) (listText (now (output .entry)) (lentList (now (list .entry)) count))
+        (now (text .exit)) r
         (4 * length (now (output .entry)) + 64) ⌝ }
 {
     let identity = eit::zero_identity();
@@ -70,7 +72,8 @@ fn plan_text(script: &[u8], text: &mut [u8]) -> usize
     write_within(script, &mut list, &mut output, text)
 }
 
-// What standard input has: bytes at the front of a buffer, as many as there are and have room, or nothing where a read fails.
+// What standard input has: bytes at the front of a buffer, as many as there are and have room, or nothing where a read
+// fails.
 enum Input {
     Bytes(usize),
     Failed,

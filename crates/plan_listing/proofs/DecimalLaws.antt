@@ -1,5 +1,5 @@
--- A number in decimal as the kit's `io` makes it, the fewest digits that hold it, is the number in decimal as the definition has
--- it: by induction over the digits. Assumes nothing.
+-- A number in decimal as the kit's `io` makes it, the fewest digits that hold it, is the number in decimal as the
+-- definition has it: by induction over the digits. Assumes nothing.
 use Prim.Native.Nat.{ℕ, zero, suc, _+_, _-_, _*_, _/_, _%_, _^_, _≤_, _<_}
 use mathlib.Core.List.{List, [], _∷_, _++_}
 use mathlib.Core.Path.{_≡_, sym, ap, ap₂, _∙_}

@@ -1,4 +1,5 @@
--- The events of a section counted one by one: the step of `splitBy`, at the offset reached in the event loop. Assumes nothing.
+-- The events of a section counted one by one: the step of `splitBy`, at the offset reached in the event loop.
+-- Assumes nothing.
 use Prim.Native.Nat.{ℕ, _+_, _-_, _≤_, _<_}
 use mathlib.Core.List.{List}
 use mathlib.Core.Path.{_≡_, refl, sym, ap, _∙_}

@@ -1,5 +1,5 @@
--- Texts written one behind the other, each as far as there is room, are one text written so: what is left to write shrinks with
--- each. Assumes nothing.
+-- Texts written one behind the other, each as far as there is room, are one text written so: what is left to write
+-- shrinks with each. Assumes nothing.
 use Prim.Native.Nat.{ℕ, zero, suc, _+_, _-_, _≤_, _<_}
 use mathlib.Core.List.{List, [], _∷_, _++_}
 use mathlib.Core.Logic.{⊎-elim}

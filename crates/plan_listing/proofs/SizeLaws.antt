@@ -1,5 +1,5 @@
--- How long the text is at most: a number below 10 ^ k has at most k digits, a line at most 12 bytes, and pieces of at least three
--- bytes are few. Assumes nothing.
+-- How long the text is at most: a number below 10 ^ k has at most k digits, a line at most 12 bytes, and pieces of at
+-- least three bytes are few. Assumes nothing.
 use Prim.Native.Nat.{ℕ, zero, suc, pred, _+_, _-_, _*_, _/_, _%_, _^_, _≤_, _<_}
 use mathlib.Core.List.{List, [], _∷_, _++_, flatten}
 use mathlib.Core.Logic.{⊎-elim}

@@ -1,5 +1,5 @@
--- The text of program plan (01, "Samples with the cuts marked"), in ASCII; every line ends with a newline, the last too. Laws:
--- proofs/DecimalLaws.antt, proofs/ListingLaws.antt. Assumes nothing.
+-- The text of program plan (01, "Samples with the cuts marked"), in ASCII; every line ends with a newline, the last
+-- too. Laws: proofs/DecimalLaws.antt, proofs/ListingLaws.antt. Assumes nothing.
 use Prim.Native.Nat.{ℕ, zero, suc, _+_, _/_, _%_}
 use mathlib.Core.Bool.{true, false}
 use mathlib.Core.List.{List, [], _∷_, _++_, map, flatten}

@@ -1,5 +1,5 @@
--- What Read says, by what check has said: a refusal stays one, and of an accepted file the record buffer is short or long
--- enough. By the cases of Read's definition. Assumes nothing.
+-- What Read says, by what check has said: a refusal stays one, and of an accepted file the record buffer is short or
+-- long enough. By the cases of Read's definition. Assumes nothing.
 use mathlib.Core.Path.{_≡_, sym, ap, _∙_}
 use mathlib.Core.List.{List}
 use Prim.Native.Nat.{ℕ, _*_, _/_, _≤_, _<_}
@@ -17,7 +17,8 @@ use Rattle.read_answer.specs.declared.CheckedFile.{CheckedFile}
 use Rattle.read_answer.specs.declared.ReadAnswer.the-variants.{RecordsShort}
 use Rattle.read.specs.ReadOutcome.{readOutcome}
 
-module _ (base : ℕ) (file buffer : List ℕ) (checked : CheckedFile) (is : checkFile broadcast base file ≡ outcomeOf checked) where
+module _ (base : ℕ) (file buffer : List ℕ) (checked : CheckedFile)
+    (is : checkFile broadcast base file ≡ outcomeOf checked) where
   number-is : checkFile broadcast base file .number ≡ answerNumber (checked .answer)
   number-is = ap (λ (a : Answer). a .number) is
 
@@ -39,7 +40,8 @@ module _ (base : ℕ) (file buffer : List ℕ) (checked : CheckedFile) (is : che
     same-count = count-is ∙ sym count-made
 
     pub read-27 : length buffer / recordSize < count
-        → read broadcast base file buffer ≡ readOutcome (record { answer = RecordsShort count; identity = zeroIdentity }) buffer
+        → read broadcast base file buffer
+        ≡ readOutcome (record { answer = RecordsShort count; identity = zeroIdentity }) buffer
     read-27 short =
         read-short broadcast base file buffer accepted (omega (arith, same-count))
         ∙ ap (λ (n : ℕ). record { answer = refusal 27 n; buffer = buffer }) same-count
@@ -51,7 +53,8 @@ module _ (base : ℕ) (file buffer : List ℕ) (checked : CheckedFile) (is : che
         omega (arith, events, same-count)
 
     pub read-fills : count ≤ length buffer / recordSize → {out : List ℕ}
-        → out ≡ overwrite buffer 0 (numbersOfAll (fileRecords base file)) → read broadcast base file buffer ≡ readOutcome checked out
+        → out ≡ overwrite buffer 0 (numbersOfAll (fileRecords base file))
+        → read broadcast base file buffer ≡ readOutcome checked out
     read-fills enough {out} filled =
         read-succeeds broadcast base file buffer accepted (omega (arith, same-count))
         ∙ (λ i. record { answer = is i; buffer = sym filled i })

@@ -32,12 +32,14 @@ records-shown base file = records-are base file ∙ ap (recordsFrom 0) (sections
 -- a section's records, then those behind it
 shown-next : (base offset : ℕ) (bs : List ℕ) (rest : List (List ℕ)) → Fillable base bs
     → shownRecords base offset (bs ∷ rest)
-    ≡ pieceRecords base (offset + headerSize) (splitBy statedEventSize (eventLoop bs)) ++ shownRecords base (offset + length bs) rest
+    ≡ pieceRecords base (offset + headerSize) (splitBy statedEventSize (eventLoop bs))
+    ++ shownRecords base (offset + length bs) rest
 unfolding sectionIn splitEvents
 shown-next base offset bs rest fillable =
     ap
     (λ (size : ℕ).
-    pieceRecords base (offset + headerSize) (splitBy statedEventSize (eventLoop bs)) ++ shownRecords base (offset + size) rest)
+    pieceRecords base (offset + headerSize) (splitBy statedEventSize (eventLoop bs))
+    ++ shownRecords base (offset + size) rest)
     (fillable .size)
 
 -- a section has room for its header and CRC_32
@@ -56,7 +58,8 @@ pub file-start : (base : ℕ) (file d : List ℕ) → Every (Fillable base) (spl
 file-start base file d all room =
     record {
       left =
-          subst (λ (rs : List Record). Left d 0 (numbersOfAll (fileRecords base file)) d 0 (numbersOfAll rs)) (records-shown base file)
+          subst (λ (rs : List Record). Left d 0 (numbersOfAll (fileRecords base file)) d 0 (numbersOfAll rs))
+          (records-shown base file)
           (left-all d 0 (numbersOfAll (fileRecords base file)) (omega (arith, numbers-length (fileRecords base file))));
       all = all;
       inside = omega arith;
@@ -117,7 +120,8 @@ module _ {base : ℕ} {file d out : List ℕ} {n offset : ℕ} (so-far : FileSoF
       file-room =
           omega (
             arith,
-            left-fits (so-far .left) (numbersOfAll records) (numbersOfAll (shownRecords base (offset + length section) behind))
+            left-fits (so-far .left) (numbersOfAll records)
+                (numbersOfAll (shownRecords base (offset + length section) behind))
                 parts,
             width,
           )
@@ -138,4 +142,5 @@ module _ {base : ℕ} {file d out : List ℕ} {n offset : ℕ} (so-far : FileSoF
 
   pub file-end : length file ≤ offset → out ≡ overwrite d 0 (numbersOfAll (fileRecords base file))
   file-end end =
-      left-end (so-far .left) (ap (λ (xs : List (List ℕ)). numbersOfAll (shownRecords base offset xs)) (walk-end file offset end)) .0
+      left-end (so-far .left)
+      (ap (λ (xs : List (List ℕ)). numbersOfAll (shownRecords base offset xs)) (walk-end file offset end)) .0

@@ -1,5 +1,5 @@
--- The records of an event loop, written one behind the other: what is left to write shrinks with each event (`Left` of codec),
--- and each piece that is left is an event. Assumes nothing.
+-- The records of an event loop, written one behind the other: what is left to write shrinks with each event (`Left` of
+-- codec), and each piece that is left is an event. Assumes nothing.
 use mathlib.Core.Path.{_≡_, refl, sym, ap, ap₂, subst, _∙_}
 use mathlib.Core.Bool.{false}
 use mathlib.Core.List.{List, [], _∷_, _++_, map}
@@ -39,7 +39,8 @@ piece-count base from (bs ∷ rest) = ap suc (piece-count base (from + eventSize
 
 -- before a turn: the event at `at` of the loop is the next one, and its record the record n
 pub record FillSoFar (base from place : ℕ) (events d out : List ℕ) (n at : ℕ) : Type 0 where
-  pub left : Left d (place * recordSize) (numbersOfAll (pieceRecords base from (splitBy statedEventSize events))) out (n * recordSize)
+  pub left : Left d (place * recordSize) (numbersOfAll (pieceRecords base from (splitBy statedEventSize events))) out
+      (n * recordSize)
       (numbersOfAll (pieceRecords base (from + at) (splitBy statedEventSize (drop at events))))
   pub are : AreEvents base (splitBy statedEventSize (drop at events))
   pub inside : at ≤ length events
@@ -60,7 +61,8 @@ fill-start base from place events d are room =
       inside = omega arith;
     }
 
-module _ {base from place : ℕ} {events d out : List ℕ} {n at : ℕ} (so-far : FillSoFar base from place events d out n at) where
+module _ {base from place : ℕ} {events d out : List ℕ} {n at : ℕ}
+    (so-far : FillSoFar base from place events d out n at) where
   abbrev rest : List ℕ
   rest = drop at events
 
@@ -117,10 +119,12 @@ module _ {base from place : ℕ} {events d out : List ℕ} {n at : ℕ} (so-far 
       next-records : pieceRecords base (from + at) (splitBy statedEventSize rest) ≡ recordAt (from + at) event ∷ behind
       unfolding behind
       next-records =
-          let chain : eventSize event ≡ size = ap (λ (q : Record). eventOverhead + q .«chain_length») (sym (whole-record base rest read)) in
+          let chain : eventSize event ≡ size =
+          ap (λ (q : Record). eventOverhead + q .«chain_length») (sym (whole-record base rest read)) in
           let far : from + at + eventSize event ≡ from + (at + size) = omega (arith, chain) in
           ap (pieceRecords base (from + at)) (whole-next base rest read)
-          ∙ ap₂ (λ (place : ℕ) (bs : List ℕ). recordAt (from + at) event ∷ pieceRecords base place (splitBy statedEventSize bs)) far
+          ∙ ap₂ (λ (place : ℕ) (bs : List ℕ). recordAt (from + at) event ∷ pieceRecords base place
+          (splitBy statedEventSize bs)) far
           (drop-drop size at events)
 
       parts : numbersOfAll (pieceRecords base (from + at) (splitBy statedEventSize rest))
@@ -144,30 +148,37 @@ module _ {base from place : ℕ} {events d out : List ℕ} {n at : ℕ} (so-far 
           → FillSoFar base from place events d out′ (n + 1) (at + size)
       unfolding behind
       fill-more place-is put =
-          let pieces : splitBy statedEventSize rest ≡ frontEvent rest ∷ splitBy statedEventSize (drop (at + size) events) =
-          whole-next base rest read ∙ ap (λ (bs : List ℕ). frontEvent rest ∷ splitBy statedEventSize bs) (drop-drop size at events) in
+          let pieces : splitBy statedEventSize rest
+          ≡ frontEvent rest ∷ splitBy statedEventSize (drop (at + size) events) =
+          whole-next base rest read
+          ∙ ap (λ (bs : List ℕ). frontEvent rest ∷ splitBy statedEventSize bs) (drop-drop size at events) in
           record {
             left =
                 left-more (so-far .left) (numbersOf (recordAt (from + at) event)) (numbersOfAll behind) parts
-                (put ∙ ap (recordWritten out n) (shown place-is) ∙ written-is out n (recordAt (from + at) event) fill-room)
+                (put ∙ ap (recordWritten out n) (shown place-is)
+                ∙ written-is out n (recordAt (from + at) event) fill-room)
                 (omega arith);
             are =
                 record {
                   header = so-far .are .header;
                   are =
                       and-right (isEvent base (so-far .are .header) (frontEvent rest)) _
-                      (subst (λ (xs : List (List ℕ)). T (areEvents base (so-far .are .header) xs)) pieces (so-far .are .are));
+                      (subst (λ (xs : List (List ℕ)). T (areEvents base (so-far .are .header) xs)) pieces
+                      (so-far .are .are));
                 };
             inside = fill-inside;
           }
 
   pub fill-end : length events ≤ at
-      → (out ≡ overwrite d (place * recordSize) (numbersOfAll (pieceRecords base from (splitBy statedEventSize events))))
+      → (out ≡ overwrite d (place * recordSize)
+      (numbersOfAll (pieceRecords base from (splitBy statedEventSize events))))
       × (n ≡ place + length (splitBy statedEventSize events))
   fill-end end =
       let all : List (List ℕ) = splitBy statedEventSize events in
       let none : numbersOfAll (pieceRecords base (from + at) (splitBy statedEventSize rest)) ≡ [] =
-      ap (λ (bs : List ℕ). numbersOfAll (pieceRecords base (from + at) (splitBy statedEventSize bs))) (drop-of-length-le events end)
-      ∙ ap (λ (pieces : List (List ℕ)). numbersOfAll (pieceRecords base (from + at) pieces)) (split-nil statedEventSize) in
+      ap (λ (bs : List ℕ). numbersOfAll (pieceRecords base (from + at) (splitBy statedEventSize bs)))
+      (drop-of-length-le events end)
+      ∙ ap (λ (pieces : List (List ℕ)). numbersOfAll (pieceRecords base (from + at) pieces))
+      (split-nil statedEventSize) in
       let (written, ends) = left-end (so-far .left) none in
       (written, omega (arith, numbers-length (pieceRecords base from all), piece-count base from all))

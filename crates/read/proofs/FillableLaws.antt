@@ -1,5 +1,6 @@
--- Every section of an accepted file can be filled in, and its offsets have 32 bits: what passed is the bytes of the section that
--- it shows (`section-forth`), and a file has at most 16 × 256 × 4,096 bytes (`accepted-size`). Assumes nothing.
+-- Every section of an accepted file can be filled in, and its offsets have 32 bits: what passed is the bytes of the
+-- section that it shows (`section-forth`), and a file has at most 16 × 256 × 4,096 bytes (`accepted-size`).
+-- Assumes nothing.
 use mathlib.Core.Path.{_≡_, sym, ap, subst, _∙_}
 use mathlib.Core.List.{List, [], _∷_, flatten}
 use Prim.Native.Nat.{ℕ, _^_, _<_}
@@ -27,11 +28,16 @@ module _ (sizes : Sizes) (base : ℕ) where
   passed-fills : (p : Progress) (bs : List ℕ) → Bytes bs → Passes sizes base p bs → Fillable base bs
   unfolding isEventLoop
   passed-fills p bs bytes passes = record {
-    events = record { header = headerIn bs; are = and-left (areEvents base (headerIn bs) (splitEvents bs)) _ (passes .loop) };
-    size = sym (section-length base (sectionIn base bs)) ∙ ap length (section-forth sizes base p bs bytes passes .bytes);
+    events = record {
+      header = headerIn bs;
+      are = and-left (areEvents base (headerIn bs) (splitEvents bs)) _ (passes .loop);
+    };
+    size = sym (section-length base (sectionIn base bs))
+        ∙ ap length (section-forth sizes base p bs bytes passes .bytes);
   }
 
-  all-fill : (p : Progress) (xs : List (List ℕ)) → Bytes (flatten xs) → AllPass sizes base p xs → Every (Fillable base) xs
+  all-fill : (p : Progress) (xs : List (List ℕ)) → Bytes (flatten xs) → AllPass sizes base p xs
+      → Every (Fillable base) xs
   unfolding flatten
   all-fill p [] bytes all = tt
   all-fill p (bs ∷ rest) bytes all =

@@ -1,5 +1,5 @@
--- What is known of a section that passed Read's checks, as far as its records need it. Laws: proofs/FillableLaws.antt. Assumes
--- nothing.
+-- What is known of a section that passed Read's checks, as far as its records need it. Laws: proofs/FillableLaws.antt.
+-- Assumes nothing.
 use mathlib.Core.Path.{_≡_}
 use mathlib.Core.List.{List}
 use Prim.Native.Nat.{ℕ}

@@ -18,7 +18,8 @@ ghost use Rattle.sections.specs.Offsets.{recordsAt};
 ghost use Rattle.sections.specs.Read.{fileRecords};
 ghost use Rattle.read.specs.Fillable.{AreEvents, Fillable};
 
-// The records of an event loop that begins at `from` in the file, written from record `place` on. Returns the place behind them.
+// The records of an event loop that begins at `from` in the file, written from record `place` on. Returns the place
+// behind them.
 fn fill_events(
     records: &mut [u32],
     place: usize,
@@ -64,7 +65,8 @@ pub fn fill_file(records: &mut [u32], file: &[u8], base_day: u32)
         × (length (fileRecords «base_day» (now file)) * recordSize ≤ length (now records))
         × (length (now file) < 2 ^ 32) ⌝ }
     ensures { λ _. ⌜
-        now (records .exit) ≡ overwrite (now (records .entry)) 0 (numbersOfAll (fileRecords «base_day» (now (file .entry)))) ⌝ }
+        now (records .exit)
+        ≡ overwrite (now (records .entry)) 0 (numbersOfAll (fileRecords «base_day» (now (file .entry)))) ⌝ }
 {
     let mut n = 0;
     let mut offset = 0;

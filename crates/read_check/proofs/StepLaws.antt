@@ -1,5 +1,6 @@
--- The checks of one section in code, in their order, are the step of Read's definition: each test that fails is its refusal, and
--- all together are the way on. By the laws of each refusal (`step-20` to `step-26` of sections). Assumes nothing.
+-- The checks of one section in code, in their order, are the step of Read's definition: each test that fails is its
+-- refusal, and all together are the way on. By the laws of each refusal (`step-20` to `step-26` of sections).
+-- Assumes nothing.
 use mathlib.Core.Path.{_≡_, refl, sym, ap, ap₂, subst, _∙_}
 use mathlib.Core.Logic.{⊎-elim}
 use mathlib.Core.Bool.{Bool, true, false, not}
@@ -69,13 +70,16 @@ module _ (before : Option Header) (bs : List ℕ) where
       (λ (f : T (not (isHeader before bs))). f)
       (test-or (isHeader before bs))
 
-module _ {offset : ℕ} {state : WalkState} {words : List ℕ} {p : Progress} (tracks : Tracks offset state words p) (sizes : Sizes)
+module _ {offset : ℕ} {state : WalkState} {words : List ℕ} {p : Progress} (tracks : Tracks offset state words p)
+    (sizes : Sizes)
     (base : ℕ) (bs : List ℕ) where
   -- the section's offset
-  at-offset : {number : ℕ} → step sizes base p bs ≡ refused number (p .offset) → step sizes base p bs ≡ refused number offset
+  at-offset : {number : ℕ} → step sizes base p bs ≡ refused number (p .offset)
+      → step sizes base p bs ≡ refused number offset
   at-offset {number} is = is ∙ ap (refused number) (tracks .offset-is)
 
-  pub refuses-20 : {framed : Bool} → framed ≡ isFramed sizes bs → framed ≡ false → step sizes base p bs ≡ refused 20 offset
+  pub refuses-20 : {framed : Bool} → framed ≡ isFramed sizes bs → framed ≡ false
+      → step sizes base p bs ≡ refused 20 offset
   refuses-20 made is = at-offset (step-20 sizes base p bs (fails made is))
 
   module _ (bytes : Bytes bs) {framed : Bool} (frame : framed ≡ isFramed sizes bs) (frame-holds : framed ≡ true)
@@ -86,45 +90,60 @@ module _ {offset : ℕ} {state : WalkState} {words : List ℕ} {p : Progress} (t
     same-crc : hasRightCrcBy tables bs ≡ hasRightCrc bs
     same-crc = ap (λ (t : List ℕ). hasRightCrcBy t bs) right ∙ right-crc-by-tables bs bytes
 
-    pub refuses-21 : {crc-right : Bool} → crc-right ≡ hasRightCrcBy tables bs → crc-right ≡ false → step sizes base p bs ≡ refused 21 offset
+    pub refuses-21 : {crc-right : Bool} → crc-right ≡ hasRightCrcBy tables bs → crc-right ≡ false
+        → step sizes base p bs ≡ refused 21 offset
     refuses-21 made is = at-offset (step-21 sizes base p bs is-framed (fails (made ∙ same-crc) is))
 
     module _ {crc-right : Bool} (crc : crc-right ≡ hasRightCrcBy tables bs) (crc-holds : crc-right ≡ true) where
       has-right-crc : T (hasRightCrc bs)
       has-right-crc = holds (crc ∙ same-crc) crc-holds
 
-      pub refuses-22 : headerBefore Nothing ≡ checkedHeader (headerBefore (state .before)) bs → step sizes base p bs ≡ refused 22 offset
+      pub refuses-22 : headerBefore Nothing ≡ checkedHeader (headerBefore (state .before)) bs
+          → step sizes base p bs ≡ refused 22 offset
       refuses-22 kept =
           at-offset (step-22 sizes base p bs is-framed has-right-crc
-          (nothing-only (p .before) bs (kept ∙ ap (λ (o : Option Header). checkedHeader o bs) (sym (tracks .before-is)))))
+          (nothing-only (p .before) bs
+          (kept ∙ ap (λ (o : Option Header). checkedHeader o bs) (sym (tracks .before-is)))))
 
-      module _ {h : SectionHeader} (kept : headerBefore (Behind h) ≡ checkedHeader (headerBefore (state .before)) bs) where
+      module _ {h : SectionHeader}
+          (kept : headerBefore (Behind h) ≡ checkedHeader (headerBefore (state .before)) bs) where
         shown : T (isHeader (p .before) bs) × (heldHeader h ≡ headerIn bs)
-        shown = kept-only (p .before) bs (kept ∙ ap (λ (o : Option Header). checkedHeader o bs) (sym (tracks .before-is)))
+        shown = kept-only (p .before) bs
+            (kept ∙ ap (λ (o : Option Header). checkedHeader o bs) (sym (tracks .before-is)))
 
-        same-numbering : hasRightNumbering (headerBefore (state .before)) (heldHeader h) ≡ hasRightNumbering (p .before) (headerIn bs)
+        same-numbering : hasRightNumbering (headerBefore (state .before)) (heldHeader h)
+            ≡ hasRightNumbering (p .before) (headerIn bs)
         same-numbering = ap₂ hasRightNumbering (sym (tracks .before-is)) (shown .1)
 
-        pub refuses-23 : {numbered : Bool} → numbered ≡ hasRightNumbering (headerBefore (state .before)) (heldHeader h) → numbered ≡ false
+        pub refuses-23 : {numbered : Bool} → numbered ≡ hasRightNumbering (headerBefore (state .before)) (heldHeader h)
+            → numbered ≡ false
             → step sizes base p bs ≡ refused 23 offset
-        refuses-23 made is = at-offset (step-23 sizes base p bs is-framed has-right-crc (shown .0) (fails (made ∙ same-numbering) is))
+        refuses-23 made is =
+            at-offset (step-23 sizes base p bs is-framed has-right-crc (shown .0) (fails (made ∙ same-numbering) is))
 
-        module _ {numbered : Bool} (numbering : numbered ≡ hasRightNumbering (headerBefore (state .before)) (heldHeader h)) (numbering-holds : numbered ≡ true)
+        module _ {numbered : Bool}
+            (numbering : numbered ≡ hasRightNumbering (headerBefore (state .before)) (heldHeader h))
+            (numbering-holds : numbered ≡ true)
             {check : EventCheck} {words′ : List ℕ}
-            (checked : passOf check words′ ≡ checkedEvents base (heldHeader h) (state .least) words (splitBy statedEventSize (eventLoop bs))) where
+            (checked : passOf check words′
+            ≡ checkedEvents base (heldHeader h) (state .least) words (splitBy statedEventSize (eventLoop bs))) where
           has-right-numbering : T (hasRightNumbering (p .before) (headerIn bs))
           has-right-numbering = holds (numbering ∙ same-numbering) numbering-holds
 
-          passes : passOf check words′ ≡ checkedEvents base (headerIn bs) (state .least) words (splitBy statedEventSize (eventLoop bs))
+          passes : passOf check words′
+              ≡ checkedEvents base (headerIn bs) (state .least) words (splitBy statedEventSize (eventLoop bs))
           passes =
               checked
-              ∙ ap (λ (g : Header). checkedEvents base g (state .least) words (splitBy statedEventSize (eventLoop bs))) (shown .1)
+              ∙ ap (λ (g : Header). checkedEvents base g (state .least) words (splitBy statedEventSize (eventLoop bs)))
+              (shown .1)
 
           same-loop : check .«is_whole» ≡ isEventLoop base (p .seen) bs
           same-loop = ap (λ (e : EventPass). e .isWhole) passes ∙ loop-checked base bs bytes (p .seen) (tracks .kept)
 
           pub refuses-24 : check .«is_whole» ≡ false → step sizes base p bs ≡ refused 24 offset
-          refuses-24 is = at-offset (step-24 sizes base p bs is-framed has-right-crc (shown .0) has-right-numbering (fails same-loop is))
+          refuses-24 is =
+              at-offset (step-24 sizes base p bs is-framed has-right-crc (shown .0) has-right-numbering
+              (fails same-loop is))
 
           module _ (whole : check .«is_whole» ≡ true) where
             is-loop : T (isEventLoop base (p .seen) bs)
@@ -158,13 +177,16 @@ module _ {offset : ℕ} {state : WalkState} {words : List ℕ} {p : Progress} (t
             unfolding isWithinLimit
             within few = le→leb _ (sizes .«event_limit») (omega (arith, kept-events .0, tracks .count-is))
 
-            pub refuses-26 : sizes .«event_limit» < check .events + state .count → step sizes base p bs ≡ refused 26 offset
+            pub refuses-26 : sizes .«event_limit» < check .events + state .count
+                → step sizes base p bs ≡ refused 26 offset
             refuses-26 many =
-                at-offset (step-26 sizes base p bs is-framed has-right-crc (shown .0) has-right-numbering is-loop (above many))
+                at-offset (step-26 sizes base p bs is-framed has-right-crc (shown .0) has-right-numbering is-loop
+                (above many))
 
             pub goes-on : check .events + state .count ≤ sizes .«event_limit»
                 → SameVerdict (offset + length bs)
-                (Passed (record { before = Behind h; least = check .least; count = state .count + check .events })) words′
+                (Passed (record { before = Behind h; least = check .least; count = state .count + check .events }))
+                words′
                 (step sizes base p bs)
             goes-on few = (
               behind base p bs,

@@ -1,5 +1,5 @@
--- The walk over the sections, one after the other: before each turn the walk over the whole file is the walk over the sections
--- from the offset on (`WalkSoFar`), and what the code keeps is what the definition keeps. Assumes nothing.
+-- The walk over the sections, one after the other: before each turn the walk over the whole file is the walk over the
+-- sections from the offset on (`WalkSoFar`), and what the code keeps is what the definition keeps. Assumes nothing.
 use mathlib.Core.Path.{_≡_, refl, sym, ap, subst, _∙_}
 use mathlib.Core.List.{List, [], _∷_}
 use Prim.Native.Nat.{ℕ, _+_, _≤_, _<_}
@@ -32,7 +32,8 @@ module _ (sizes : Sizes) (base : ℕ) (p : Progress) where
   walk-none = refl
 
   module _ (bs : List ℕ) (rest : List (List ℕ)) where
-    walk-passed : {q : Progress} → step sizes base p bs ≡ passed q → walk sizes base p (bs ∷ rest) ≡ walk sizes base q rest
+    walk-passed : {q : Progress} → step sizes base p bs ≡ passed q
+        → walk sizes base p (bs ∷ rest) ≡ walk sizes base q rest
     unfolding walk
     walk-passed is = rw (walk, is)
 
@@ -67,7 +68,8 @@ module _ {sizes : Sizes} {base : ℕ} {file words : List ℕ} {state : WalkState
     (so-far : WalkSoFar sizes base file words state offset) where
   module _ (here : offset < length file) {section : List ℕ} (is : section ≡ sectionAt file offset)
       (verdict : SectionVerdict) (words′ : List ℕ)
-      (verdict-is : SameVerdict (offset + length section) verdict words′ (step sizes base (so-far .progress) section)) where
+      (verdict-is : SameVerdict (offset + length section) verdict words′
+      (step sizes base (so-far .progress) section)) where
     -- the section is the next piece
     next-piece : {end : ℕ} → end ≡ sectionEnd file offset
         → splitFile (drop offset file) ≡ section ∷ splitFile (drop end file)
@@ -77,7 +79,8 @@ module _ {sizes : Sizes} {base : ℕ} {file words : List ℕ} {state : WalkState
         → SameVerdict (offset + length section) v words′ (step sizes base (so-far .progress) section)
     same-verdict e =
         subst
-        (λ (v : SectionVerdict). SameVerdict (offset + length section) v words′ (step sizes base (so-far .progress) section))
+        (λ (v : SectionVerdict). SameVerdict (offset + length section) v words′
+        (step sizes base (so-far .progress) section))
         e verdict-is
 
     pub walk-stops : {answer : ReadAnswer} → verdict ≡ Refused answer → base ≤ baseDayMax
@@ -114,5 +117,6 @@ module _ {sizes : Sizes} {base : ℕ} {file words : List ℕ} {state : WalkState
   walk-done end legal r ended =
       check-legal sizes base file legal
       ∙ ap (atEnd (length file))
-      (so-far .walked ∙ ap (walk sizes base (so-far .progress)) (walk-end file offset end) ∙ walk-none sizes base (so-far .progress))
+      (so-far .walked ∙ ap (walk sizes base (so-far .progress)) (walk-end file offset end)
+      ∙ walk-none sizes base (so-far .progress))
       ∙ ended

@@ -19,8 +19,9 @@ pub record Tracks (offset : ℕ) (state : WalkState) (words : List ℕ) (p : Pro
   pub kept : EventsSoFar (state .least) words (p .seen)
   pub count-is : length (p .seen) ≡ state .count
 
--- the verdict on a section that ends at `end`, with the set of ids after it, is that of the definition; with a refusal the walk
--- ends, and no one looks at the set again
+-- the verdict on a section that ends at `end`, with the set of ids after it, is that of the definition; with a refusal
+-- the walk ends, and no one looks at the set again
 abbrev pub SameVerdict : ℕ → SectionVerdict → List ℕ → Verdict → Type 0
 SameVerdict end (Passed state) words v = (q : Progress) × (v ≡ passed q) × Tracks end state words q
-SameVerdict end (Refused answer) words v = (v ≡ refused (answerNumber answer) (answerValue answer)) × (answerCount answer ≡ 0)
+SameVerdict end (Refused answer) words v =
+    (v ≡ refused (answerNumber answer) (answerValue answer)) × (answerCount answer ≡ 0)

@@ -1,5 +1,5 @@
-// Read without a record buffer (01, "Build, Read", "When a call says no"): check. It looks at every section once, and writes
-// nothing.
+// Read without a record buffer (01, "Build, Read", "When a call says no"): check. It looks at every section once, and
+// writes nothing.
 use crate::section::SectionVerdict;
 use crate::section::WalkState;
 use eit::Identity;
@@ -23,7 +23,8 @@ mod section;
 // At the end of a file of `size` bytes: it ends after last_table_id, or early.
 fn at_end(state: WalkState, size: usize) -> CheckedFile
     ensures { λ r. ⌜
-        ((p : Progress) (offset : ℕ) (words : List ℕ) → Tracks offset state words p → atEnd size (passed p) ≡ outcomeOf r) ⌝ }
+        ((p : Progress) (offset : ℕ) (words : List ℕ) → Tracks offset state words p
+        → atEnd size (passed p) ≡ outcomeOf r) ⌝ }
 {
     let before = state.before;
     let HeaderBefore::Header(last) = before else {

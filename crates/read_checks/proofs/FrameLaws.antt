@@ -19,7 +19,8 @@ module _ (sizes : Sizes) (bs : List ℕ) {stated : ℕ} (states : stated ≡ sta
   module _ (whole : length bs ≡ stated) where
     pub framed-short : length bs < sectionOverhead → isFramed sizes bs ≡ false
     unfolding isFramed
-    framed-short few = rw (eq-eqb (length bs) (statedSectionSize bs) (whole ∙ states), lt-leb sectionOverhead (length bs) few)
+    framed-short few =
+        rw (eq-eqb (length bs) (statedSectionSize bs) (whole ∙ states), lt-leb sectionOverhead (length bs) few)
 
     module _ (enough : sectionOverhead ≤ length bs) where
       pub framed-long : sizes .«section_limit» < length bs → isFramed sizes bs ≡ false

@@ -1,5 +1,5 @@
--- Each test of a section's header decides where it fails; bytes that are too few for a header show last_table_id 0, which is no
--- table. Assumes nothing.
+-- Each test of a section's header decides where it fails; bytes that are too few for a header show last_table_id 0,
+-- which is no table. Assumes nothing.
 use Prim.Native.Nat.{ℕ, _<_}
 use mathlib.Core.Bool.{true, false, _&&_, and-false}
 use mathlib.Core.List.{List}

@@ -1,5 +1,5 @@
--- The numbers behind a section, case by case: the next of its segment, the first of the next segment, the first of the next table.
--- Assumes nothing.
+-- The numbers behind a section, case by case: the next of its segment, the first of the next segment, the first of the
+-- next table. Assumes nothing.
 use Prim.Native.Nat.{_+_, _≤_, _<_}
 use mathlib.Core.Bool.{_&&_}
 use mathlib.Core.Option.{some}

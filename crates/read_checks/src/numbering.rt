@@ -1,5 +1,5 @@
-// A section's numbers, and how they follow those of the section before it (01, "The file of sections"): S is section_number, G is
-// segment_last_section_number, L is last_section_number.
+// A section's numbers, and how they follow those of the section before it (01, "The file of sections"): S is
+// section_number, G is segment_last_section_number, L is last_section_number.
 use crate::frame::TABLE_FIRST;
 use crate::header::HeaderBefore;
 use codec_section::header::SectionHeader;
@@ -39,7 +39,8 @@ fn is_at(table: u32, number: u32, last: u8, header: SectionHeader) -> bool
         && header.last_section_number == last
 }
 
-// Right behind the section before: the next of its segment, the first of the next segment, or the first of the next table.
+// Right behind the section before: the next of its segment, the first of the next segment, or the first of the next
+// table.
 fn is_behind(last: SectionHeader, header: SectionHeader) -> bool
     ensures { λ r. ⌜ r ≡ isNext (some (heldHeader last)) (heldHeader header) ⌝ }
 {

@@ -27,7 +27,8 @@ use Rattle.read_events.proofs.EventWalkLaws.{whole-record, whole-inside
 -- ---- the equations that a reader expects
 
 module _ (base : ℕ) (h : Header) (n least : ℕ) (words : List ℕ) where
-  pub take-none : takeEvents base h n least words [] ≡ record { isWhole = true; events = n; least = least; words = words }
+  pub take-none : takeEvents base h n least words []
+      ≡ record { isWhole = true; events = n; least = least; words = words }
   unfolding takeEvents
   take-none = refl
 
@@ -39,14 +40,16 @@ module _ (base : ℕ) (h : Header) (n least : ℕ) (words : List ℕ) where
     take-more taken = rw (takeEvents, taken)
 
     pub take-stops : isTaken base h least words bs ≡ false
-        → takeEvents base h n least words (bs ∷ rest) ≡ record { isWhole = false; events = n; least = least; words = words }
+        → takeEvents base h n least words (bs ∷ rest)
+        ≡ record { isWhole = false; events = n; least = least; words = words }
     unfolding takeEvents
     take-stops left = rw (takeEvents, left)
 
 -- ---- before a turn
 
 -- n events are behind the place `at` of the loop, `next` is the least start of the next, and the set has become `words`
-pub record PassSoFar (base : ℕ) (h : Header) (events : List ℕ) (least : ℕ) (words₀ words : List ℕ) (n next at : ℕ) : Type 0 where
+pub record PassSoFar (base : ℕ) (h : Header) (events : List ℕ) (least : ℕ) (words₀ words : List ℕ)
+    (n next at : ℕ) : Type 0 where
   pub pass : takeEvents base h 0 least words₀ (splitBy statedEventSize events)
       ≡ takeEvents base h n next words (splitBy statedEventSize (drop at events))
   pub few : n ≤ at
@@ -54,8 +57,10 @@ pub record PassSoFar (base : ℕ) (h : Header) (events : List ℕ) (least : ℕ)
   pub inside : at ≤ length events
   pub size : length words ≡ length words₀
 
-pub pass-start : (base : ℕ) (h : Header) (events : List ℕ) (least : ℕ) (words : List ℕ) → PassSoFar base h events least words words 0 least 0
-pass-start base h events least words = record { pass = refl; few = omega arith; none = λ e. e; inside = omega arith; size = refl }
+pub pass-start : (base : ℕ) (h : Header) (events : List ℕ) (least : ℕ) (words : List ℕ)
+    → PassSoFar base h events least words words 0 least 0
+pass-start base h events least words =
+    record { pass = refl; few = omega arith; none = λ e. e; inside = omega arith; size = refl }
 
 module _ {base : ℕ} {h : Header} {events : List ℕ} {least : ℕ} {words₀ words : List ℕ} {n next at : ℕ}
     (so-far : PassSoFar base h events least words₀ words n next at) where
@@ -63,10 +68,13 @@ module _ {base : ℕ} {h : Header} {events : List ℕ} {least : ℕ} {words₀ w
   rest = drop at events
 
   -- the loop breaks: all pieces are looked at for S = G = s0, but a test has failed
-  stops : takeEvents base h n next words (splitBy statedEventSize rest) ≡ record { isWhole = false; events = n; least = next; words = words }
-      → checkedEvents base h least words₀ (splitBy statedEventSize events) ≡ record { isWhole = false; events = n; least = next; words = words }
+  stops : takeEvents base h n next words (splitBy statedEventSize rest)
+      ≡ record { isWhole = false; events = n; least = next; words = words }
+      → checkedEvents base h least words₀ (splitBy statedEventSize events)
+      ≡ record { isWhole = false; events = n; least = next; words = words }
   stops stopped =
-      let is : takeEvents base h 0 least words₀ (splitBy statedEventSize events) ≡ record { isWhole = false; events = n; least = next; words = words } =
+      let is : takeEvents base h 0 least words₀ (splitBy statedEventSize events)
+      ≡ record { isWhole = false; events = n; least = next; words = words } =
       so-far .pass ∙ stopped in
       ap (λ (p : EventPass). record {
         isWhole = p .isWhole && isFilledOrAlone h (splitBy statedEventSize events);
@@ -93,8 +101,10 @@ module _ {base : ℕ} {h : Header} {events : List ℕ} {least : ℕ} {words₀ w
       event-is : {b : Bool} → (isInSegment h (r .start) && (leb next (r .start) && not (isSeen words (r .id)))) ≡ b
           → isTaken base h next words (frontEvent rest) ≡ b
       event-is test =
-          let start : r .start ≡ eventIn base (frontEvent rest) .start = ap (λ (r : Record). r .start) (whole-record base rest read) in
-          let id : r .id ≡ eventIn base (frontEvent rest) .id = ap (λ (r : Record). r .id) (whole-record base rest read) in
+          let start : r .start ≡ eventIn base (frontEvent rest) .start =
+          ap (λ (r : Record). r .start) (whole-record base rest read) in
+          let id : r .id ≡ eventIn base (frontEvent rest) .id =
+          ap (λ (r : Record). r .id) (whole-record base rest read) in
           rw (event-whole base h (frontEvent rest), whole-only base rest read .0)
           (ap₂ (λ (s i : ℕ). isInSegment h s && (leb next s && not (isSeen words i))) (sym start) (sym id) ∙ test)
 
@@ -110,21 +120,25 @@ module _ {base : ℕ} {h : Header} {events : List ℕ} {least : ℕ} {words₀ w
           → {words′ : List ℕ} → words′ ≡ withSeen words (r .id) → {next′ : ℕ} → next′ ≡ leastBehind (eventWith r [])
           → PassSoFar base h events least words₀ words′ (n + 1) next′ (at + (eventOverhead + r .«chain_length»))
       pass-more holds {words′} added {next′} behind =
-          let start : eventIn base (frontEvent rest) .start ≡ r .start = sym (ap (λ (r : Record). r .start) (whole-record base rest read)) in
+          let start : eventIn base (frontEvent rest) .start ≡ r .start =
+          sym (ap (λ (r : Record). r .start) (whole-record base rest read)) in
           let duration : eventIn base (frontEvent rest) .duration ≡ r .duration =
           sym (ap (λ (r : Record). r .duration) (whole-record base rest read)) in
           let later : leastBehind (eventIn base (frontEvent rest)) ≡ next′ =
           least-same (eventIn base (frontEvent rest)) (eventWith r []) start duration ∙ sym behind in
-          let id : eventIn base (frontEvent rest) .id ≡ r .id = sym (ap (λ (r : Record). r .id) (whole-record base rest read)) in
+          let id : eventIn base (frontEvent rest) .id ≡ r .id =
+          sym (ap (λ (r : Record). r .id) (whole-record base rest read)) in
           let size : ℕ = eventOverhead + r .«chain_length» in
-          let held : withSeen words (eventIn base (frontEvent rest) .id) ≡ words′ = ap (withSeen words) id ∙ sym added in
+          let held : withSeen words (eventIn base (frontEvent rest) .id) ≡ words′ =
+          ap (withSeen words) id ∙ sym added in
           let room = whole-inside base rest read in
           record {
             pass =
                 so-far .pass
                 ∙ ap (takeEvents base h n next words) (whole-next base rest read)
                 ∙ take-more base h n next words (frontEvent rest) _ (event-is holds)
-                ∙ (λ i. takeEvents base h (n + 1) (later i) (held i) (splitBy statedEventSize (drop-drop size at events i)));
+                ∙ (λ i. takeEvents base h (n + 1) (later i) (held i)
+                (splitBy statedEventSize (drop-drop size at events i)));
             few = omega (arith, so-far .few);
             none = λ never. omega arith;
             inside = omega (arith, room, length-drop at events);
@@ -133,12 +147,16 @@ module _ {base : ℕ} {h : Header} {events : List ℕ} {least : ℕ} {words₀ w
 
   -- at the end of the loop
   module _ (end : length events ≤ at) where
-    ends : takeEvents base h 0 least words₀ (splitBy statedEventSize events) ≡ record { isWhole = true; events = n; least = next; words = words }
-    ends = so-far .pass ∙ ap (λ (bs : List ℕ). takeEvents base h n next words (splitBy statedEventSize bs)) (drop-of-length-le events end)
+    ends : takeEvents base h 0 least words₀ (splitBy statedEventSize events)
+        ≡ record { isWhole = true; events = n; least = next; words = words }
+    ends = so-far .pass
+        ∙ ap (λ (bs : List ℕ). takeEvents base h n next words (splitBy statedEventSize bs))
+        (drop-of-length-le events end)
         ∙ ap (takeEvents base h n next words) (split-nil statedEventSize) ∙ take-none base h n next words
 
     pub pass-end : {b : Bool} → isFilledOrAlone h (splitBy statedEventSize events) ≡ b
-        → checkedEvents base h least words₀ (splitBy statedEventSize events) ≡ record { isWhole = b; events = n; least = next; words = words }
+        → checkedEvents base h least words₀ (splitBy statedEventSize events)
+        ≡ record { isWhole = b; events = n; least = next; words = words }
     pass-end {b} filled =
         ap (λ (p : EventPass). record {
           isWhole = p .isWhole && isFilledOrAlone h (splitBy statedEventSize events);
@@ -150,7 +168,8 @@ module _ {base : ℕ} {h : Header} {events : List ℕ} {least : ℕ} {words₀ w
 
     pub filled-some : 0 < n → isFilledOrAlone h (splitBy statedEventSize events) ≡ true
     filled-some some =
-        ap (isFilledOrAlone h) (split-next statedEventSize events (omega (arith, so-far .few, so-far .inside)) (omega arith))
+        ap (isFilledOrAlone h)
+        (split-next statedEventSize events (omega (arith, so-far .few, so-far .inside)) (omega arith))
 
     empty : length events ≤ 0 → events ≡ []
     empty none = drop-of-length-le events none

@@ -1,5 +1,5 @@
--- An event that is read whole is the next piece of its event loop, and its chain length leads to the piece behind it: its bytes
--- are as many as they state. Assumes nothing.
+-- An event that is read whole is the next piece of its event loop, and its chain length leads to the piece behind it:
+-- its bytes are as many as they state. Assumes nothing.
 use mathlib.Core.Path.{_≡_, sym, ap, subst, _∙_}
 use mathlib.Core.Logic.{⊎-elim}
 use mathlib.Core.Bool.{Bool, _&&_, _||_}
@@ -34,7 +34,8 @@ module _ (base : ℕ) (bs : List ℕ) (whole : T (isWholeEvent base bs)) where
 
   whole-stated : length bs ≡ statedEventSize bs
   unfolding isWholeEvent
-  whole-stated = eqb→eq (length bs) (statedEventSize bs) (and-left (eqb (length bs) (statedEventSize bs)) rest-tests whole)
+  whole-stated =
+      eqb→eq (length bs) (statedEventSize bs) (and-left (eqb (length bs) (statedEventSize bs)) rest-tests whole)
 
 module _ (base : ℕ) (bs : List ℕ) {r : Record} (read : eventRead base bs ≡ Whole r) where
   holds : T (isWholeEvent base (frontEvent bs))
@@ -57,13 +58,15 @@ module _ (base : ℕ) (bs : List ℕ) {r : Record} (read : eventRead base bs ≡
 
   chain-size : eventOverhead + r .«chain_length» ≡ statedEventSize bs
   chain-size =
-      let chain : r .«chain_length» ≡ length (drop eventOverhead (frontEvent bs)) = ap (λ (r : Record). r .«chain_length») whole-record in
+      let chain : r .«chain_length» ≡ length (drop eventOverhead (frontEvent bs)) =
+      ap (λ (r : Record). r .«chain_length») whole-record in
       omega (arith, chain, length-drop eventOverhead (frontEvent bs), front-size)
 
   pub whole-inside : eventOverhead + r .«chain_length» ≤ length bs
   whole-inside = omega (arith, chain-size, front-size, length-take (statedEventSize bs) bs)
 
-  pub whole-next : splitBy statedEventSize bs ≡ frontEvent bs ∷ splitBy statedEventSize (drop (eventOverhead + r .«chain_length») bs)
+  pub whole-next : splitBy statedEventSize bs
+      ≡ frontEvent bs ∷ splitBy statedEventSize (drop (eventOverhead + r .«chain_length») bs)
   whole-next =
       split-next statedEventSize bs (omega (arith, whole-inside)) (omega arith)
       ∙ ap (λ (n : ℕ). frontEvent bs ∷ splitBy statedEventSize (drop n bs)) (sym chain-size)

@@ -1,5 +1,5 @@
--- The pass that keeps a least start and a set of ids judges as 24 does, which looks back at the events themselves: the least
--- start is that behind the latest event, and the set holds the ids of all (`EventsSoFar`). Assumes nothing.
+-- The pass that keeps a least start and a set of ids judges as 24 does, which looks back at the events themselves: the
+-- least start is that behind the latest event, and the set holds the ids of all (`EventsSoFar`). Assumes nothing.
 use mathlib.Core.Path.{_≡_, refl, sym, ap, subst, _∙_}
 use mathlib.Core.Logic.{⊎-elim}
 use mathlib.Core.Bool.{not, _&&_}
@@ -32,11 +32,14 @@ so-far-start = record { least-is = refl; ids = seen-empty 1024; room = length-re
 
 -- one event
 module _ {least : ℕ} {words : List ℕ} (e : Event) (id : e .id < 65_536) where
-  so-far-new : (seen : List Event) → EventsSoFar least words seen → (leb least (e .start) && not (isSeen words (e .id))) ≡ isNew seen e
-  so-far-new [] kept = rw (kept .least-is, le-leb 0 (e .start) (omega arith), kept .ids (e .id) (omega (arith, kept .room)))
+  so-far-new : (seen : List Event) → EventsSoFar least words seen
+      → (leb least (e .start) && not (isSeen words (e .id))) ≡ isNew seen e
+  so-far-new [] kept =
+      rw (kept .least-is, le-leb 0 (e .start) (omega arith), kept .ids (e .id) (omega (arith, kept .room)))
   so-far-new (d ∷ seen) kept = rw (kept .least-is, follows-least d e, kept .ids (e .id) (omega (arith, kept .room)))
 
-  so-far-more : {seen : List Event} → EventsSoFar least words seen → EventsSoFar (leastBehind e) (withSeen words (e .id)) (e ∷ seen)
+  so-far-more : {seen : List Event} → EventsSoFar least words seen
+      → EventsSoFar (leastBehind e) (withSeen words (e .id)) (e ∷ seen)
   so-far-more {seen} kept = record {
     least-is = refl;
     ids = seen-more words (eventIds seen) (e .id) (kept .ids) (omega (arith, kept .room));
@@ -60,7 +63,8 @@ module _ (base : ℕ) (h : Header) where
     pub events : pass .events ≡ n + length pieces
     pub kept : EventsSoFar (pass .least) (pass .words) (reverse (map (eventIn base) pieces) ++ seen)
 
-  take-forth : (n : ℕ) {least : ℕ} {words : List ℕ} (pieces : List (List ℕ)) (seen : List Event) → Bytes (flatten pieces)
+  take-forth : (n : ℕ) {least : ℕ} {words : List ℕ} (pieces : List (List ℕ)) (seen : List Event)
+      → Bytes (flatten pieces)
       → EventsSoFar least words seen → T (takeEvents base h n least words pieces .isWhole)
       → Taken n pieces seen (takeEvents base h n least words pieces)
   unfolding flatten
@@ -76,7 +80,9 @@ module _ (base : ℕ) (h : Header) where
       let event : T (isEvent base h bs) = and-left (isEvent base h bs) _ taken in
       let id = id-below bs front event in
       let new : T (isNew seen e) = subst T (so-far-new e id seen kept) (and-right (isEvent base h bs) _ taken) in
-      let others = take-forth (n + 1) rest (e ∷ seen) behind (so-far-more e id kept) (subst (λ (p : EventPass). T (p .isWhole)) goes-on whole) in
+      let others =
+      take-forth (n + 1) rest (e ∷ seen) behind (so-far-more e id kept)
+      (subst (λ (p : EventPass). T (p .isWhole)) goes-on whole) in
       subst (Taken n (bs ∷ rest) seen) (sym goes-on)
       (record {
         are = and-both (isEvent base h bs) (areEvents base h rest) event (others .are);
@@ -85,7 +91,8 @@ module _ (base : ℕ) (h : Header) where
         kept = subst (EventsSoFar _ _) (latest-first e (map (eventIn base) rest) seen) (others .kept);
       }))
       (λ (left : T (not (isTaken base h least words bs))).
-      absurd (subst (λ (p : EventPass). T (p .isWhole)) (take-stops base h n least words bs rest (false-is _ left)) whole))
+      absurd (subst (λ (p : EventPass). T (p .isWhole)) (take-stops base h n least words bs rest (false-is _ left))
+      whole))
       (test-or (isTaken base h least words bs))
 
   take-back : (n : ℕ) {least : ℕ} {words : List ℕ} (pieces : List (List ℕ)) (seen : List Event) → Bytes (flatten pieces)
@@ -102,11 +109,13 @@ module _ (base : ℕ) (h : Header) where
       let taken : T (isTaken base h least words bs) =
       and-both (isEvent base h bs) _ event (subst T (sym (so-far-new e id seen kept)) first) in
       rw (take-more base h n least words bs rest (true-is _ taken))
-      (take-back (n + 1) rest (e ∷ seen) behind (so-far-more e id kept) (and-right (isEvent base h bs) (areEvents base h rest) are)
+      (take-back (n + 1) rest (e ∷ seen) behind (so-far-more e id kept)
+      (and-right (isEvent base h bs) (areEvents base h rest) are)
       (and-right (isNew seen e) _ new))
 
 -- a section's event loop
-module _ (base : ℕ) (bs : List ℕ) (bytes : Bytes bs) {least : ℕ} {words : List ℕ} (seen : List Event) (kept : EventsSoFar least words seen) where
+module _ (base : ℕ) (bs : List ℕ) (bytes : Bytes bs) {least : ℕ} {words : List ℕ} (seen : List Event)
+    (kept : EventsSoFar least words seen) where
   abbrev loop : List (List ℕ)
   loop = splitBy statedEventSize (eventLoop bs)
 
@@ -137,7 +146,8 @@ module _ (base : ℕ) (bs : List ℕ) (bytes : Bytes bs) {least : ℕ} {words : 
       (and-left (isFilledOrAlone (headerIn bs) loop) _ rest))
 
   pub loop-so-far : T (pass .isWhole)
-      → (pass .events ≡ length (splitEvents bs)) × EventsSoFar (pass .least) (pass .words) (reverse (map (eventIn base) (splitEvents bs)) ++ seen)
+      → (pass .events ≡ length (splitEvents bs))
+      × EventsSoFar (pass .least) (pass .words) (reverse (map (eventIn base) (splitEvents bs)) ++ seen)
   unfolding splitEvents
   loop-so-far whole =
       let taken = take-forth base (headerIn bs) 0 loop seen loop-bytes kept (and-left (taking .isWhole) _ whole) in

@@ -1,5 +1,5 @@
--- A pass over a section's events that keeps the least start that the next event may have, and the ids so far as a set (01, "The
--- file of sections": over the file starts rise strictly, ids differ). Laws: proofs/EventPassLaws.antt,
+-- A pass over a section's events that keeps the least start that the next event may have, and the ids so far as a set
+-- (01, "The file of sections": over the file starts rise strictly, ids differ). Laws: proofs/EventPassLaws.antt,
 -- proofs/EventsSoFarLaws.antt. Assumes nothing.
 use Prim.Native.Nat.{ℕ, _+_}
 use mathlib.Core.Bool.{Bool, true, false, not, _&&_}

@@ -1,5 +1,5 @@
--- A walk from section to section meets the pieces into which the file is split, one after the other: the step of `splitBy`, at the
--- place reached. Assumes nothing.
+-- A walk from section to section meets the pieces into which the file is split, one after the other: the step of
+-- `splitBy`, at the place reached. Assumes nothing.
 use mathlib.Core.Path.{_≡_, sym, _∙_, ap}
 use Prim.Native.Nat.{ℕ, _+_, _≤_, _<_}
 use mathlib.Core.List.{List, [], _∷_}
@@ -14,7 +14,8 @@ use Rattle.read_walk.specs.SectionAt.{sectionAt, sectionEnd}
 -- what stands behind the first n bytes, counted by the bytes that there are
 behind-front : (n : ℕ) (bs : List ℕ) → drop n bs ≡ drop (length (take n bs)) bs
 behind-front n bs =
-    sym (drop-append-seam (take n bs) (drop n bs)) ∙ ap (λ (all : List ℕ). drop (length (take n bs)) all) (take-append-drop n bs)
+    sym (drop-append-seam (take n bs) (drop n bs))
+    ∙ ap (λ (all : List ℕ). drop (length (take n bs)) all) (take-append-drop n bs)
 
 module _ (file : List ℕ) (offset : ℕ) where
   -- behind the file's end there are no sections

@@ -54,7 +54,8 @@ pub fn write_put(
     fields::write_field(script, at + 16, 2, chain_length);
 }
 
-// PUTs of n events a second apart from `start` on, with ids from 1 on and equal chains. Returns how many bytes they are.
+// PUTs of n events a second apart from `start` on, with ids from 1 on and equal chains. Returns how many bytes they
+// are.
 pub fn write_row(script: &mut [u8], start: u32, n: usize, chain_length: usize) -> usize
     requires { ⌜ n ≤ 340 ⌝ }
     ensures { λ r. ⌜ r ≡ n * 18 ⌝ }

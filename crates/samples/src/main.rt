@@ -1,5 +1,5 @@
-// Program samples: the test program of document 01 ("Samples with the cuts marked"). It carries the samples out by the calls of the
-// library, and prints what they say and how the files are cut.
+// Program samples: the test program of document 01 ("Samples with the cuts marked"). It carries the samples out by the
+// calls of the library, and prints what they say and how the files are cut.
 use libc::STDERR_FILENO;
 use libc::STDOUT_FILENO;
 

@@ -42,7 +42,8 @@ pub fn crc() {
     lines::print_bytes(&bytes);
 }
 
-// The example of EN 300 468, annex C; the limits of the annex, and a day before and after; the most that two bytes hold.
+// The example of EN 300 468, annex C; the limits of the annex, and a day before and after; the most that two bytes
+// hold.
 pub fn days() {
     lines::print_heading(b"MJD 45,218 is 1982-09-06");
     lines::print_date(45_218);

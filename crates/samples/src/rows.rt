@@ -14,7 +14,8 @@ pub fn show_row(heading: &[u8], start: u32, n: usize, day: &[u8])
     show::show_script(&script[..size], day, b"");
 }
 
-// Two events, a second apart, the first with the whole day pool as its chain and the second with the series pool, under a heading.
+// Two events, a second apart, the first with the whole day pool as its chain and the second with the series pool, under
+// a heading.
 pub fn show_pair<'a>(heading: &[u8], start: u32, day: &'a [u8], series: &'a [u8]) {
     lines::print_heading(heading);
     let mut script = [0u8; 2 * lists::PUT_SIZE];

@@ -21,11 +21,13 @@ use Rattle.samples_proved.specs.SampleLists.{chainOf}
 use Rattle.samples_proved.specs.SampleCalls.{answer}
 use Rattle.samples_proved.specs.Samples.{Samples}
 
-plain-339 : answer (plainEvents 0 339) ≡ record { number = 11; value = sectionOverhead + 339 * eventOverhead; output = [] }
+plain-339 : answer (plainEvents 0 339)
+    ≡ record { number = 11; value = sectionOverhead + 339 * eventOverhead; output = [] }
 unfolding build sound eventsOf recordsOf follows choose isChain row
 plain-339 = refl
 
-plain-340 : answer (plainEvents 0 340) ≡ record { number = 11; value = 2 * sectionOverhead + 340 * eventOverhead; output = [] }
+plain-340 : answer (plainEvents 0 340)
+    ≡ record { number = 11; value = 2 * sectionOverhead + 340 * eventOverhead; output = [] }
 unfolding build sound eventsOf recordsOf follows choose isChain row
 plain-340 = refl
 

@@ -22,4 +22,5 @@ pub record Limits : Type 0 where
   pub later-build : answer overlongLater ≡ record { number = 10; value = 33; output = [] }
   -- whatever the output
   pub unpackable :
-      buildOf overlong 49_273 0 (replicate 9_999 0xAA) ≡ record { number = 10; value = 33; output = replicate 9_999 0xAA }
+      buildOf overlong 49_273 0 (replicate 9_999 0xAA)
+      ≡ record { number = 10; value = 33; output = replicate 9_999 0xAA }

@@ -40,7 +40,8 @@ abbrev pub numbers : Case → List (ℕ × ℕ × ℕ × ℕ)
 numbers c =
     sectionsWith
     (λ (s : Section).
-    let h = s .header in (h .sectionNumber, h .segmentLastSectionNumber, h .lastSectionNumber, h .lastTableId)) broadcast c
+    let h = s .header in (h .sectionNumber, h .segmentLastSectionNumber, h .lastSectionNumber, h .lastTableId))
+    broadcast c
 
 -- cuts of n segments without events, from section 0 of a table on; and of n tables without events
 abbrev pub emptySegmentCuts : ℕ → ℕ → List (ℕ × ℕ × ℕ)

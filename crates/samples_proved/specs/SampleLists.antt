@@ -35,7 +35,8 @@ pair first second = caseOf (chainOf first) (chainOf second) (eventRecord 1 0 0 f
 
 -- one event of 01:45:30
 abbrev pub programme : ℕ → Case
-programme start = caseOf [] [] (record { id = 1; start = start; duration = 6_330; marks = 0; offset = 0; «chain_length» = 0 } ∷ [])
+programme start =
+    caseOf [] [] (record { id = 1; start = start; duration = 6_330; marks = 0; offset = 0; «chain_length» = 0 } ∷ [])
 
 -- twelve zeros that hold no event
 abbrev pub zeros : EventList

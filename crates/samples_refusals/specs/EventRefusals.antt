@@ -4,15 +4,19 @@ use mathlib.Core.Path.{_≡_}
 use mathlib.Core.List.{[], _∷_, _++_}
 use Rattle.eit.specs.Sizes.{broadcast}
 use Rattle.sections.specs.Read.{checkFile, read}
-use Rattle.sections.specs.Files.{section, eventAt, withEvent, startAtOne, oneHour, noDescriptors, checkAnswer, refusedWith}
+use Rattle.sections.specs.Files.{section, eventAt, withEvent, startAtOne, oneHour, noDescriptors, checkAnswer}
+use Rattle.sections.specs.Files.{refusedWith}
 
 pub record EventRefusals : Type 0 where
   pub event-kept : checkAnswer (withEvent startAtOne oneHour noDescriptors) .number ≡ 0
-  pub other-table : checkAnswer (withEvent (0xC0 ∷ 0x7D ∷ 0x01 ∷ 0x00 ∷ 0x00 ∷ []) oneHour noDescriptors) ≡ refusedWith 24 0
-  pub before-base : checkAnswer (withEvent (0xC0 ∷ 0x78 ∷ 0x01 ∷ 0x00 ∷ 0x00 ∷ []) oneHour noDescriptors) ≡ refusedWith 24 0
+  pub other-table : checkAnswer (withEvent (0xC0 ∷ 0x7D ∷ 0x01 ∷ 0x00 ∷ 0x00 ∷ []) oneHour noDescriptors)
+      ≡ refusedWith 24 0
+  pub before-base : checkAnswer (withEvent (0xC0 ∷ 0x78 ∷ 0x01 ∷ 0x00 ∷ 0x00 ∷ []) oneHour noDescriptors)
+      ≡ refusedWith 24 0
   -- 24:00 of the day before the base day: refused for that day, too
   pub hour-24 : checkAnswer (withEvent (0xC0 ∷ 0x78 ∷ 0x24 ∷ 0x00 ∷ 0x00 ∷ []) oneHour noDescriptors) ≡ refusedWith 24 0
-  pub no-digit : checkAnswer (withEvent (0xC0 ∷ 0x79 ∷ 0x00 ∷ 0x0A ∷ 0x00 ∷ []) oneHour noDescriptors) ≡ refusedWith 24 0
+  pub no-digit : checkAnswer (withEvent (0xC0 ∷ 0x79 ∷ 0x00 ∷ 0x0A ∷ 0x00 ∷ []) oneHour noDescriptors)
+      ≡ refusedWith 24 0
   pub no-duration : checkAnswer (withEvent startAtOne (0x00 ∷ 0x00 ∷ 0x00 ∷ []) noDescriptors) ≡ refusedWith 24 0
   pub duration-most : checkAnswer (withEvent startAtOne (0x99 ∷ 0x59 ∷ 0x59 ∷ []) noDescriptors) .number ≡ 0
   pub minute-60 : checkAnswer (withEvent startAtOne (0x01 ∷ 0x60 ∷ 0x00 ∷ []) noDescriptors) ≡ refusedWith 24 0
@@ -36,11 +40,13 @@ pub record EventRefusals : Type 0 where
       ≡ refusedWith 24 0
   -- 26, behind 24 and before 25
   pub limit-held :
-      checkFile (record { «section_limit» = 4_096; «event_limit» = 1 }) 49_273 (withEvent startAtOne oneHour noDescriptors) .number ≡ 0
+      checkFile (record { «section_limit» = 4_096; «event_limit» = 1 }) 49_273
+      (withEvent startAtOne oneHour noDescriptors) .number ≡ 0
   pub above-limit-early : checkFile (record { «section_limit» = 4_096; «event_limit» = 1 }) 49_273
       (section 0x50 0 8 0 0x50 (eventAt 1 0x00 0x00 ++ eventAt 2 0x00 0x30)) ≡ refusedWith 26 0
   pub above-limit-next : checkFile (record { «section_limit» = 4_096; «event_limit» = 1 }) 49_273
-      (section 0x50 0 8 0 0x50 (eventAt 1 0x00 0x00) ++ section 0x50 8 8 8 0x50 (eventAt 2 0x03 0x00)) ≡ refusedWith 26 30
+      (section 0x50 0 8 0 0x50 (eventAt 1 0x00 0x00) ++ section 0x50 8 8 8 0x50 (eventAt 2 0x03 0x00))
+      ≡ refusedWith 26 30
   -- 25, with the file's length, and 27 behind it
   pub empty-file : checkAnswer [] ≡ refusedWith 25 0
   pub segment-early : checkAnswer (section 0x50 0 1 1 0x50 (eventAt 1 0x00 0x00)) ≡ refusedWith 25 30

@@ -5,7 +5,8 @@ use mathlib.Core.List.{[], _∷_, _++_}
 use lib.ListN.{take}
 use Rattle.eit.specs.Sizes.{broadcast}
 use Rattle.sections.specs.Read.{checkFile}
-use Rattle.sections.specs.Files.{withCrc, section, withBits, withIdentity, eventAt, withEvent, startAtOne, oneHour, noDescriptors, checkAnswer, refusedWith}
+use Rattle.sections.specs.Files.{withCrc, section, withBits, withIdentity, eventAt, withEvent, startAtOne, oneHour}
+use Rattle.sections.specs.Files.{noDescriptors, checkAnswer, refusedWith}
 
 pub record Refusals : Type 0 where
   pub base : checkFile broadcast 65_473 [] ≡ refusedWith 1 0
@@ -17,12 +18,15 @@ pub record Refusals : Type 0 where
   pub table-below : checkAnswer (section 0x4F 0 0 0 0x50 []) ≡ refusedWith 20 0
   pub table-above : checkAnswer (section 0x50 0 0 0 0x50 [] ++ section 0x60 0 0 0 0x50 []) ≡ refusedWith 20 18
   pub too-short :
-      checkAnswer (withCrc (0x50 ∷ 0xF0 ∷ 0x0E ∷ 0x00 ∷ 0x01 ∷ 0xC1 ∷ 0x00 ∷ 0x00 ∷ 0x00 ∷ 0x02 ∷ 0x00 ∷ 0x03 ∷ 0x00 ∷ []))
+      checkAnswer
+      (withCrc (0x50 ∷ 0xF0 ∷ 0x0E ∷ 0x00 ∷ 0x01 ∷ 0xC1 ∷ 0x00 ∷ 0x00 ∷ 0x00 ∷ 0x02 ∷ 0x00 ∷ 0x03 ∷ 0x00 ∷ []))
       ≡ refusedWith 20 0
   pub too-long :
-      checkFile (record { «section_limit» = 29; «event_limit» = 9 }) 49_273 (withEvent startAtOne oneHour noDescriptors) ≡ refusedWith 20 0
+      checkFile (record { «section_limit» = 29; «event_limit» = 9 }) 49_273 (withEvent startAtOne oneHour noDescriptors)
+      ≡ refusedWith 20 0
   pub just-fits :
-      checkFile (record { «section_limit» = 30; «event_limit» = 9 }) 49_273 (withEvent startAtOne oneHour noDescriptors) .number ≡ 0
+      checkFile (record { «section_limit» = 30; «event_limit» = 9 }) 49_273
+      (withEvent startAtOne oneHour noDescriptors) .number ≡ 0
   -- 21, before 22
   pub crc :
       checkAnswer (0x50 ∷ 0xF0 ∷ 0x0F ∷ 0x00 ∷ 0x01 ∷ 0xC0 ∷ 0x00 ∷ 0x00 ∷ 0x00 ∷ 0x02 ∷ 0x00 ∷ 0x03 ∷ 0x00 ∷ 0x50

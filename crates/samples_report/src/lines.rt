@@ -63,7 +63,8 @@ fn print_field(section: &[u8], at: usize) {
     print_next(fields::read_field(section, at, 1) as usize);
 }
 
-// The line of a section: offset, table_id, section_number, segment_last_section_number, last_section_number, number of events.
+// The line of a section: offset, table_id, section_number, segment_last_section_number, last_section_number, number of
+// events.
 fn print_cut(offset: usize, section: &[u8]) {
     print_number(offset);
     print_field(section, 0);

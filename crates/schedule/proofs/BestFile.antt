@@ -1,5 +1,5 @@
--- Build's file is best: in every segment no accepted file with the same events has fewer sections, or more events in its first k. By the
--- best packing of the segment's events, counted in the bytes of both. Assumes nothing.
+-- Build's file is best: in every segment no accepted file with the same events has fewer sections, or more events in
+-- its first k. By the best packing of the segment's events, counted in the bytes of both. Assumes nothing.
 use mathlib.Core.Path.{_≡_, ap}
 use mathlib.Core.List.{List}
 use Prim.Native.Nat.{ℕ, _≤_}
@@ -14,7 +14,8 @@ use Rattle.schedule.specs.Given.{Given, built, events, Carries}
 use Rattle.schedule.proofs.Best.{best-fewest, best-most}
 use Rattle.schedule.proofs.Given.{LegalSizes, facts, writes, rival-rules, rival-events, own-counted, own-held}
 
-module _ (sizes : Sizes) (legal : LegalSizes sizes) (g : Given sizes) (output : List ℕ) (zero : built g output .number ≡ 0)
+module _ (sizes : Sizes) (legal : LegalSizes sizes) (g : Given sizes) (output : List ℕ)
+    (zero : built g output .number ≡ 0)
     (file : List ℕ) (c : Carries g file) (index : ℕ) where
   pub fewest : sectionsCounted (g .base) (fileOf (built g output)) index ≤ sectionsCounted (g .base) file index
   fewest =
@@ -28,7 +29,8 @@ module _ (sizes : Sizes) (legal : LegalSizes sizes) (g : Given sizes) (output : 
             (rival-rules g file c) (rival-events g file c) (g .identity) index,
       )
 
-  pub most : (k : ℕ) → k ≤ 8 → eventsCounted (g .base) file index k ≤ eventsCounted (g .base) (fileOf (built g output)) index k
+  pub most : (k : ℕ) → k ≤ 8
+      → eventsCounted (g .base) file index k ≤ eventsCounted (g .base) (fileOf (built g output)) index k
   most k few =
       let (fits, is, enough, own) = writes g output zero in
       omega (
@@ -37,5 +39,6 @@ module _ (sizes : Sizes) (legal : LegalSizes sizes) (g : Given sizes) (output : 
         own-held legal g fits index k,
         held-is (g .base) file index k,
         best-most sizes (events g) (facts g) (checkFile sizes (g .base) file .identity) (sectionsIn (g .base) file)
-            (rival-rules g file c) (rival-events g file c) (g .identity) index (legal .least) (g .legalIdentity) fits k few,
+            (rival-rules g file c) (rival-events g file c) (g .identity) index (legal .least) (g .legalIdentity) fits k
+            few,
       )

@@ -28,7 +28,8 @@ use Rattle.schedule.specs.Build.{Built, refusal, written, buildEvents, b
 -- ---- 1, 2, 12, and the rest
 
 module _ (sizes : Sizes) (pools : Pools) (list : EventList) (base : ℕ) (identity : Identity) (output : List ℕ) where
-  pub build-base : baseDayMax < base → build sizes pools list base identity output ≡ record { number = 1; value = 0; output = output }
+  pub build-base : baseDayMax < base
+      → build sizes pools list base identity output ≡ record { number = 1; value = 0; output = output }
   unfolding build
   build-base above = rw (build, lt-leb base baseDayMax above)
 
@@ -43,13 +44,23 @@ module _ (sizes : Sizes) (pools : Pools) (list : EventList) (base : ℕ) (identi
           → build sizes pools list base identity output ≡ record { number = 12; value = 0; output = output }
       unfolding build
       build-unsound unsound =
-          rw (build, le-leb base baseDayMax day, le-leb (identity .version) versionMax version, false-is (sound sizes pools list) unsound)
+          rw (
+            build,
+            le-leb base baseDayMax day,
+            le-leb (identity .version) versionMax version,
+            false-is (sound sizes pools list) unsound,
+          )
 
       pub build-sound : T (sound sizes pools list)
           → build sizes pools list base identity output ≡ buildEvents sizes base identity (eventsOf pools list) output
       unfolding build
       build-sound is =
-          rw (build, le-leb base baseDayMax day, le-leb (identity .version) versionMax version, true-is (sound sizes pools list) is)
+          rw (
+            build,
+            le-leb base baseDayMax day,
+            le-leb (identity .version) versionMax version,
+            true-is (sound sizes pools list) is,
+          )
 
 -- ---- 10
 
@@ -87,7 +98,8 @@ module _ (base : ℕ) (ss : List Section) (output : List ℕ) where
 
   pub written-file : sectionSizes ss ≤ length output → fileOf (written base ss output) ≡ fileBytes base ss
   written-file fits =
-      ap₂ (λ (n : ℕ) (bs : List ℕ). take n bs) (ap (λ (b : Built). b .value) (written-fits fits) ∙ sym (file-length base ss))
+      ap₂ (λ (n : ℕ) (bs : List ℕ). take n bs)
+      (ap (λ (b : Built). b .value) (written-fits fits) ∙ sym (file-length base ss))
       (written-output fits)
       ∙ take-append-seam (fileBytes base ss) (drop (sectionSizes ss) output)
 
@@ -102,23 +114,30 @@ module _ (P : Built → Type 0) (sizes : Sizes) (base : ℕ) (identity : Identit
     (success : (ss : List Section) → sectionSizes ss ≤ length output → P (written base ss output)) where
   written-is : (ss : List Section) → P (written base ss output)
   written-is ss =
-      ⊎-elim (success ss) (λ short. subst P (sym (written-short base ss output short)) (refused 11 (sectionSizes ss) (λ e. omega arith)))
+      ⊎-elim (success ss)
+      (λ short. subst P (sym (written-short base ss output short))
+      (refused 11 (sectionSizes ss) (λ e. omega arith)))
       (le-or-lt (sectionSizes ss) (length output))
 
   events-is : (es : List Event) → P (buildEvents sizes base identity es output)
   events-is es =
       ⊎-elim
-      (λ packable. subst P (sym (events-written sizes base identity es output packable)) (written-is (sectionsOf sizes identity es)))
-      (λ (index, lowest). subst P (sym (events-refused sizes base identity es output index lowest)) (refused 10 index (λ e. omega arith)))
+      (λ packable. subst P (sym (events-written sizes base identity es output packable))
+      (written-is (sectionsOf sizes identity es)))
+      (λ (index, lowest). subst P (sym (events-refused sizes base identity es output index lowest))
+      (refused 10 index (λ e. omega arith)))
       (none-or-some (lowestUnpackable sizes es))
 
   pub build-is : (pools : Pools) (list : EventList) → P (build sizes pools list base identity output)
   build-is pools list =
       ⊎-elim (λ day. ⊎-elim (λ version. ⊎-elim
-      (λ is. subst P (sym (build-sound sizes pools list base identity output day version is)) (events-is (eventsOf pools list)))
-      (λ unsound. subst P (sym (build-unsound sizes pools list base identity output day version unsound)) (refused 12 0 (λ e. omega arith)))
+      (λ is. subst P (sym (build-sound sizes pools list base identity output day version is))
+      (events-is (eventsOf pools list)))
+      (λ unsound. subst P (sym (build-unsound sizes pools list base identity output day version unsound))
+      (refused 12 0 (λ e. omega arith)))
       (test-or (sound sizes pools list)))
-      (λ above. subst P (sym (build-version sizes pools list base identity output day above)) (refused 2 0 (λ e. omega arith)))
+      (λ above. subst P (sym (build-version sizes pools list base identity output day above))
+      (refused 2 0 (λ e. omega arith)))
       (le-or-lt (identity .version) versionMax))
       (λ above. subst P (sym (build-base sizes pools list base identity output above)) (refused 1 0 (λ e. omega arith)))
       (le-or-lt base baseDayMax)
@@ -144,9 +163,11 @@ module _ (sizes : Sizes) (pools : Pools) (list : EventList) (base : ℕ) (identi
       (sym (build-sound sizes pools list base identity output day version is
       ∙ events-written sizes base identity (eventsOf pools list) output ends))
       (written-packs (sectionsOf sizes identity (eventsOf pools list))))
-      (λ above. subst Packs (sym (build-version sizes pools list base identity output day above)) (λ e. omega arith, λ e. omega arith))
+      (λ above. subst Packs (sym (build-version sizes pools list base identity output day above))
+      (λ e. omega arith, λ e. omega arith))
       (le-or-lt (identity .version) versionMax))
-      (λ above. subst Packs (sym (build-base sizes pools list base identity output above)) (λ e. omega arith, λ e. omega arith))
+      (λ above. subst Packs (sym (build-base sizes pools list base identity output above))
+      (λ e. omega arith, λ e. omega arith))
       (le-or-lt base baseDayMax)
 
 -- ---- what Build leaves
@@ -166,7 +187,8 @@ module _ (sizes : Sizes) (pools : Pools) (list : EventList) (base : ℕ) (identi
       → let b = build sizes pools list base identity output in
       b .output ≡ fileOf b ++ drop (b .value) output
   build-beyond =
-      build-is (λ (b : Built). b .number ≡ 0 → b .output ≡ fileOf b ++ drop (b .value) output) sizes base identity output
+      build-is (λ (b : Built). b .number ≡ 0 → b .output ≡ fileOf b ++ drop (b .value) output) sizes base identity
+      output
       (λ number value refused zero. absurd (refused zero))
       (λ ss fits zero.
       written-output base ss output fits

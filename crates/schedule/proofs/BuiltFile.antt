@@ -1,6 +1,6 @@
--- Three laws of Build's file: it depends on the events alone, not on how records and pools hold them; its length is 18 bytes
--- for each section and the bytes of the events; and Read of it, built again under the identity read, gives the same bytes.
--- Assumes nothing.
+-- Three laws of Build's file: it depends on the events alone, not on how records and pools hold them; its length is 18
+-- bytes for each section and the bytes of the events; and Read of it, built again under the identity read, gives the
+-- same bytes. Assumes nothing.
 use mathlib.Core.Path.{_≡_, refl, sym, ap, _∙_}
 use mathlib.Core.Logic.{⊎-elim}
 use mathlib.Core.List.{List, [], _∷_, _++_}
@@ -32,7 +32,8 @@ use Rattle.schedule.proofs.Given.{LegalSizes, ownSections, own-rules, o
 use Rattle.schedule.proofs.Demands.{demands-for}
 
 -- Build of two sound lists with the same events is the same, for every base day, identity and output
-pub events-alone : (sizes : Sizes) (p q : Pools) (list other : EventList) (base : ℕ) (identity : Identity) (output : List ℕ)
+pub events-alone : (sizes : Sizes) (p q : Pools) (list other : EventList) (base : ℕ) (identity : Identity)
+    (output : List ℕ)
     → T (sound sizes p list) → T (sound sizes q other) → eventsOf p list ≡ eventsOf q other
     → build sizes p list base identity output ≡ build sizes q other base identity output
 events-alone sizes p q list other base identity output is also same =
@@ -41,9 +42,11 @@ events-alone sizes p q list other base identity output is also same =
     build-sound sizes p list base identity output day version is
     ∙ ap (λ (es : List Event). buildEvents sizes base identity es output) same
     ∙ sym (build-sound sizes q other base identity output day version also))
-    (λ above. build-version sizes p list base identity output day above ∙ sym (build-version sizes q other base identity output day above))
+    (λ above. build-version sizes p list base identity output day above
+    ∙ sym (build-version sizes q other base identity output day above))
     (le-or-lt (identity .version) versionMax))
-    (λ above. build-base sizes p list base identity output above ∙ sym (build-base sizes q other base identity output above))
+    (λ above. build-base sizes p list base identity output above
+    ∙ sym (build-base sizes q other base identity output above))
     (le-or-lt base baseDayMax)
 
 -- ---- length
@@ -57,7 +60,8 @@ unfolding sectionEvents
 sizes-split [] = refl
 sizes-split (s ∷ ss) = omega (arith, sizes-split ss, sizes-append (s .events) (sectionEvents ss))
 
-module _ (sizes : Sizes) (legal : LegalSizes sizes) (g : Given sizes) (output : List ℕ) (zero : built g output .number ≡ 0) where
+module _ (sizes : Sizes) (legal : LegalSizes sizes) (g : Given sizes) (output : List ℕ)
+    (zero : built g output .number ≡ 0) where
   -- the file's length is 18 × sections + the events' bytes
   pub built-bytes : built g output .value
       ≡ 18 * length (sectionsIn (g .base) (fileOf (built g output))) + eventSizes (events g)
@@ -78,7 +82,8 @@ module _ (sizes : Sizes) (legal : LegalSizes sizes) (g : Given sizes) (output : 
   -- Read of the file, built again under the identity read, gives the same answer and the same output
   pub built-again : (buffer series : List ℕ) → RecordBuffer buffer
       → let r = read sizes (g .base) (fileOf (built g output)) buffer in
-      build sizes (filePools (fileOf (built g output)) series) (listOf r) (g .base) (r .answer .identity) output ≡ built g output
+      build sizes (filePools (fileOf (built g output)) series) (listOf r) (g .base) (r .answer .identity) output
+      ≡ built g output
   built-again buffer series size =
       let all : DemandsFor sizes = demands-for sizes legal in
       let file : List ℕ = fileOf (built g output) in

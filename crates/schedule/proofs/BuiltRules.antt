@@ -1,5 +1,5 @@
--- The sections of Build's file keep the rules of a file, if no segment is unpackable: numbering by Numbers, events and sizes by
--- Parts, and what is said of all events by Held. Assumes nothing.
+-- The sections of Build's file keep the rules of a file, if no segment is unpackable: numbering by Numbers, events and
+-- sizes by Parts, and what is said of all events by Held. Assumes nothing.
 use mathlib.Core.Path.{_≡_}
 use mathlib.Core.Bool.{not}
 use mathlib.Core.List.{List, [], _∷_}
@@ -45,11 +45,13 @@ built-rules sizes identity es roomy legal facts fits =
     record {
       identityRules = legal;
       lastTableId = lastTableIdOf es;
-      lastTable = omega (arith, tables-few es (every-map (λ (e : Event) (f : EventFacts e). f .start) es (facts .facts)));
+      lastTable =
+          omega (arith, tables-few es (every-map (λ (e : Event) (f : EventFacts e). f .start) es (facts .facts)));
       sections =
           all-four sizes identity (lastTableIdOf es) (sectionsOf sizes identity es)
           (headers-keep sizes identity es)
-          (sections-every sizes identity es _ (λ index table inside. part-rules sizes identity es index (facts .facts) (fits index)))
+          (sections-every sizes identity es _
+          (λ index table inside. part-rules sizes identity es index (facts .facts) (fits index)))
           (empty-alone sizes identity es (λ index. parts-filled sizes es index (fits index)))
           (sections-every sizes identity es _ (λ index table inside. part-sizes sizes identity es index roomy));
       ordered = headers-ordered sizes identity es;

@@ -1,6 +1,6 @@
 -- Plan's counts, Build's file and the lowest unpackable segment in one row over the 512 segment indices, where the
--- definitions go table by table or stop at the last event: rows of tables are one row, and outside the range there are no
--- sections. By the laws of numbers in a row. Assumes nothing.
+-- definitions go table by table or stop at the last event: rows of tables are one row, and outside the range there are
+-- no sections. By the laws of numbers in a row. Assumes nothing.
 use mathlib.Core.Path.{_≡_, sym, ap, _∙_}
 use mathlib.Core.Bool.{true, false, not}
 use mathlib.Core.Logic.{⊎-elim}
@@ -17,7 +17,8 @@ use Rattle.sections.specs.Section.{Section}
 use Rattle.sections.specs.Every.{Every}
 use Rattle.schedule.specs.Each.{each, lowest}
 use Rattle.schedule.specs.Extent.{lastTable, lastSegment, isInside}
-use Rattle.schedule.specs.SectionsOf.{isUnpackable, lowestUnpackable, sectionsOfSegment, sectionsOfTable, sectionsOf}
+use Rattle.schedule.specs.SectionsOf.{isUnpackable, lowestUnpackable, sectionsOfSegment, sectionsOfTable}
+use Rattle.schedule.specs.SectionsOf.{sectionsOf}
 use Rattle.schedule.specs.Plan.{tabled}
 use Rattle.schedule.proofs.Each.{each-same, each-within, each-shift, each-rows}
 use Rattle.schedule.proofs.Each.{joined-none, joined-front, joined-rows, no-lowest, lowest-is}
@@ -28,7 +29,8 @@ use Rattle.schedule.proofs.Packable.{packable-or}
 
 -- the sections of a segment inside the range; outside none
 abbrev pub insidePart : Sizes → Identity → List Event → ℕ → List Section
-insidePart sizes identity es index = elim (isInside es index) [ true ↦ sectionsOfSegment sizes identity es index | false ↦ [] ]
+insidePart sizes identity es index =
+    elim (isInside es index) [ true ↦ sectionsOfSegment sizes identity es index | false ↦ [] ]
 
 -- ---- Plan's counts
 
@@ -64,7 +66,8 @@ module _ (sizes : Sizes) (identity : Identity) (es : List Event) where
       let last : ℕ = lastSegment es table in
       let n : ℕ = suc (last - first) in
       let own : last / 32 ≡ table = segment-in-table es table in
-      let within : (k : ℕ) → first ≤ k → k < first + n → insidePart sizes identity es k ≡ sectionsOfSegment sizes identity es k =
+      let within : (k : ℕ) → first ≤ k → k < first + n
+      → insidePart sizes identity es k ≡ sectionsOfSegment sizes identity es k =
       λ k low high.
       let here : k / 32 ≡ table = omega arith in
       part-inside k (is-inside es k (omega arith) (rw here (omega arith))) in
@@ -75,7 +78,8 @@ module _ (sizes : Sizes) (identity : Identity) (es : List Event) where
       let most : k ≤ last = rw here at (inside-is es k inside .1) in
       omega arith)) in
       table-is sizes identity es table
-      ∙ ap flatten (sym (each-within (insidePart sizes identity es) (sectionsOfSegment sizes identity es) first n within))
+      ∙ ap flatten
+      (sym (each-within (insidePart sizes identity es) (sectionsOfSegment sizes identity es) first n within))
       ∙ joined-front (insidePart sizes identity es) first n 32 (omega arith) behind
 
   -- a table behind the last: none is inside
@@ -91,7 +95,8 @@ module _ (sizes : Sizes) (identity : Identity) (es : List Event) where
       let n : ℕ = suc (lastTable es) in
       let few : n ≤ 16 = tables-few es starts in
       file-is sizes identity es
-      ∙ ap flatten (each-within (sectionsOfTable sizes identity es) rowOf 0 n (λ table low high. table-row table (omega arith)))
+      ∙ ap flatten
+      (each-within (sectionsOfTable sizes identity es) rowOf 0 n (λ table low high. table-row table (omega arith)))
       ∙ joined-front rowOf 0 n 16 (omega arith) (λ table low high. table-beyond table (omega arith))
       ∙ joined-rows (insidePart sizes identity es) 32 0 16
 

@@ -1,5 +1,5 @@
--- Demands 2 and 3 hold: each field of `Demands` from the laws of Read (crate sections), and from those of Build's file, of Plan
--- and of the best packing. Assumes nothing.
+-- Demands 2 and 3 hold: each field of `Demands` from the laws of Read (crate sections), and from those of Build's file,
+-- of Plan and of the best packing. Assumes nothing.
 use mathlib.Core.Path.{_≡_, sym, ap, subst, _∙_}
 use mathlib.Core.Bool.{not}
 use mathlib.Core.Logic.{_↔_, ⊎-elim}
@@ -45,13 +45,16 @@ use Rattle.schedule.specs.Refused.{RefusedFor}
 use Rattle.schedule.specs.Demands.{DemandsFor, Demands}
 use Rattle.schedule.proofs.Parts.{parts-few}
 use Rattle.schedule.proofs.Rival.{segment-eight-hold}
-use Rattle.schedule.proofs.Build.{build-packs, build-leaves, build-beyond, written-short, written-fits, written-file}
+use Rattle.schedule.proofs.Build.{build-packs, build-leaves, build-beyond, written-short, written-fits}
+use Rattle.schedule.proofs.Build.{written-file}
 use Rattle.schedule.proofs.Packable.{eight-hold, held-packable, lowest-none}
 use Rattle.schedule.proofs.BestFile.{fewest, most}
 use Rattle.schedule.proofs.Only.{built-only}
-use Rattle.schedule.proofs.Plan.{plan-sound, plan-unsound, tabled-at, count-sections, count-inside, count-outside}
+use Rattle.schedule.proofs.Plan.{plan-sound, plan-unsound, tabled-at, count-sections, count-inside}
+use Rattle.schedule.proofs.Plan.{count-outside}
 use Rattle.schedule.proofs.Plan.{count-unpackable}
-use Rattle.schedule.proofs.Given.{LegalSizes, shown-rules, facts, ownSections, ownFile, build-or, own-rules, own-events}
+use Rattle.schedule.proofs.Given.{LegalSizes, shown-rules, facts, ownSections, ownFile, build-or, own-rules}
+use Rattle.schedule.proofs.Given.{own-events}
 use Rattle.schedule.proofs.Given.{own-carries, writes, rival-eight, own-counted}
 
 -- ---- Demand 1: what a refusal leaves
@@ -74,13 +77,15 @@ module _ (sizes : Sizes) (legal : LegalSizes sizes) where
 
   module _ (base : ℕ) (file : List ℕ) (bytes : Bytes file) where
     accepts : base ≤ baseDayMax
-        → Accepted sizes base file ↔ ((identity : Identity) × (rs : List Record) × FollowsRules sizes base file identity rs)
+        → Accepted sizes base file
+        ↔ ((identity : Identity) × (rs : List Record) × FollowsRules sizes base file identity rs)
     accepts day = (
       λ accepted.
           let zero = accepted-check sizes base file accepted in
           (checkFile sizes base file .identity, fileRecords base file, accepted-follows sizes base file bytes zero),
       λ (identity, rs, f).
-          accepted-exactly sizes base file (legal .most) (legal .few) day bytes .1 (identity, f .sections, f .rules, f .bytes),
+          accepted-exactly sizes base file (legal .most) (legal .few) day bytes .1
+          (identity, f .sections, f .rules, f .bytes),
     )
 
     packs : Accepted sizes base file → (series buffer : List ℕ) → RecordBuffer buffer
@@ -94,8 +99,10 @@ module _ (sizes : Sizes) (legal : LegalSizes sizes) where
         let zero = accepted buffer size in
         let fits : (index : ℕ) → T (not (isUnpackable sizes (eventsOf pools list) index)) =
         λ index. held-packable sizes (eventsOf pools list) index
-        (subst (λ (es : List Event). EightHold sizes es index) (sym (accepted-events sizes base file buffer series bytes zero))
-        (segment-eight-hold sizes (checkFile sizes base file .identity) ss (shown-rules sizes base file bytes accepted .0) index)) in
+        (subst (λ (es : List Event). EightHold sizes es index)
+        (sym (accepted-events sizes base file buffer series bytes zero))
+        (segment-eight-hold sizes (checkFile sizes base file .identity) ss
+        (shown-rules sizes base file bytes accepted .0) index)) in
         build-packs sizes pools list day identity output
         (accepted-sound sizes base file buffer series bytes zero) (lowest-none sizes (eventsOf pools list) fits)
 
@@ -103,7 +110,8 @@ module _ (sizes : Sizes) (legal : LegalSizes sizes) where
 
   module _ (g : Given sizes) (output : List ℕ) where
     carries : built g output .number ≡ 0 → Carries g (fileOf (built g output))
-    carries zero = let (fits, is, enough, file) = writes g output zero in subst (Carries g) (sym file) (own-carries legal g fits)
+    carries zero =
+        let (fits, is, enough, file) = writes g output zero in subst (Carries g) (sym file) (own-carries legal g fits)
 
     reads : (buffer : List ℕ) → built g output .number ≡ 0 → RecordBuffer buffer
         → read sizes (g .base) (fileOf (built g output)) buffer .answer
@@ -116,7 +124,8 @@ module _ (sizes : Sizes) (legal : LegalSizes sizes) where
         let few : g .list .count ≤ sizes .«event_limit» = sound-list sizes (g .pools) (g .list) (g .isSound) .few in
         ap (λ (f : List ℕ). read sizes (g .base) f buffer .answer) file
         ∙ ap (λ (r : Reading). r .answer)
-        (follows-read sizes (g .base) (legal .most) (g .legalBase) (g .identity) ss (own-rules legal g fits) buffer (omega (arith, legal .few)))
+        (follows-read sizes (g .base) (legal .most) (g .legalBase) (g .identity) ss (own-rules legal g fits) buffer
+        (omega (arith, legal .few)))
         ∙ ap (success (g .identity)) count
 
     -- the value is the file's length, with 0 and with 11
@@ -151,7 +160,8 @@ module _ (sizes : Sizes) (legal : LegalSizes sizes) where
       ∙ tabled-at (sectionCount sizes es) index few in (
         λ number-is eight.
             let fits = held-packable sizes es index eight in
-            ⊎-elim (λ inside. omega (arith, is, number-is, count-inside sizes es index inside fits, parts-few sizes es index))
+            ⊎-elim (λ inside. omega
+            (arith, is, number-is, count-inside sizes es index inside fits, parts-few sizes es index))
             (λ outside. omega (arith, is, number-is, count-outside sizes es index outside))
             (test-or (isInside es index)),
         λ none. ⊎-elim (λ fails. is ∙ count-unpackable sizes es index (facts g .rises) fails)
@@ -161,7 +171,8 @@ module _ (sizes : Sizes) (legal : LegalSizes sizes) where
 
   lengths : (g : Given sizes) (output other : List ℕ) → (built g output .number ≡ 10 → ⊥)
       → let need = built g output .value in
-      (need ≤ length other → (built g other .number ≡ 0) × (built g other .value ≡ need) × (length (fileOf (built g other)) ≡ need))
+      (need ≤ length other
+      → (built g other .number ≡ 0) × (built g other .value ≡ need) × (length (fileOf (built g other)) ≡ need))
       × (length other < need → built g other ≡ record { number = 11; value = need; output = other })
   lengths g output other not-10 =
       let ss : List Section = ownSections g in
@@ -191,26 +202,30 @@ module _ (sizes : Sizes) (legal : LegalSizes sizes) where
         ⊎-elim
         (λ (fits, is). (
           λ ten. absurd
-              (build-packs sizes (g .pools) (g .list) (g .base) (g .identity) output (g .isSound) (lowest-none sizes (events g) fits) .1 ten),
+              (build-packs sizes (g .pools) (g .list) (g .base) (g .identity) output (g .isSound)
+              (lowest-none sizes (events g) fits) .1 ten),
           λ nobody. absurd (nobody (ownFile g) (own-carries legal g fits)),
         ))
         (λ (index, few, fails, before, is). (
           λ ten file c.
-              T-not (isUnpackable sizes (events g) index) (held-packable sizes (events g) index (rival-eight g file c index)) fails,
+              T-not (isUnpackable sizes (events g) index)
+              (held-packable sizes (events g) index (rival-eight g file c index)) fails,
           λ nobody. ap (λ (b : Built). b .number) (is output),
         ))
         (build-or g)
 
     refused-lowest : built g output .number ≡ 10
         → let index = built g output .value in
-        (index < 512) × (EightHold sizes (events g) index → ⊥) × ((lower : ℕ) → lower < index → EightHold sizes (events g) lower)
+        (index < 512) × (EightHold sizes (events g) index → ⊥)
+        × ((lower : ℕ) → lower < index → EightHold sizes (events g) lower)
     refused-lowest ten =
         ⊎-elim
         (λ (fits, is). absurd (refused-exactly .0 ten (ownFile g) (own-carries legal g fits)))
         (λ (index, few, fails, before, is).
         let value : built g output .value ≡ index = ap (λ (b : Built). b .value) (is output) in
         subst
-        (λ (i : ℕ). (i < 512) × (EightHold sizes (events g) i → ⊥) × ((lower : ℕ) → lower < i → EightHold sizes (events g) lower))
+        (λ (i : ℕ). (i < 512) × (EightHold sizes (events g) i → ⊥)
+        × ((lower : ℕ) → lower < i → EightHold sizes (events g) lower))
         (sym value) (
           few,
           λ eight. T-not (isUnpackable sizes (events g) index) (held-packable sizes (events g) index eight) fails,
@@ -224,13 +239,22 @@ module _ (sizes : Sizes) (legal : LegalSizes sizes) where
   demands-for =
       record {
         accepted-exactly = λ base file day bytes. accepts base file bytes day;
-        read-exact = λ base file buffer identity rs day bytes. read-exact sizes base file buffer identity rs (legal .most) day bytes;
-        accepted-size = λ base file bytes accepted. accepted-size sizes base file (legal .most) bytes (accepted-check sizes base file accepted);
+        read-exact =
+            λ base file buffer identity rs day bytes. read-exact sizes base file buffer identity rs (legal .most) day
+            bytes;
+        accepted-size =
+            λ base file bytes accepted. accepted-size sizes base file (legal .most) bytes
+            (accepted-check sizes base file accepted);
         check-agrees = λ base file buffer not-27. read-agrees sizes base file buffer not-27;
         check-never-27 = λ base file number-is. omega (arith, check-below-27 sizes base file);
-        accepted-sound = λ base file series buffer bytes accepted size. accepted-sound sizes base file buffer series bytes (accepted buffer size);
-        accepted-events = λ base file series buffer bytes accepted size. accepted-events sizes base file buffer series bytes (accepted buffer size);
-        accepted-packable = λ base file series buffer bytes accepted size. packs base file bytes accepted series buffer size;
+        accepted-sound =
+            λ base file series buffer bytes accepted size. accepted-sound sizes base file buffer series bytes
+            (accepted buffer size);
+        accepted-events =
+            λ base file series buffer bytes accepted size. accepted-events sizes base file buffer series bytes
+            (accepted buffer size);
+        accepted-packable =
+            λ base file series buffer bytes accepted size. packs base file bytes accepted series buffer size;
         built-carries = carries;
         built-read = reads;
         built-length = lengths;

@@ -30,7 +30,8 @@ module _ {A : Type 0} where
   pub each-same : (f g : ℕ → A) (least n : ℕ) → ((k : ℕ) → f k ≡ g k) → each f least n ≡ each g least n
   unfolding each
   each-same f g least zero same = refl
-  each-same f g least (suc n) same = ap₂ (λ (x : A) (xs : List A). x ∷ xs) (same least) (each-same f g (suc least) n same)
+  each-same f g least (suc n) same =
+      ap₂ (λ (x : A) (xs : List A). x ∷ xs) (same least) (each-same f g (suc least) n same)
 
   -- the same in the row
   pub each-within : (f g : ℕ → A) (least n : ℕ) → ((k : ℕ) → least ≤ k → k < least + n → f k ≡ g k)
@@ -134,7 +135,8 @@ flatten-append {A = A} (xs ∷ xss) yss =
 -- a row cut in two, joined
 pub joined-each-split : {A : Type 0} (f : ℕ → List A) (least m n : ℕ)
     → flatten (each f least (m + n)) ≡ flatten (each f least m) ++ flatten (each f (least + m) n)
-joined-each-split f least m n = ap flatten (each-split f least m n) ∙ flatten-append (each f least m) (each f (least + m) n)
+joined-each-split f least m n =
+    ap flatten (each-split f least m n) ∙ flatten-append (each f least m) (each f (least + m) n)
 
 -- where all behind the first m are empty
 pub joined-front : {A : Type 0} (f : ℕ → List A) (least m n : ℕ) → m ≤ n
@@ -168,7 +170,8 @@ joined-every P f least (suc n) all =
 -- ---- the lowest that passes a test: none passes, or one does and none before it
 pub lowest-or : (p : ℕ → Bool) (least n : ℕ)
     → ((lowest p least n ≡ none) × ((i : ℕ) → least ≤ i → i < least + n → T (not (p i))))
-    ⊎ ((i : ℕ) × (lowest p least n ≡ some i) × (i < least + n) × T (p i) × ((j : ℕ) → least ≤ j → j < i → T (not (p j))))
+    ⊎ ((i : ℕ) × (lowest p least n ≡ some i) × (i < least + n) × T (p i)
+    × ((j : ℕ) → least ≤ j → j < i → T (not (p j))))
 unfolding lowest
 lowest-or p least zero = inl (refl, λ i low high. absurd (omega arith))
 lowest-or p least (suc n) =

@@ -1,6 +1,6 @@
--- The events of a list that rises, segment by segment and table by table, are the list: a segment's events stand before those
--- of later segments, and past each table's last segment the table has none. By induction over the events, then over the rows.
--- Assumes nothing.
+-- The events of a list that rises, segment by segment and table by table, are the list: a segment's events stand before
+-- those of later segments, and past each table's last segment the table has none. By induction over the events, then
+-- over the rows. Assumes nothing.
 use mathlib.Core.Path.{_≡_, refl, sym, ap, ap₂, _∙_}
 use mathlib.Core.Bool.{true, false}
 use mathlib.Core.Logic.{⊎-elim}
@@ -24,7 +24,8 @@ use Rattle.schedule.proofs.Extent.{startIndex, segment-in-table, last-m
 -- the events that start in a segment or in a later one
 abbrev pub eventsFrom : ℕ → List Event → List Event
 eventsFrom least [] = []
-eventsFrom least (e ∷ es) = elim (leb least (startIndex e)) [ true ↦ e ∷ eventsFrom least es | false ↦ eventsFrom least es ]
+eventsFrom least (e ∷ es) =
+    elim (leb least (startIndex e)) [ true ↦ e ∷ eventsFrom least es | false ↦ eventsFrom least es ]
 
 module _ (least : ℕ) (e : Event) (es : List Event) where
   pub from-more : least ≤ startIndex e → eventsFrom least (e ∷ es) ≡ e ∷ eventsFrom least es
@@ -37,7 +38,8 @@ pub from-all : (es : List Event) → eventsFrom 0 es ≡ es
 from-all [] = refl
 from-all (e ∷ es) = from-more 0 e es (omega arith) ∙ ap (λ (fs : List Event). e ∷ fs) (from-all es)
 
-pub from-none : (least : ℕ) (es : List Event) → Every (λ (e : Event). startIndex e < least) es → eventsFrom least es ≡ []
+pub from-none : (least : ℕ) (es : List Event) → Every (λ (e : Event). startIndex e < least) es
+    → eventsFrom least es ≡ []
 from-none least [] before = refl
 from-none least (e ∷ es) before = from-same least e es (before .0) ∙ from-none least es (before .1)
 
@@ -48,7 +50,8 @@ from-skip a b [] early skipped = refl
 from-skip a b (e ∷ es) early skipped =
     let rest : eventsFrom a es ≡ eventsFrom b es = from-skip a b es early (skipped .1) in
     ⊎-elim
-    (λ behind. from-more a e es behind ∙ ap (λ (fs : List Event). e ∷ fs) rest ∙ sym (from-more b e es (skipped .0 behind)))
+    (λ behind. from-more a e es behind ∙ ap (λ (fs : List Event). e ∷ fs) rest
+    ∙ sym (from-more b e es (skipped .0 behind)))
     (λ before. from-same a e es before ∙ rest ∙ sym (from-same b e es (omega arith)))
     (le-or-lt a (startIndex e))
 
@@ -102,9 +105,11 @@ module _ (es : List Event) (rises : T (rising es)) where
       let last : ℕ = lastSegment es table in
       let n : ℕ = suc (last - table * 32) in
       let inside : last / 32 ≡ table = segment-in-table es table in
-      let skips : (e : Event) → (startIndex e / 32 ≡ table → startIndex e ≤ last) → table * 32 + n ≤ startIndex e → suc table * 32 ≤ startIndex e =
+      let skips : (e : Event) → (startIndex e / 32 ≡ table → startIndex e ≤ last) → table * 32 + n ≤ startIndex e
+      → suc table * 32 ≤ startIndex e =
       λ e most behind.
-      ⊎-elim (λ later. later) (λ within. absurd (omega (arith, most (omega arith)))) (le-or-lt (suc table * 32) (startIndex e)) in
+      ⊎-elim (λ later. later) (λ within. absurd (omega (arith, most (omega arith))))
+      (le-or-lt (suc table * 32) (startIndex e)) in
       joined-split segmentHeld (λ (k : ℕ). eventsFrom k es) (λ k. from-segment k es rises) (table * 32) n
       ∙ ap (λ (fs : List Event). tableHeld table ++ fs)
       (from-skip (table * 32 + n) (suc table * 32) es (omega arith)

@@ -1,5 +1,5 @@
--- Which segments Build's file has: a table's last segment is in the table, and no event is behind it or behind the last table. By
--- induction over the events. Assumes nothing.
+-- Which segments Build's file has: a table's last segment is in the table, and no event is behind it or behind the last
+-- table. By induction over the events. Assumes nothing.
 use mathlib.Core.Path.{_≡_, refl, sym, ap}
 use mathlib.Core.Logic.{_⊎_, inl, inr, ⊎-elim}
 use mathlib.Core.List.{List, [], _∷_}
@@ -23,7 +23,8 @@ abbrev pub startIndex : Event → ℕ
 startIndex e = segmentIndex (e .start)
 
 -- what holds of every event's index and of the one for none holds of the last
-last-has : (P : ℕ → Type 0) (index : ℕ) (es : List Event) → P index → Every (λ (e : Event). P (startIndex e)) es → P (lastIndex index es)
+last-has : (P : ℕ → Type 0) (index : ℕ) (es : List Event) → P index → Every (λ (e : Event). P (startIndex e)) es
+    → P (lastIndex index es)
 last-has P index [] here all = here
 last-has P index (e ∷ es) here all = last-has P (startIndex e) es (all .0) (all .1)
 
@@ -53,7 +54,8 @@ segment-in-table es table =
 pub tables-few : (es : List Event) → Every (λ (e : Event). e .start < windowSeconds) es → lastTable es < 16
 tables-few es starts =
     let few : lastIndex 0 es < 512 =
-    last-has (λ (i : ℕ). i < 512) 0 es (omega arith) (every-map (λ (e : Event) (h : e .start < windowSeconds). omega arith) es starts) in
+    last-has (λ (i : ℕ). i < 512) 0 es (omega arith)
+    (every-map (λ (e : Event) (h : e .start < windowSeconds). omega arith) es starts) in
     omega arith
 
 -- ---- no event is behind the last one
@@ -63,7 +65,8 @@ last-after e [] rises = omega arith
 last-after e (f ∷ es) rises =
     omega (arith, rising-after e (f ∷ es) rises .0, last-after f es (rising-rest e (f ∷ es) rises))
 
-pub last-most : (index : ℕ) (es : List Event) → T (rising es) → Every (λ (e : Event). startIndex e ≤ lastIndex index es) es
+pub last-most : (index : ℕ) (es : List Event) → T (rising es)
+    → Every (λ (e : Event). startIndex e ≤ lastIndex index es) es
 last-most index [] rises = tt
 last-most index (e ∷ es) rises = (last-after e es rises, last-most (startIndex e) es (rising-rest e es rises))
 
@@ -78,7 +81,8 @@ table-rises table [] rises = tt
 table-rises table (e ∷ es) rises =
     let rest : T (rising (tableEvents table es)) = table-rises table es (rising-rest e es rises) in
     let all : AllFollow e (tableEvents table es) = table-follow table e es (rising-follow e es rises) in
-    table-cases table e es (λ (fs : List Event). T (rising fs)) (λ here. follow-rising e (tableEvents table es) all rest) (λ elsewhere. rest)
+    table-cases table e es (λ (fs : List Event). T (rising fs))
+    (λ here. follow-rising e (tableEvents table es) all rest) (λ elsewhere. rest)
 
 -- what holds of a table's events holds of all events, as far as they are in the table
 table-only : (P : Event → Type 0) (table : ℕ) (es : List Event) → Every P (tableEvents table es)
@@ -111,22 +115,28 @@ module _ (index : ℕ) (e : Event) (es : List Event) where
   held-later held = events-cases index e es Some (λ here. omega arith) (λ elsewhere. held)
 
 -- the last event's segment has it, or there is none
-last-held : (index : ℕ) (es : List Event) → (lastIndex index es ≡ index) ⊎ (0 < length (segmentEvents (lastIndex index es) es))
+last-held : (index : ℕ) (es : List Event)
+    → (lastIndex index es ≡ index) ⊎ (0 < length (segmentEvents (lastIndex index es) es))
 last-held index [] = inl refl
 last-held index (e ∷ es) =
     let last : ℕ = lastIndex (startIndex e) es in
-    inr (⊎-elim (λ same. held-here last e es (sym same)) (λ held. held-later last e es held) (last-held (startIndex e) es))
+    inr (⊎-elim (λ same. held-here last e es (sym same)) (λ held. held-later last e es held)
+    (last-held (startIndex e) es))
 
 -- a table's events in a segment are among all
-table-holds : (table index : ℕ) (es : List Event) → length (segmentEvents index (tableEvents table es)) ≤ length (segmentEvents index es)
+table-holds : (table index : ℕ) (es : List Event)
+    → length (segmentEvents index (tableEvents table es)) ≤ length (segmentEvents index es)
 table-holds table index [] = omega arith
 table-holds table index (e ∷ es) =
-    let rest : length (segmentEvents index (tableEvents table es)) ≤ length (segmentEvents index es) = table-holds table index es in
+    let rest : length (segmentEvents index (tableEvents table es)) ≤ length (segmentEvents index es) =
+    table-holds table index es in
     events-cases index e es (λ (fs : List Event). length (segmentEvents index (tableEvents table (e ∷ es))) ≤ length fs)
-    (λ here. table-cases table e es (λ (fs : List Event). length (segmentEvents index fs) ≤ suc (length (segmentEvents index es)))
+    (λ here. table-cases table e es
+    (λ (fs : List Event). length (segmentEvents index fs) ≤ suc (length (segmentEvents index es)))
     (λ inside. omega (arith, ap length (events-more index e (tableEvents table es) here)))
     (λ outside. omega arith))
-    (λ elsewhere. table-cases table e es (λ (fs : List Event). length (segmentEvents index fs) ≤ length (segmentEvents index es))
+    (λ elsewhere. table-cases table e es
+    (λ (fs : List Event). length (segmentEvents index fs) ≤ length (segmentEvents index es))
     (λ inside. omega (arith, ap length (events-same index e (tableEvents table es) elsewhere)))
     (λ outside. rest))
 
@@ -151,7 +161,8 @@ module _ (es : List Event) (index : ℕ) where
 
   pub inside-is : T (isInside es index) → (index / 32 ≤ lastTable es) × (index ≤ lastSegment es (index / 32))
   inside-is inside =
-      let (table, segment) = and-parts (leb (index / 32) (lastTable es)) (leb index (lastSegment es (index / 32))) inside in
+      let (table, segment) =
+      and-parts (leb (index / 32) (lastTable es)) (leb index (lastSegment es (index / 32))) inside in
       (leb→le (index / 32) (lastTable es) table, leb→le index (lastSegment es (index / 32)) segment)
 
 -- an event that starts in the segment, with what holds of every event
@@ -165,9 +176,11 @@ held-has P index (e ∷ es) all =
     (λ elsewhere held. held-has P index es (all .1) held)
 
 -- a segment that has events is inside
-pub held-inside : (index : ℕ) (es : List Event) → T (rising es) → 0 < length (segmentEvents index es) → T (isInside es index)
+pub held-inside : (index : ℕ) (es : List Event) → T (rising es) → 0 < length (segmentEvents index es)
+    → T (isInside es index)
 held-inside index es rises held =
-    let (e, here, early) = held-has (λ (e : Event). startIndex e ≤ lastIndex 0 es) index es (last-most 0 es rises) held in
+    let (e, here, early) =
+    held-has (λ (e : Event). startIndex e ≤ lastIndex 0 es) index es (last-most 0 es rises) held in
     let (f, there, within) =
     held-has (λ (e : Event). startIndex e / 32 ≡ index / 32 → startIndex e ≤ lastSegment es (index / 32)) index es
     (segment-most (index / 32) es rises) held in

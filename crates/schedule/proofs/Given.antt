@@ -1,5 +1,5 @@
--- What Build does with what it is given, and what any accepted file that carries the events does: the two sides that the demands
--- compare. Assumes nothing.
+-- What Build does with what it is given, and what any accepted file that carries the events does: the two sides that
+-- the demands compare. Assumes nothing.
 use mathlib.Core.Path.{_≡_, sym, ap, subst, _∙_}
 use mathlib.Core.Bool.{not}
 use mathlib.Core.Logic.{_⊎_, inl, inr, ⊎-elim}
@@ -41,8 +41,10 @@ use Rattle.schedule.proofs.Packable.{packable-or}
 
 -- the sections that the bytes of an accepted file show keep the rules, and their joined bytes are the file
 pub shown-rules : (sizes : Sizes) (base : ℕ) (file : List ℕ) → Bytes file → Accepted sizes base file
-    → Rules sizes (checkFile sizes base file .identity) (sectionsIn base file) × (fileBytes base (sectionsIn base file) ≡ file)
-shown-rules sizes base file bytes accepted = accepted-rules sizes base file bytes (accepted-check sizes base file accepted)
+    → Rules sizes (checkFile sizes base file .identity) (sectionsIn base file)
+    × (fileBytes base (sectionsIn base file) ≡ file)
+shown-rules sizes base file bytes accepted =
+    accepted-rules sizes base file bytes (accepted-check sizes base file accepted)
 
 -- ---- Build of what it is given
 
@@ -71,9 +73,11 @@ module _ {sizes : Sizes} (g : Given sizes) where
       × ((output : List ℕ) → built g output ≡ refusal 10 index output))
   build-or =
       let sounds : (output : List ℕ) → built g output ≡ buildEvents sizes (g .base) (g .identity) (events g) output =
-      λ output. build-sound sizes (g .pools) (g .list) (g .base) (g .identity) output (g .legalBase) (g .legalIdentity .version) (g .isSound) in
+      λ output. build-sound sizes (g .pools) (g .list) (g .base) (g .identity) output (g .legalBase)
+      (g .legalIdentity .version) (g .isSound) in
       ⊎-elim
-      (λ (ends, fits). inl (fits, λ output. sounds output ∙ events-written sizes (g .base) (g .identity) (events g) output ends))
+      (λ (ends, fits). inl
+      (fits, λ output. sounds output ∙ events-written sizes (g .base) (g .identity) (events g) output ends))
       (λ (index, lowest, few, fails, before). inr (
         index,
         few,
@@ -91,15 +95,16 @@ module _ {sizes : Sizes} (g : Given sizes) where
       ⊎-elim
       (λ (fits, is). ⊎-elim
       (λ enough. (fits, is output, enough, ap fileOf (is output) ∙ written-file (g .base) ownSections output enough))
-      (λ short. absurd (omega (arith, ap (λ (b : Built). b .number) (is output ∙ written-short (g .base) ownSections output short))))
+      (λ short. absurd
+      (omega (arith, ap (λ (b : Built). b .number) (is output ∙ written-short (g .base) ownSections output short))))
       (le-or-lt (sectionSizes ownSections) (length output)))
       (λ (index, few, fails, before, is). absurd (omega (arith, ap (λ (b : Built). b .number) (is output))))
       build-or
 
 -- ---- its file, where no segment is unpackable
 
--- sizes for which the demands hold: a section without events fits, 12 bits of section_length reach, and the numbers of the largest
--- list are no more than those for which a file is accepted
+-- sizes for which the demands hold: a section without events fits, 12 bits of section_length reach, and the numbers of
+-- the largest list are no more than those for which a file is accepted
 pub record LegalSizes (sizes : Sizes) : Type 0 where
   pub least : sectionOverhead ≤ sizes .«section_limit»
   pub most : sizes .«section_limit» ≤ 4_096
@@ -114,21 +119,26 @@ module _ {sizes : Sizes} (legal : LegalSizes sizes) (g : Given sizes) where
       let rules = own-rules fits in
       let accepted : Accepted sizes (g .base) (ownFile g) =
       check-accepted sizes (g .base) (ownFile g) (legal .few)
-      (ap (λ (a : Answer). a .number) (follows-accepted sizes (g .base) (legal .most) (g .legalBase) (g .identity) (ownSections g) rules)) in
-      let bytes : Bytes (ownFile g) = file-bytes sizes (g .base) (legal .most) (g .legalBase) (g .identity) (ownSections g) rules in
+      (ap (λ (a : Answer). a .number)
+      (follows-accepted sizes (g .base) (legal .most) (g .legalBase) (g .identity) (ownSections g) rules)) in
+      let bytes : Bytes (ownFile g) =
+      file-bytes sizes (g .base) (legal .most) (g .legalBase) (g .identity) (ownSections g) rules in
       record {
         bytes = bytes;
         accepted = accepted;
         sameEvents = λ buffer size.
-            same-lists sizes (filePools (ownFile g) []) (g .pools) (listOf (read sizes (g .base) (ownFile g) buffer)) (g .list)
+            same-lists sizes (filePools (ownFile g) []) (g .pools) (listOf (read sizes (g .base) (ownFile g) buffer))
+            (g .list)
             (accepted-sound sizes (g .base) (ownFile g) buffer [] bytes (accepted buffer size)) (g .isSound) .0
             (accepted-events sizes (g .base) (ownFile g) buffer [] bytes (accepted buffer size)
-            ∙ ap sectionEvents (sections-in-back sizes (g .base) (legal .most) (g .legalBase) (g .identity) (ownSections g) rules)
+            ∙ ap sectionEvents
+            (sections-in-back sizes (g .base) (legal .most) (g .legalBase) (g .identity) (ownSections g) rules)
             ∙ own-events g fits);
       }
 
   -- its sections and events, counted
-  pub own-counted : Fits g → (index : ℕ) → sectionsCounted (g .base) (ownFile g) index ≡ length (segmentSections index (ownSections g))
+  pub own-counted : Fits g → (index : ℕ)
+      → sectionsCounted (g .base) (ownFile g) index ≡ length (segmentSections index (ownSections g))
   own-counted fits index =
       sections-counted sizes (g .base) (legal .most) (g .legalBase) (g .identity) (ownSections g) (own-rules fits) index
 
@@ -154,4 +164,5 @@ module _ {sizes : Sizes} (g : Given sizes) (file : List ℕ) (c : Carries g file
   pub rival-eight : (index : ℕ) → EightHold sizes (events g) index
   rival-eight index =
       subst (λ (es : List Event). EightHold sizes es index) rival-events
-      (segment-eight-hold sizes (checkFile sizes (g .base) file .identity) (sectionsIn (g .base) file) rival-rules index)
+      (segment-eight-hold sizes (checkFile sizes (g .base) file .identity) (sectionsIn (g .base) file) rival-rules
+      index)

@@ -1,5 +1,6 @@
--- The sections of Build's file hold the list's events, all and in their order, if no segment is unpackable: each segment's
--- sections hold its events, and these, one segment after the other, are the list (EventsFrom). Assumes nothing.
+-- The sections of Build's file hold the list's events, all and in their order, if no segment is unpackable: each
+-- segment's sections hold its events, and these, one segment after the other, are the list (EventsFrom).
+-- Assumes nothing.
 use mathlib.Core.Path.{_≡_, refl, sym, ap, _∙_}
 use mathlib.Core.Bool.{not}
 use mathlib.Core.List.{List, [], _∷_, _++_, flatten, append-assoc}
@@ -13,7 +14,8 @@ use Rattle.sections.specs.Section.{Section, sectionEvents}
 use Rattle.sections.specs.Count.{segmentEvents}
 use Rattle.schedule.specs.Each.{each}
 use Rattle.schedule.specs.Extent.{tableSegments, lastTable, lastSegment}
-use Rattle.schedule.specs.SectionsOf.{isUnpackable, packedSegment, numberedFrom, sectionsOfSegment, sectionsOfTable, sectionsOf}
+use Rattle.schedule.specs.SectionsOf.{isUnpackable, packedSegment, numberedFrom, sectionsOfSegment}
+use Rattle.schedule.specs.SectionsOf.{sectionsOfTable, sectionsOf}
 use Rattle.schedule.proofs.Each.{each-same, joined-map}
 use Rattle.schedule.proofs.EventsFrom.{segmentHeld, tableHeld, all-held}
 use Rattle.schedule.proofs.Parts.{parts-events}
@@ -32,7 +34,8 @@ held-append (s ∷ ss) ts =
 module _ (sizes : Sizes) (identity : Identity) (es : List Event) where
   -- the sections of a table and of the file
   pub table-is : (table : ℕ) → sectionsOfTable sizes identity es table
-      ≡ flatten (each (sectionsOfSegment sizes identity es) (table * tableSegments) (suc (lastSegment es table - table * tableSegments)))
+      ≡ flatten (each (sectionsOfSegment sizes identity es) (table * tableSegments)
+      (suc (lastSegment es table - table * tableSegments)))
   unfolding sectionsOfTable
   table-is table = refl
 
@@ -40,7 +43,8 @@ module _ (sizes : Sizes) (identity : Identity) (es : List Event) where
   unfolding sectionsOf
   file-is = refl
 
-  numbered-events : (index S : ℕ) (ps : List (List Event)) → sectionEvents (numberedFrom sizes identity es index S ps) ≡ flatten ps
+  numbered-events : (index S : ℕ) (ps : List (List Event))
+      → sectionEvents (numberedFrom sizes identity es index S ps) ≡ flatten ps
   unfolding sectionEvents flatten
   numbered-events index S [] = refl
   numbered-events index S (p ∷ ps) = ap (λ (fs : List Event). p ++ fs) (numbered-events index (suc S) ps)

@@ -1,5 +1,6 @@
--- Headers that stand in the order of the rules, from a first one to a last one: such lists join, also over numbers in a row, and
--- one that ends with the file's last header is a file's. By induction over the list and over the row. Assumes nothing.
+-- Headers that stand in the order of the rules, from a first one to a last one: such lists join, also over numbers in a
+-- row, and one that ends with the file's last header is a file's. By induction over the list and over the row.
+-- Assumes nothing.
 use mathlib.Core.Path.{_≡_}
 use mathlib.Core.List.{List, [], _∷_, _++_, flatten, append-nil, map-append}
 use Prim.Native.Nat.{ℕ, zero, suc, _+_, _≤_, _<_}

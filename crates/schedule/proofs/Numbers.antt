@@ -1,5 +1,6 @@
--- The headers of Build's sections keep the rules of numbering, whatever the events are: a segment's numbers are s0 to G, at most
--- s0 + 7, and in a table the next segment's s0 is eight more. By induction over parts, segments and tables. Assumes nothing.
+-- The headers of Build's sections keep the rules of numbering, whatever the events are: a segment's numbers are s0 to
+-- G, at most s0 + 7, and in a table the next segment's s0 is eight more. By induction over parts, segments and tables.
+-- Assumes nothing.
 use mathlib.Core.Path.{_≡_, refl, sym, ap, subst, _∙_}
 use mathlib.Core.Logic.{_⊎_, inl, inr, ⊎-elim}
 use mathlib.Core.List.{List, [], _∷_}
@@ -16,7 +17,8 @@ use Rattle.sections.specs.Section.{Header, Section, headersOf}
 use Rattle.sections.specs.Every.{Every}
 use Rattle.sections.specs.Rules.{HeaderRules, Alone, Next, Ordered}
 use Rattle.schedule.specs.Extent.{lastTable, lastTableIdOf, lastSegment}
-use Rattle.schedule.specs.SectionsOf.{packedSegment, segmentLast, tableLast, headerOf, numberedFrom, sectionsOfSegment, sectionsOfTable}
+use Rattle.schedule.specs.SectionsOf.{packedSegment, segmentLast, tableLast, headerOf, numberedFrom}
+use Rattle.schedule.specs.SectionsOf.{sectionsOfSegment, sectionsOfTable}
 use Rattle.schedule.specs.SectionsOf.{sectionsOf}
 use Rattle.schedule.proofs.Each.{joined-every}
 use Rattle.schedule.proofs.Extent.{segment-in-table}
@@ -26,7 +28,8 @@ use Rattle.schedule.proofs.Linked.{Linked, one, more, linked-ordered, r
 -- ---- G and L
 
 module _ (sizes : Sizes) (es : List Event) where
-  pub segment-last-is : (index : ℕ) → segmentLast sizes es index ≡ firstSection index + (length (packedSegment sizes es index) - 1)
+  pub segment-last-is : (index : ℕ)
+      → segmentLast sizes es index ≡ firstSection index + (length (packedSegment sizes es index) - 1)
   unfolding segmentLast
   segment-last-is index = refl
 
@@ -47,7 +50,8 @@ module _ (sizes : Sizes) (identity : Identity) (es : List Event) where
   table-last-byte table = omega (arith, table-last-is sizes es table, segment-last-most (lastSegment es table))
 
   -- a segment behind which its table has another: s0 + 8 ≤ L
-  table-last-later : (index : ℕ) → index < lastSegment es (index / 32) → firstSection index + 8 ≤ tableLast sizes es (index / 32)
+  table-last-later : (index : ℕ) → index < lastSegment es (index / 32)
+      → firstSection index + 8 ≤ tableLast sizes es (index / 32)
   table-last-later index before =
       let l : ℕ = lastSegment es (index / 32) in
       let same : l / 32 ≡ index / 32 = segment-in-table es (index / 32) in
@@ -60,12 +64,14 @@ module _ (sizes : Sizes) (identity : Identity) (es : List Event) where
 
   -- so G = L or L ≥ s0 + 8, and G ≤ L
   segment-whole : (index : ℕ) → index ≤ lastSegment es (index / 32)
-      → (segmentLast sizes es index ≡ tableLast sizes es (index / 32)) ⊎ (firstSection index + 8 ≤ tableLast sizes es (index / 32))
+      → (segmentLast sizes es index ≡ tableLast sizes es (index / 32))
+      ⊎ (firstSection index + 8 ≤ tableLast sizes es (index / 32))
   segment-whole index inside =
       ⊎-elim (λ here. inl (table-last-here index (omega arith))) (λ before. inr (table-last-later index before))
       (le-or-lt (lastSegment es (index / 32)) index)
 
-  segment-table : (index : ℕ) → index ≤ lastSegment es (index / 32) → segmentLast sizes es index ≤ tableLast sizes es (index / 32)
+  segment-table : (index : ℕ) → index ≤ lastSegment es (index / 32)
+      → segmentLast sizes es index ≤ tableLast sizes es (index / 32)
   segment-table index inside =
       ⊎-elim (λ here. omega arith) (λ later. omega (arith, segment-last-most index)) (segment-whole index inside)
 
@@ -132,7 +138,8 @@ module _ (sizes : Sizes) (identity : Identity) (es : List Event) where
       }
 
   -- numbers and table of every section are in their ranges
-  pub headers-keep : Every (λ (s : Section). HeaderRules identity (lastTableIdOf es) (s .header)) (sectionsOf sizes identity es)
+  pub headers-keep : Every (λ (s : Section). HeaderRules identity (lastTableIdOf es) (s .header))
+      (sectionsOf sizes identity es)
   unfolding sectionsOfSegment
   headers-keep =
       let Keeps : Section → Type 0 = λ (s : Section). HeaderRules identity (lastTableIdOf es) (s .header) in
@@ -151,7 +158,8 @@ module _ (sizes : Sizes) (identity : Identity) (es : List Event) where
   )
 
   -- one section alone
-  one-alone : (index : ℕ) → length (packedSegment sizes es index) ≡ 1 → Alone (headerOf sizes identity es index (firstSection index))
+  one-alone : (index : ℕ) → length (packedSegment sizes es index) ≡ 1
+      → Alone (headerOf sizes identity es index (firstSection index))
   one-alone index single = record { number = omega arith; last = omega (arith, segment-last-is sizes es index) }
 
   -- a section without events is alone in its segment
@@ -198,7 +206,8 @@ module _ (sizes : Sizes) (identity : Identity) (es : List Event) where
       }
 
   -- a table's last section has the number L
-  table-ends : (table : ℕ) → segmentLast sizes es (lastSegment es table) ≡ tableLast sizes es (lastSegment es table / 32)
+  table-ends : (table : ℕ)
+      → segmentLast sizes es (lastSegment es table) ≡ tableLast sizes es (lastSegment es table / 32)
   table-ends table = sym (table-last-is sizes es table) ∙ ap (tableLast sizes es) (sym (segment-in-table es table))
 
   -- from a table to the next
@@ -213,7 +222,8 @@ module _ (sizes : Sizes) (identity : Identity) (es : List Event) where
   -- the sections of a segment from one on, of a segment, of a table
   parts-linked : (index S : ℕ) (ps : List (List Event)) → index ≤ lastSegment es (index / 32) → 0 < length ps
       → S + length ps ≡ suc (segmentLast sizes es index)
-      → Linked (headerOf sizes identity es index S) (lastHeader index) (headersOf (numberedFrom sizes identity es index S ps))
+      → Linked (headerOf sizes identity es index S) (lastHeader index)
+      (headersOf (numberedFrom sizes identity es index S ps))
   parts-linked index S [] inside some ends = absurd (omega arith)
   parts-linked index S (p ∷ []) inside some ends =
       let here : Header = headerOf sizes identity es index S in
@@ -231,14 +241,16 @@ module _ (sizes : Sizes) (identity : Identity) (es : List Event) where
       (omega (arith, segment-last-is sizes es index, parts-some sizes es index))
 
   table-linked : (table : ℕ)
-      → Linked (firstHeader (table * 32)) (lastHeader (lastSegment es table)) (headersOf (sectionsOfTable sizes identity es table))
+      → Linked (firstHeader (table * 32)) (lastHeader (lastSegment es table))
+      (headersOf (sectionsOfTable sizes identity es table))
   unfolding sectionsOfTable
   table-linked table =
       let l : ℕ = lastSegment es table in
       let last : l / 32 ≡ table = segment-in-table es table in
       let end : table * 32 + (l - table * 32) ≡ l = omega arith in
       subst
-      (λ (n : ℕ). Linked (firstHeader (table * 32)) (lastHeader n) (headersOf (sectionsOfTable sizes identity es table)))
+      (λ (n : ℕ). Linked (firstHeader (table * 32)) (lastHeader n)
+      (headersOf (sectionsOfTable sizes identity es table)))
       end
       (row-linked (sectionsOfSegment sizes identity es) firstHeader lastHeader (table * 32) (l - table * 32)
       (λ index low high.
@@ -257,4 +269,7 @@ module _ (sizes : Sizes) (identity : Identity) (es : List Event) where
       (λ (table : ℕ). lastHeader (lastSegment es table)) 0 (lastTable es) (λ table low high. table-linked table)
       (λ table low high. next-table table))
       (record { table = refl; section = refl })
-      (record { section = table-ends (0 + lastTable es); table = omega (arith, segment-in-table es (0 + lastTable es)) })
+      (record {
+        section = table-ends (0 + lastTable es);
+        table = omega (arith, segment-in-table es (0 + lastTable es));
+      })

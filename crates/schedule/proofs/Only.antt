@@ -1,5 +1,6 @@
--- Under its identity Build's file is the only best one: any that carries the same events and is as good in every segment is this
--- one. Since it is best, the counts are the same; they tell the events of each section, and these the file. Assumes nothing.
+-- Under its identity Build's file is the only best one: any that carries the same events and is as good in every
+-- segment is this one. Since it is best, the counts are the same; they tell the events of each section, and these the
+-- file. Assumes nothing.
 use mathlib.Core.Path.{_≡_, sym, ap, subst, _∙_}
 use mathlib.Core.List.{List}
 use Prim.Native.Nat.{ℕ, _≤_}
@@ -20,17 +21,20 @@ use Rattle.sections.proofs.Only.{sections-only}
 use Rattle.schedule.specs.Build.{fileOf}
 use Rattle.schedule.specs.Given.{Given, built, events, Carries}
 use Rattle.schedule.proofs.Rival.{segment-packing, segment-parts, first-held}
-use Rattle.schedule.proofs.Given.{LegalSizes, shown-rules, ownSections, own-rules, own-events, own-counted, own-held}
+use Rattle.schedule.proofs.Given.{LegalSizes, shown-rules, ownSections, own-rules, own-events, own-counted}
+use Rattle.schedule.proofs.Given.{own-held}
 use Rattle.schedule.proofs.Given.{writes, rival-rules, rival-events}
 use Rattle.schedule.proofs.BestFile.{fewest, most}
 
 -- ---- two files with the same events
 
 module _ (sizes : Sizes) (identity : Identity) (ss ts : List Section)
-    (ours : Rules sizes identity ss) (theirs : Rules sizes identity ts) (same : sectionEvents ss ≡ sectionEvents ts) where
+    (ours : Rules sizes identity ss) (theirs : Rules sizes identity ts)
+    (same : sectionEvents ss ≡ sectionEvents ts) where
   -- counts tell the parts of a segment
   counts-only : (index : ℕ) → length (segmentSections index ss) ≡ length (segmentSections index ts)
-      → ((k : ℕ) → k ≤ 8 → held k (eventsBySection (segmentSections index ss)) ≡ held k (eventsBySection (segmentSections index ts)))
+      → ((k : ℕ) → k ≤ 8
+      → held k (eventsBySection (segmentSections index ss)) ≡ held k (eventsBySection (segmentSections index ts)))
       → eventsBySection (segmentSections index ss) ≡ eventsBySection (segmentSections index ts)
   counts-only index many held-same =
       parts-only (eventsBySection (segmentSections index ss)) (eventsBySection (segmentSections index ts))
@@ -44,13 +48,15 @@ module _ (sizes : Sizes) (identity : Identity) (ss ts : List Section)
 
 -- ---- the law
 
-module _ (sizes : Sizes) (legal : LegalSizes sizes) (g : Given sizes) (output : List ℕ) (zero : built g output .number ≡ 0)
+module _ (sizes : Sizes) (legal : LegalSizes sizes) (g : Given sizes) (output : List ℕ)
+    (zero : built g output .number ≡ 0)
     (file : List ℕ) (c : Carries g file) where
-  -- under the same identity, with no more sections in any segment and no fewer events in its first k, a file is Build's, byte for
-  -- byte
+  -- under the same identity, with no more sections in any segment and no fewer events in its first k, a file is
+  -- Build's, byte for byte
   pub built-only : checkFile sizes (g .base) file .identity ≡ g .identity
       → ((index : ℕ) → sectionsCounted (g .base) file index ≤ sectionsCounted (g .base) (fileOf (built g output)) index)
-      → ((index k : ℕ) → k ≤ 8 → eventsCounted (g .base) (fileOf (built g output)) index k ≤ eventsCounted (g .base) file index k)
+      → ((index k : ℕ) → k ≤ 8
+      → eventsCounted (g .base) (fileOf (built g output)) index k ≤ eventsCounted (g .base) file index k)
       → file ≡ fileOf (built g output)
   built-only identity few as-many =
       let (fits, is, enough, own) = writes g output zero in

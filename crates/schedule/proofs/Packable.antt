@@ -1,5 +1,5 @@
--- A segment is unpackable exactly if no eight sections hold its events; and of a sound list either no segment is, or there is a
--- lowest one. By the laws of greedy packing. Assumes nothing.
+-- A segment is unpackable exactly if no eight sections hold its events; and of a sound list either no segment is, or
+-- there is a lowest one. By the laws of greedy packing. Assumes nothing.
 use mathlib.Core.Path.{_≡_, refl, sym, subst, _∙_}
 use mathlib.Core.Bool.{Bool, not}
 use mathlib.Core.Logic.{_⊎_, inl, inr, ⊎-elim}
@@ -45,7 +45,8 @@ module _ (sizes : Sizes) (es : List Event) (index : ℕ) where
   pub held-packable : EightHold sizes es index → T (not (isUnpackable sizes es index))
   held-packable (parts, packing, few) =
       subst (λ (b : Bool). T (not b))
-      (sym (test-is sizes es index ∙ greedy-packable eventSize (room sizes) 8 (segmentEvents index es) parts packing few)) tt
+      (sym (test-is sizes es index
+      ∙ greedy-packable eventSize (room sizes) 8 (segmentEvents index es) parts packing few)) tt
 
 -- behind the last event's segment there are no events
 beyond-none : (index last : ℕ) (es : List Event) → last < index → Every (λ (e : Event). startIndex e ≤ last) es
@@ -58,7 +59,8 @@ beyond-none index last (e ∷ es) behind most =
 beyond-packable : (sizes : Sizes) (index : ℕ) (es : List Event) → lastIndex 0 es < index → T (rising es)
     → T (not (isUnpackable sizes es index))
 beyond-packable sizes index es behind rises =
-    let none-there : segmentEvents index es ≡ [] = beyond-none index (lastIndex 0 es) es behind (last-most 0 es rises) in
+    let none-there : segmentEvents index es ≡ [] =
+    beyond-none index (lastIndex 0 es) es behind (last-most 0 es rises) in
     held-packable sizes es index ([], record { ordered = sym none-there; allFit = tt }, omega arith)
 
 -- no segment is unpackable, or one is and none before it
@@ -69,15 +71,18 @@ pub packable-or : (sizes : Sizes) (es : List Event) → SoundEvents sizes es
 unfolding lowestUnpackable
 packable-or sizes es facts =
     let last : ℕ = lastIndex 0 es in
-    let few : last / 32 < 16 = tables-few es (every-map (λ (e : Event) (f : EventFacts e). f .start) es (facts .facts)) in
+    let few : last / 32 < 16 =
+    tables-few es (every-map (λ (e : Event) (f : EventFacts e). f .start) es (facts .facts)) in
     ⊎-elim
     (λ (ends, all). inl (
       ends,
       λ index.
-          ⊎-elim (λ behind. beyond-packable sizes index es behind (facts .rises)) (λ within. all index (omega arith) (omega arith))
+          ⊎-elim (λ behind. beyond-packable sizes index es behind (facts .rises))
+          (λ within. all index (omega arith) (omega arith))
           (le-or-lt (suc last) index),
     ))
-    (λ (index, is, within, fails, before). inr (index, is, omega arith, fails, λ lower less. before lower (omega arith) less))
+    (λ (index, is, within, fails, before). inr
+    (index, is, omega arith, fails, λ lower less. before lower (omega arith) less))
     (lowest-or (isUnpackable sizes es) 0 (suc last))
 
 -- where no segment is unpackable there is no lowest
@@ -85,5 +90,6 @@ pub lowest-none : (sizes : Sizes) (es : List Event) → ((index : ℕ) → T (no
     → lowestUnpackable sizes es ≡ none
 unfolding lowestUnpackable
 lowest-none sizes es fits =
-    ⊎-elim (λ (ends, all). ends) (λ (index, is, few, fails, before). absurd (T-not (isUnpackable sizes es index) (fits index) fails))
+    ⊎-elim (λ (ends, all). ends)
+    (λ (index, is, few, fails, before). absurd (T-not (isUnpackable sizes es index) (fits index) fails))
     (lowest-or (isUnpackable sizes es) 0 (suc (lastIndex 0 es)))

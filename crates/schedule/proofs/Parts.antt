@@ -1,5 +1,5 @@
--- The sections of a segment that is not unpackable hold events that start in it, fit, and are not empty where the segment has
--- events: the laws of greedy packing, said of sections. Assumes nothing.
+-- The sections of a segment that is not unpackable hold events that start in it, fit, and are not empty where the
+-- segment has events: the laws of greedy packing, said of sections. Assumes nothing.
 use mathlib.Core.Path.{_≡_, refl, sym, ap, _∙_}
 use mathlib.Core.Bool.{not}
 use mathlib.Core.Logic.{_⊎_, inl, inr}
@@ -22,7 +22,8 @@ use Rattle.sections.specs.Rules.{EventRules}
 use Rattle.sections.specs.Count.{segmentEvents}
 use Rattle.sections.proofs.Every.{every-map, every-parts}
 use Rattle.sections.proofs.Count.{events-cases}
-use Rattle.schedule.specs.SectionsOf.{isUnpackable, packed, packedSegment, headerOf, numberedFrom, sectionsOfSegment}
+use Rattle.schedule.specs.SectionsOf.{isUnpackable, packed, packedSegment, headerOf, numberedFrom}
+use Rattle.schedule.specs.SectionsOf.{sectionsOfSegment}
 use Rattle.schedule.proofs.SoundEvents.{EventFacts}
 use Rattle.schedule.proofs.Extent.{startIndex}
 
@@ -68,11 +69,13 @@ module _ (sizes : Sizes) where
   packed-nonempty (e ∷ es) fits = inr (greedy-nonempty eventSize (room sizes) 8 (e ∷ es) fits)
 
   -- the parts of events that are not unpackable are these events
-  packed-all : (es : List Event) → T (not (unpackable eventSize (room sizes) 8 es)) → flatten (packed (room sizes) es) ≡ es
+  packed-all : (es : List Event) → T (not (unpackable eventSize (room sizes) 8 es))
+      → flatten (packed (room sizes) es) ≡ es
   unfolding packed flatten
   packed-all [] fits = refl
   packed-all (e ∷ es) fits =
-      sym (joined-flatten (greedy eventSize (room sizes) 8 (e ∷ es))) ∙ packable eventSize (room sizes) 8 (e ∷ es) fits .ordered
+      sym (joined-flatten (greedy eventSize (room sizes) 8 (e ∷ es)))
+      ∙ packable eventSize (room sizes) 8 (e ∷ es) fits .ordered
 
   packed-some : (es : List Event) → 0 < length (packed (room sizes) es)
   unfolding packed greedy
@@ -97,7 +100,8 @@ module _ (sizes : Sizes) (es : List Event) (index : ℕ) where
   parts-few = packed-few sizes (segmentEvents index es)
 
   -- together they hold the segment's events, if it is not unpackable
-  pub parts-events : T (not (isUnpackable sizes es index)) → flatten (packedSegment sizes es index) ≡ segmentEvents index es
+  pub parts-events : T (not (isUnpackable sizes es index))
+      → flatten (packedSegment sizes es index) ≡ segmentEvents index es
   unfolding packedSegment isUnpackable
   parts-events fits = packed-all sizes (segmentEvents index es) fits
 
@@ -145,4 +149,6 @@ module _ (sizes : Sizes) (identity : Identity) (es : List Event) (index : ℕ) w
   pub part-sizes : sectionOverhead ≤ sizes .«section_limit»
       → Every (λ (s : Section). sectionSize s ≤ sizes .«section_limit») (sectionsOfSegment sizes identity es index)
   unfolding sectionsOfSegment packedSegment
-  part-sizes roomy = numbered-sizes roomy (firstSection index) (packedSegment sizes es index) (packed-fits sizes (segmentEvents index es))
+  part-sizes roomy =
+      numbered-sizes roomy (firstSection index) (packedSegment sizes es index)
+      (packed-fits sizes (segmentEvents index es))

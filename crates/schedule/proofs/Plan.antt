@@ -1,5 +1,5 @@
--- Plan's sixteen tables of thirty-two counts: what each entry is, and that those of a list without an unpackable segment are
--- the sections of Build's file. By the laws of numbers in a row. Assumes nothing.
+-- Plan's sixteen tables of thirty-two counts: what each entry is, and that those of a list without an unpackable
+-- segment are the sections of Build's file. By the laws of numbers in a row. Assumes nothing.
 use mathlib.Core.Path.{_≡_, refl, sym, ap, _∙_}
 use mathlib.Core.Bool.{not}
 use mathlib.Core.Logic.{⊎-elim}
@@ -63,7 +63,8 @@ tabled-at count index few =
     ∙ ap count place
 
 module _ (sizes : Sizes) (pools : Pools) (list : EventList) where
-  pub plan-sound : T (sound sizes pools list) → plan sizes pools list ≡ tabled (sectionCount sizes (eventsOf pools list))
+  pub plan-sound : T (sound sizes pools list)
+      → plan sizes pools list ≡ tabled (sectionCount sizes (eventsOf pools list))
   unfolding plan
   plan-sound is = rw (plan, true-is (sound sizes pools list) is)
 
@@ -87,13 +88,18 @@ module _ (sizes : Sizes) (es : List Event) (index : ℕ) where
       let xs : List Event = segmentEvents index es in
       let left : reach eventSize (room sizes) 8 xs < length xs =
       ltb→lt (reach eventSize (room sizes) 8 xs) (length xs) (rw (test-is sizes es index) at fails) in
-      rw (sectionCount, true-is (isInside es index) (held-inside index es rises (omega arith)), true-is (isUnpackable sizes es index) fails)
+      rw (
+        sectionCount,
+        true-is (isInside es index) (held-inside index es rises (omega arith)),
+        true-is (isUnpackable sizes es index) fails,
+      )
 
   -- else the number of its sections
   pub count-inside : T (isInside es index) → T (not (isUnpackable sizes es index))
       → sectionCount sizes es index ≡ length (packedSegment sizes es index)
   unfolding sectionCount
-  count-inside inside fits = rw (sectionCount, true-is (isInside es index) inside, false-is (isUnpackable sizes es index) fits)
+  count-inside inside fits =
+      rw (sectionCount, true-is (isInside es index) inside, false-is (isUnpackable sizes es index) fits)
 
   -- which are those that Build's file has there
   pub count-sections : (identity : Identity) → T (not (isUnpackable sizes es index))
@@ -105,5 +111,6 @@ module _ (sizes : Sizes) (es : List Event) (index : ℕ) where
       ∙ sym (ap length (part-parts sizes identity es index))
       ∙ length-map (sectionsOfSegment sizes identity es index) (λ (s : Section). s .events)
       ∙ sym (ap length (sections-inside sizes identity es index (parts-few sizes es) inside)))
-      (λ outside. count-outside outside ∙ sym (ap length (sections-outside sizes identity es index (parts-few sizes es) outside)))
+      (λ outside. count-outside outside
+      ∙ sym (ap length (sections-outside sizes identity es index (parts-few sizes es) outside)))
       (test-or (isInside es index))

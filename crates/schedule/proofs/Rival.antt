@@ -1,5 +1,5 @@
--- Any file that keeps the rules, whoever made it: its sections in a segment are a packing of the events that start there, in at
--- most eight parts. By the laws of counting. Assumes nothing.
+-- Any file that keeps the rules, whoever made it: its sections in a segment are a packing of the events that start
+-- there, in at most eight parts. By the laws of counting. Assumes nothing.
 use mathlib.Core.Path.{_≡_, refl, sym, ap, _∙_}
 use mathlib.Core.Logic.{⊎-elim}
 use mathlib.Core.List.{List, [], _∷_}
@@ -37,7 +37,8 @@ first-every : (P : Section → Type 0) (index k : ℕ) (ss : List Section) → E
 first-every P index k [] all = tt
 first-every P index k (s ∷ ss) all =
     let rest : Every P (firstSections index k ss) = first-every P index k ss (all .1) in
-    ⊎-elim (λ inside. rw (first-more index k s ss inside) (all .0, rest)) (λ outside. rw (first-same index k s ss outside) rest)
+    ⊎-elim (λ inside. rw (first-more index k s ss inside) (all .0, rest))
+    (λ outside. rw (first-same index k s ss outside) rest)
     (test-or (isInFirst index k (s .header)))
 
 parts-fit : (sizes : Sizes) (ss : List Section) → Every (λ (s : Section). sectionSize s ≤ sizes .«section_limit») ss
@@ -47,17 +48,24 @@ parts-fit sizes (s ∷ ss) fit = (omega (arith, fit .0, sizes-same (s .events)),
 
 module _ (sizes : Sizes) (identity : Identity) (ss : List Section) (rules : Rules sizes identity ss) (index : ℕ) where
   -- the sections in a segment pack the events that start there
-  pub segment-packing : Packing eventSize (room sizes) (segmentEvents index (sectionEvents ss)) (eventsBySection (segmentSections index ss))
+  pub segment-packing : Packing eventSize (room sizes) (segmentEvents index (sectionEvents ss))
+      (eventsBySection (segmentSections index ss))
   segment-packing =
       record {
-        ordered = joined-parts (segmentSections index ss) ∙ segment-holds index ss (every-map (λ s r. r .eventRules) ss (rules .sections));
+        ordered = joined-parts (segmentSections index ss)
+            ∙ segment-holds index ss (every-map (λ s r. r .eventRules) ss (rules .sections));
         allFit = parts-fit sizes (segmentSections index ss)
             (first-every _ index 8 ss (every-map (λ s r. r .size) ss (rules .sections)));
       }
 
   -- there are at most eight
   pub segment-parts : length (eventsBySection (segmentSections index ss)) ≤ 8
-  segment-parts = omega (arith, length-map (segmentSections index ss) (λ (s : Section). s .events), segment-eight sizes identity ss rules index)
+  segment-parts =
+      omega (
+        arith,
+        length-map (segmentSections index ss) (λ (s : Section). s .events),
+        segment-eight sizes identity ss rules index,
+      )
 
   -- so eight sections hold its events
   pub segment-eight-hold : EightHold sizes (sectionEvents ss) index

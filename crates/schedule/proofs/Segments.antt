@@ -1,5 +1,5 @@
--- Build's file has, in each segment inside the range, just the sections of that segment, and none in one outside: sections of
--- another segment have another table or other numbers. By the laws of numbers in a row. Assumes nothing.
+-- Build's file has, in each segment inside the range, just the sections of that segment, and none in one outside:
+-- sections of another segment have another table or other numbers. By the laws of numbers in a row. Assumes nothing.
 use mathlib.Core.Path.{_≡_, refl, ap, subst, _∙_}
 use mathlib.Core.Bool.{not}
 use mathlib.Core.List.{List, [], _∷_, flatten}
@@ -16,7 +16,8 @@ use Rattle.sections.specs.Count.{isInFirst, segmentSections}
 use Rattle.sections.proofs.Count.{in-first, first-in, first-more, first-same, first-append}
 use Rattle.schedule.specs.Each.{each}
 use Rattle.schedule.specs.Extent.{tableSegments, lastTable, lastSegment, isInside}
-use Rattle.schedule.specs.SectionsOf.{packedSegment, headerOf, numberedFrom, sectionsOfSegment, sectionsOfTable, sectionsOf}
+use Rattle.schedule.specs.SectionsOf.{packedSegment, headerOf, numberedFrom, sectionsOfSegment, sectionsOfTable}
+use Rattle.schedule.specs.SectionsOf.{sectionsOf}
 use Rattle.schedule.proofs.Each.{joined-map, joined-none, joined-only}
 use Rattle.schedule.proofs.Extent.{segment-in-table, is-inside, inside-is}
 use Rattle.schedule.proofs.Held.{table-is, file-is}
@@ -51,12 +52,14 @@ module _ (sizes : Sizes) (identity : Identity) (es : List Event) (index : ℕ) w
 
     part-inside : inSegment (sectionsOfSegment sizes identity es index) ≡ sectionsOfSegment sizes identity es index
     unfolding sectionsOfSegment
-    part-inside = all-inside (firstSection index) (packedSegment sizes es index) (omega arith) (omega (arith, few index))
+    part-inside =
+        all-inside (firstSection index) (packedSegment sizes es index) (omega arith) (omega (arith, few index))
 
     part-outside : (other : ℕ) → (other ≡ index → ⊥) → inSegment (sectionsOfSegment sizes identity es other) ≡ []
     unfolding sectionsOfSegment
     part-outside other apart =
-        none-inside other (firstSection other) (packedSegment sizes es other) apart (omega arith) (omega (arith, few other))
+        none-inside other (firstSection other) (packedSegment sizes es other) apart (omega arith)
+        (omega (arith, few other))
 
     -- of a table
     table-parts : (table : ℕ) → inSegment (sectionsOfTable sizes identity es table)
@@ -81,7 +84,8 @@ module _ (sizes : Sizes) (identity : Identity) (es : List Event) (index : ℕ) w
     table-outside table outside =
         let inside : lastSegment es table / 32 ≡ table = segment-in-table es table in
         table-parts table
-        ∙ joined-none (λ (k : ℕ). inSegment (sectionsOfSegment sizes identity es k)) (table * 32) (suc (lastSegment es table - table * 32))
+        ∙ joined-none (λ (k : ℕ). inSegment (sectionsOfSegment sizes identity es k)) (table * 32)
+        (suc (lastSegment es table - table * 32))
         (λ k low high. part-outside k (λ same. outside (omega arith) (omega arith)))
 
     -- of the file

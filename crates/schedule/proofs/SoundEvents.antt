@@ -1,5 +1,5 @@
--- The events of a sound list, with pools of bytes, are in range, rise, differ and are few, and their chains are chains of
--- bytes: each part of soundness, said of events. Assumes nothing.
+-- The events of a sound list, with pools of bytes, are in range, rise, differ and are few, and their chains are chains
+-- of bytes: each part of soundness, said of events. Assumes nothing.
 use mathlib.Core.Path.{_≡_, refl, ap}
 use mathlib.Core.Bool.{Bool, true, false}
 use mathlib.Core.List.{List, [], _∷_}
@@ -70,7 +70,8 @@ module _ (pools : Pools) (day : Bytes (pools .day)) (series : Bytes (pools .seri
   ids-same [] = refl
   ids-same (r ∷ rs) = ap (λ (ns : List ℕ). r .id ∷ ns) (ids-same rs)
 
-  pub sound-events : (sizes : Sizes) (list : EventList) → T (sound sizes pools list) → SoundEvents sizes (eventsOf pools list)
+  pub sound-events : (sizes : Sizes) (list : EventList) → T (sound sizes pools list)
+      → SoundEvents sizes (eventsOf pools list)
   unfolding eventsOf
   sound-events sizes list t =
       let facts = sound-list sizes pools list t in

@@ -1,5 +1,5 @@
--- Build as one total function of list, pools, base day, identity and output (01, "Build, Read", "When a call says no"). Laws:
--- proofs/Build.antt. Assumes nothing.
+-- Build as one total function of list, pools, base day, identity and output (01, "Build, Read", "When a call says no").
+-- Laws: proofs/Build.antt. Assumes nothing.
 use Prim.Native.Nat.{ℕ}
 use mathlib.Core.Bool.{true, false}
 use mathlib.Core.List.{List}
@@ -28,8 +28,8 @@ pub record Built : Type 0 where
 abbrev pub refusal : ℕ → ℕ → List ℕ → Built
 refusal number value output = record { number = number; value = value; output = output }
 
--- some sections written: 11 and the bytes needed if the output is short, else success and the file's length. Bytes beyond the
--- file stay
+-- some sections written: 11 and the bytes needed if the output is short, else success and the file's length. Bytes
+-- beyond the file stay
 unfoldable pub written : ℕ → List Section → List ℕ → Built
 unfolding fileBytes
 written base ss output =

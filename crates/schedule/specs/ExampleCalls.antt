@@ -14,7 +14,11 @@ use Rattle.schedule.specs.ExampleLists.{Case}
 
 -- an identity
 abbrev pub identityWith : ℕ → Identity
-identityWith version = record { triplet = record { «service_id» = 1; «transport_stream_id» = 2; «original_network_id» = 3 }; version = version }
+identityWith version =
+    record {
+      triplet = record { «service_id» = 1; «transport_stream_id» = 2; «original_network_id» = 3 };
+      version = version;
+    }
 
 -- Build under a base day and a version, into an output
 abbrev pub buildWith : Sizes → Case → ℕ → ℕ → List ℕ → Built
@@ -31,8 +35,11 @@ sectionsWith f sizes c = map f (sectionsOf sizes (identityWith 0) (eventsOf (c .
 -- table_id; S, G, L and last_table_id; the ids of its events
 abbrev pub sectionRow : Section → ℕ × (ℕ × ℕ × ℕ × ℕ) × List ℕ
 sectionRow s =
-    let h = s .header in
-    (h .tableId, (h .sectionNumber, h .segmentLastSectionNumber, h .lastSectionNumber, h .lastTableId), eventIds (s .events))
+    let h = s .header in (
+      h .tableId,
+      (h .sectionNumber, h .segmentLastSectionNumber, h .lastSectionNumber, h .lastTableId),
+      eventIds (s .events),
+    )
 
 -- sixteen tables of thirty-two counts: those given, and 0 after them
 abbrev pub padded : List (List ℕ) → List (List ℕ)

@@ -14,7 +14,8 @@ row least (suc n) = least ∷ row (suc least) n
 
 -- an event with the first bytes of its pool: the day pool under marks 0, the series pool under marks 2
 abbrev pub eventRecord : ℕ → ℕ → ℕ → ℕ → Record
-eventRecord id start marks size = record { id = id; start = start; duration = 1; marks = marks; offset = 0; «chain_length» = size }
+eventRecord id start marks size =
+    record { id = id; start = start; duration = 1; marks = marks; offset = 0; «chain_length» = size }
 
 -- events at these starts, with ids from `id` on and chains of `size` bytes in the day pool
 abbrev pub starting : ℕ → ℕ → List ℕ → List Record
@@ -29,7 +30,10 @@ pub record Case : Type 0 where
 -- a day pool, a series pool, and records in a buffer that is just long enough
 abbrev pub caseOf : List ℕ → List ℕ → List Record → Case
 caseOf day series rs =
-    record { pools = record { day = day; series = series }; list = record { buffer = numbersOfAll rs; count = length rs } }
+    record {
+      pools = record { day = day; series = series };
+      list = record { buffer = numbersOfAll rs; count = length rs };
+    }
 
 -- events at these starts, each with this chain
 abbrev pub chained : List ℕ → List ℕ → Case

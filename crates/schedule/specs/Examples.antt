@@ -63,7 +63,8 @@ pub record Examples : Type 0 where
       ≡ record { number = 0; value = 198; output = gapFile ++ (0xAA ∷ []) }
   -- the need, whatever the output's length
   pub gap-short :
-      buildWith (sectionsOfAtMost 54) gap 49_273 0 (replicate 5 0xAA) ≡ record { number = 11; value = 198; output = replicate 5 0xAA }
+      buildWith (sectionsOfAtMost 54) gap 49_273 0 (replicate 5 0xAA)
+      ≡ record { number = 11; value = 198; output = replicate 5 0xAA }
   -- one event fills a section of 30 bytes: eight of them are eight sections, and a ninth makes the segment unpackable
   pub eight-packed : answer 30 (plainEvents 0 8) ≡ record { number = 11; value = 240; output = [] }
   pub eight-plan : planWith (sectionsOfAtMost 30) (plainEvents 0 8) ≡ padded ((8 ∷ []) ∷ [])

@@ -1,5 +1,6 @@
--- Which segments Build's file has (01, "Build, Read": "last_table_id is that of the last event, 0x50 for no events. Each table
--- ends with its last segment that has events, or with section 0 if it has none"). Tables are counted from 0 here: table 0x50 is
+-- Which segments Build's file has (01, "Build, Read": "last_table_id is that of the last event, 0x50 for no events.
+-- Each table ends with its last segment that has events, or with section 0 if it has none"). Tables are counted from 0
+-- here: table 0x50 is
 -- 0. Laws: proofs/Extent.antt. Assumes nothing.
 use Prim.Native.Nat.{ℕ, _*_, _/_}
 use mathlib.Core.Bool.{Bool, true, false, _&&_}
@@ -24,7 +25,11 @@ lastIndex index (e ∷ es) = lastIndex (segmentIndex (e .start)) es
 abbrev pub tableEvents : ℕ → List Event → List Event
 tableEvents table [] = []
 tableEvents table (e ∷ es) =
-    elim (eqb (segmentIndex (e .start) / tableSegments) table) [ true ↦ e ∷ tableEvents table es | false ↦ tableEvents table es ]
+    elim (eqb (segmentIndex (e .start) / tableSegments) table) [
+      | true ↦ e ∷ tableEvents table es
+      | false ↦ tableEvents
+          table es
+    ]
 
 -- last_table_id is that of the last event, 0x50 for no events
 abbrev pub lastTable : List Event → ℕ
@@ -37,7 +42,8 @@ lastTableIdOf es = tableOf (lastIndex 0 es)
 abbrev pub lastSegment : List Event → ℕ → ℕ
 lastSegment es table = lastIndex (table * tableSegments) (tableEvents table es)
 
--- whether a segment is inside the range: its table is not past the last one, and it is not past its table's last segment
+-- whether a segment is inside the range: its table is not past the last one, and it is not past its table's last
+-- segment
 abbrev pub isInside : List Event → ℕ → Bool
 isInside es index =
     leb (index / tableSegments) (lastTable es) && leb index (lastSegment es (index / tableSegments))

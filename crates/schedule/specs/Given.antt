@@ -1,5 +1,5 @@
--- What demands 2 and 3 speak of: what Build is given besides the output, files that are accepted and carry its events, and
--- segments that eight sections hold (01, "Build, Read"). The demands are in specs/Demands.antt. Assumes nothing.
+-- What demands 2 and 3 speak of: what Build is given besides the output, files that are accepted and carry its events,
+-- and segments that eight sections hold (01, "Build, Read"). The demands are in specs/Demands.antt. Assumes nothing.
 use Prim.Native.Nat.{ℕ, _≤_}
 use mathlib.Core.List.{List, []}
 use lib.Dec.{T}
@@ -22,8 +22,8 @@ use Rattle.sections.specs.Read.{read, listOf}
 use Rattle.sections.specs.Exact.{RecordBuffer, Accepted}
 use Rattle.schedule.specs.Build.{Built, build}
 
--- what Build takes besides the output: a sound list with its pools, a legal base day and a legal identity. Bytes are the calls'
--- u8, ids of two bytes (in `IdentityRules`) their u16
+-- what Build takes besides the output: a sound list with its pools, a legal base day and a legal identity. Bytes are
+-- the calls' u8, ids of two bytes (in `IdentityRules`) their u16
 pub record Given (sizes : Sizes) : Type 0 where
   pub pools : Pools
   pub list : EventList
@@ -42,13 +42,15 @@ module _ {sizes : Sizes} where
   abbrev pub events : Given sizes → List Event
   events g = eventsOf (g .pools) (g .list)
 
-  -- 01's term: carries. The file is accepted, and Read then returns as many records as the list has, each the same event as the
-  -- list's record in that place; the file is the pool of what Read returns, and what the record buffer held does not matter
+  -- 01's term: carries. The file is accepted, and Read then returns as many records as the list has, each the same
+  -- event as the list's record in that place; the file is the pool of what Read returns, and what the record buffer
+  -- held does not matter
   pub record Carries (g : Given sizes) (file : List ℕ) : Type 0 where
     pub bytes : Bytes file
     pub accepted : Accepted sizes (g .base) file
     pub sameEvents : (buffer : List ℕ) → RecordBuffer buffer
-        → AllSame (filePools file []) (g .pools) (recordsOf (listOf (read sizes (g .base) file buffer))) (recordsOf (g .list))
+        → AllSame (filePools file []) (g .pools) (recordsOf (listOf (read sizes (g .base) file buffer)))
+        (recordsOf (g .list))
 
 -- at most eight sections hold the events that start in a segment, in their order
 abbrev pub EightHold : Sizes → List Event → ℕ → Type 0

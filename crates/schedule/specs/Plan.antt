@@ -1,5 +1,5 @@
--- Plan as one total function of list and pools (01, "Build, Read": "Plan takes list and pools and returns sixteen tables of
--- thirty-two section counts for a list, those of Build's packing"). Laws: proofs/Plan.antt. Assumes nothing.
+-- Plan as one total function of list and pools (01, "Build, Read": "Plan takes list and pools and returns sixteen
+-- tables of thirty-two section counts for a list, those of Build's packing"). Laws: proofs/Plan.antt. Assumes nothing.
 use Prim.Native.Nat.{ℕ, _+_, _*_, _/_, _%_}
 use mathlib.Core.Bool.{true, false}
 use mathlib.Core.List.{List, []}
@@ -13,7 +13,8 @@ use Rattle.schedule.specs.Each.{each}
 use Rattle.schedule.specs.Extent.{tables, tableSegments, isInside}
 use Rattle.schedule.specs.SectionsOf.{isUnpackable, packedSegment}
 
--- 0 outside a table's range, 255 for an unpackable segment (which is inside: `count-unpackable`); else the number of its sections
+-- 0 outside a table's range, 255 for an unpackable segment (which is inside: `count-unpackable`); else the number of
+-- its sections
 unfoldable pub sectionCount : Sizes → List Event → ℕ → ℕ
 unfolding isUnpackable packedSegment
 sectionCount sizes es index =
@@ -25,13 +26,18 @@ sectionCount sizes es index =
 -- sixteen tables of thirty-two counts, each that of a segment index
 unfoldable pub tabled : (ℕ → ℕ) → List (List ℕ)
 unfolding each
-tabled count = each (λ (table : ℕ). each (λ (segment : ℕ). count (table * tableSegments + segment)) 0 tableSegments) 0 tables
+tabled count =
+    each (λ (table : ℕ). each (λ (segment : ℕ). count (table * tableSegments + segment)) 0 tableSegments) 0 tables
 
 -- Plan. Every entry is 254 if the list is unsound
 unfoldable pub plan : Sizes → Pools → EventList → List (List ℕ)
 unfolding tabled sectionCount
 plan sizes pools list =
-    elim (sound sizes pools list) [ true ↦ tabled (sectionCount sizes (eventsOf pools list)) | false ↦ tabled (λ (index : ℕ). 254) ]
+    elim (sound sizes pools list) [
+      | true ↦ tabled (sectionCount sizes (eventsOf pools list))
+      | false ↦ tabled
+          (λ (index : ℕ). 254)
+    ]
 
 -- the count of a segment
 abbrev pub planned : List (List ℕ) → ℕ → ℕ

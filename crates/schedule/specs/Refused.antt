@@ -1,5 +1,5 @@
--- What demand 1 says of refusals: "A refusal leaves them untouched, except that a refused edit keeps the edits before it". It is a field of
--- `Demands` (specs/Demands.antt). Assumes nothing.
+-- What demand 1 says of refusals: "A refusal leaves them untouched, except that a refused edit keeps the edits before
+-- it". It is a field of `Demands` (specs/Demands.antt). Assumes nothing.
 use mathlib.Core.Path.{_≡_}
 use mathlib.Core.Logic.{_⊎_}
 use Prim.Native.Nat.{ℕ}

@@ -1,5 +1,5 @@
--- The sections of Build's file of some events (01, "Build, Read"): which events each has, and its numbers S, G and L. No bytes.
--- Laws: proofs/Numbers.antt, proofs/Held.antt. Assumes nothing.
+-- The sections of Build's file of some events (01, "Build, Read"): which events each has, and its numbers S, G and L.
+-- No bytes. Laws: proofs/Numbers.antt, proofs/Held.antt. Assumes nothing.
 use Prim.Native.Nat.{ℕ, suc, _+_, _-_, _*_, _/_}
 use mathlib.Core.Bool.{Bool}
 use mathlib.Core.List.{List, [], _∷_, flatten}
@@ -30,8 +30,8 @@ unfoldable pub lowestUnpackable : Sizes → List Event → Option ℕ
 unfolding lowest isUnpackable
 lowestUnpackable sizes es = lowest (isUnpackable sizes es) 0 (suc (lastIndex 0 es))
 
--- 01's term: packing rule. Each section takes as many of the segment's next events as fit, in `bytes` bytes. A segment without
--- events is one section
+-- 01's term: packing rule. Each section takes as many of the segment's next events as fit, in `bytes` bytes. A segment
+-- without events is one section
 unfoldable pub packed : ℕ → List Event → List (List Event)
 unfolding greedy
 packed bytes [] = [] ∷ []

@@ -1,5 +1,5 @@
--- Edit on a sound list leaves a sound list, accepted or refused; 12, 3 and 4 leave all: by induction over the edits, each of
--- which the machine's laws cover. Assumes nothing.
+-- Edit on a sound list leaves a sound list, accepted or refused; 12, 3 and 4 leave all: by induction over the edits,
+-- each of which the machine's laws cover. Assumes nothing.
 use mathlib.Core.Path.{_≡_, refl, sym, ap, _∙_, subst}
 use mathlib.Core.Logic.{_⊎_, inl, inr, ⊎-elim}
 use mathlib.Core.Bool.{Bool, true, false, not}
@@ -16,7 +16,8 @@ use Rattle.eit.specs.Sound.{inRange, hasChain, idsOf, startsOf, sound}
 use Rattle.eit.proofs.Test.{test-or, true-is, false-is}
 use Rattle.script.specs.Form.{Edit, Act, put, withdraw, move, Command, Form, commands, broken, formOf}
 use Rattle.script.specs.Struck.{Unstruck, unstruck, nothingAt, unstruckIn}
-use Rattle.script.specs.Machine.{limitOf, without, afterPut, afterWithdraw, afterMove, Step, done, refused, check, step}
+use Rattle.script.specs.Machine.{limitOf, without, afterPut, afterWithdraw, afterMove, Step, done, refused, check}
+use Rattle.script.specs.Machine.{step}
 use Rattle.script.specs.Edit.{Stopped, Edited, run, refusal, edit}
 use Rattle.script.proofs.Machine.{step-sound}
 
@@ -53,7 +54,8 @@ step-number sizes pools list (move id start) =
     let rs = recordsOf list in
     check-numbered (ltb start windowSeconds) 5 (omega arith)
     (check-numbered (isAmong id (idsOf rs)) 6 (omega arith)
-    (check-numbered (not (isAmong start (startsOf (without id rs)))) 7 (omega arith) (done-numbered (afterMove list id start))))
+    (check-numbered (not (isAmong start (startsOf (without id rs)))) 7 (omega arith)
+    (done-numbered (afterMove list id start))))
 
 module _ (sizes : Sizes) (pools : Pools) where
   -- ---- the machine's run, edit by edit
@@ -70,9 +72,12 @@ module _ (sizes : Sizes) (pools : Pools) where
     run-refused number q = rw (run, q)
 
   -- what holds of every run: it holds at the end, at a refusal, and behind an edit that is done
-  pub run-ind : (P : EventList → Edited → Type 0) → ((list : EventList) → P list (record { number = 0; value = list .count; list = list }))
-      → ((list : EventList) (e : Edit) (number : ℕ) → step sizes pools list (e .act) ≡ refused number → P list (record { number = number; value = e .at; list = list }))
-      → ((list : EventList) (e : Edit) (next : EventList) (o : Edited) → step sizes pools list (e .act) ≡ done next → P next o → P list o)
+  pub run-ind : (P : EventList → Edited → Type 0)
+      → ((list : EventList) → P list (record { number = 0; value = list .count; list = list }))
+      → ((list : EventList) (e : Edit) (number : ℕ) → step sizes pools list (e .act) ≡ refused number
+      → P list (record { number = number; value = e .at; list = list }))
+      → ((list : EventList) (e : Edit) (next : EventList) (o : Edited) → step sizes pools list (e .act) ≡ done next
+      → P next o → P list o)
       → (list : EventList) (es : List Edit) → P list (run sizes pools list es)
   unfolding run
   run-ind P ended stopped more list [] = ended list
@@ -84,9 +89,11 @@ module _ (sizes : Sizes) (pools : Pools) where
       (λ r. rw (run-refused list e es (r .0) (r .1)) (stopped list e (r .0) (r .1)))
       (step-or (step sizes pools list (e .act)))
 
-  pub run-sound : (list : EventList) (es : List Edit) → T (sound sizes pools list) → T (sound sizes pools (run sizes pools list es .list))
+  pub run-sound : (list : EventList) (es : List Edit) → T (sound sizes pools list)
+      → T (sound sizes pools (run sizes pools list es .list))
   run-sound =
-      run-ind (λ list o. T (sound sizes pools list) → T (sound sizes pools (o .list))) (λ list t. t) (λ list e number q t. t)
+      run-ind (λ list o. T (sound sizes pools list) → T (sound sizes pools (o .list))) (λ list t. t)
+      (λ list e number q t. t)
       (λ list e next o q ih t. ih (step-sound sizes pools list (e .act) next q t))
 
   -- edits that are carried out one part after the other are carried out together
@@ -137,7 +144,15 @@ module _ (sizes : Sizes) (pools : Pools) where
       }))
       (λ (number, number-is).
       subst (λ (o : Edited). Stopped sizes pools list (e ∷ es) o) (sym (run-refused list e es number number-is))
-      (record { before = []; stop = e; behind = es; split = refl; carriedOut = refl; refuses = number-is; offset = refl }))
+      (record {
+        before = [];
+        stop = e;
+        behind = es;
+        split = refl;
+        carriedOut = refl;
+        refuses = number-is;
+        offset = refl;
+      }))
       (step-or (step sizes pools list (e .act)))
 
   -- ---- the call, refusal by refusal
@@ -167,9 +182,11 @@ module _ (sizes : Sizes) (pools : Pools) where
       → ((at : ℕ) → P (refusal 3 at list)) → ((at : ℕ) → P (refusal 4 at list))
       → ((es : List Edit) → T (sound sizes pools list) → P (run sizes pools list es)) → P (edit sizes pools list script)
   edit-or P list script unsound broke idle runs =
-      ⊎-elim (λ t. formed t (formOf script) refl) (λ t. rw (edit-unsound list script t) unsound) (test-or (sound sizes pools list))
+      ⊎-elim (λ t. formed t (formOf script) refl) (λ t. rw (edit-unsound list script t) unsound)
+      (test-or (sound sizes pools list))
     where
-      struck : (t : T (sound sizes pools list)) (cs : List Command) → formOf script ≡ commands cs → (u : Unstruck) → unstruckIn cs ≡ u
+      struck : (t : T (sound sizes pools list)) (cs : List Command) → formOf script ≡ commands cs → (u : Unstruck)
+          → unstruckIn cs ≡ u
           → P (edit sizes pools list script)
       struck t cs f (unstruck es) u = rw (edit-runs list script t cs es f u) (runs es t)
       struck t cs f (nothingAt at) u = rw (edit-nothing list script t cs at f u) (idle at)
@@ -189,11 +206,13 @@ module _ (sizes : Sizes) (pools : Pools) where
       → let o = edit sizes pools list script in
       (o .number ≡ 12) ⊎ ((o .number ≡ 3) ⊎ (o .number ≡ 4)) → o .list ≡ list
   edit-leaves list script =
-      edit-or (λ o. (o .number ≡ 12) ⊎ ((o .number ≡ 3) ⊎ (o .number ≡ 4)) → o .list ≡ list) list script (λ n. refl) (λ at n. refl)
+      edit-or (λ o. (o .number ≡ 12) ⊎ ((o .number ≡ 3) ⊎ (o .number ≡ 4)) → o .list ≡ list) list script (λ n. refl)
+      (λ at n. refl)
       (λ at n. refl)
       (λ es t n. absurd (never (run sizes pools list es .number) (run-number list es) n))
     where
       never : {A : Type 0} (n : ℕ) → ((n ≡ 0) × A) ⊎ ((5 ≤ n) × (n ≤ 9)) → (n ≡ 12) ⊎ ((n ≡ 3) ⊎ (n ≡ 4)) → ⊥
       never n r =
           ⊎-elim (λ twelve. ⊎-elim (λ a. omega arith) (λ a. omega arith) r)
-          (⊎-elim (λ three. ⊎-elim (λ a. omega arith) (λ a. omega arith) r) (λ four. ⊎-elim (λ a. omega arith) (λ a. omega arith) r))
+          (⊎-elim (λ three. ⊎-elim (λ a. omega arith) (λ a. omega arith) r)
+          (λ four. ⊎-elim (λ a. omega arith) (λ a. omega arith) r))

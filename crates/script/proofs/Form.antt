@@ -1,9 +1,8 @@
--- A script has the form of some commands exactly if it is their bytes: by induction over the bytes, where the operands of a
--- command that has begun are skipped (`form-skip`), so that each step is a whole command.
+-- A script has the form of some commands exactly if it is their bytes: by induction over the bytes, where the operands
+-- of a command that has begun are skipped (`form-skip`), so that each step is a whole command.
 --
--- In order: the equations of `formFrom` that a reader expects; back (the bytes of commands are read as these commands); forth
--- (bytes that are read as commands are the bytes of these); offsets.
--- Assumes nothing.
+-- In order: the equations of `formFrom` that a reader expects; back (the bytes of commands are read as these commands);
+-- forth (bytes that are read as commands are the bytes of these); offsets. Assumes nothing.
 use mathlib.Core.Path.{_≡_, refl, ap, ap₂, _∙_}
 use mathlib.Core.Bool.{not}
 use mathlib.Core.Logic.{⊎-elim}
@@ -20,7 +19,8 @@ use Rattle.eit.proofs.Fields.{value-back, field-fits, field-forth}
 use Rattle.eit.proofs.Test.{and-left, and-right, and-both, true-is, false-is, test-or}
 use Rattle.script.specs.Form.{Act, put, withdraw, move, Command, doEdit, undo, putRecord, isCommand, operandBytes}
 use Rattle.script.specs.Form.{commandOf, isWhole, Form, commands, broken, before, formFrom, formOf, offsetOf}
-use Rattle.script.specs.Encode.{putBytes, actBytes, commandBytes, scriptBytes, PutFits, ActFits, CommandFits, Placed}
+use Rattle.script.specs.Encode.{putBytes, actBytes, commandBytes, scriptBytes, PutFits, ActFits, CommandFits}
+use Rattle.script.specs.Encode.{Placed}
 
 -- ---- the equations that a reader expects
 
@@ -41,7 +41,8 @@ whole-room code bs whole =
 
 pub form-whole : (code at : ℕ) (bs : List ℕ)
     → T (isWhole code bs)
-    → formFrom 0 at (code ∷ bs) ≡ before (commandOf code at bs) (formFrom 0 (at + 1 + operandBytes code) (drop (operandBytes code) bs))
+    → formFrom 0 at (code ∷ bs)
+    ≡ before (commandOf code at bs) (formFrom 0 (at + 1 + operandBytes code) (drop (operandBytes code) bs))
 form-whole code at bs whole =
     let next : operandBytes code + suc at ≡ at + 1 + operandBytes code = omega arith in
     rw (
@@ -81,7 +82,8 @@ put-back r rest h =
 
 act-back : (at : ℕ) (a : Act) (rest : List ℕ)
     → ActFits a
-    → formFrom 0 at (actBytes a ++ rest) ≡ before (doEdit (record { at = at; act = a })) (formFrom 0 (at + length (actBytes a)) rest)
+    → formFrom 0 at (actBytes a ++ rest)
+    ≡ before (doEdit (record { at = at; act = a })) (formFrom 0 (at + length (actBytes a)) rest)
 act-back at (put r) rest h =
     form-command 0x01 at (putBytes r) rest (doEdit (record { at = at; act = put r })) tt refl
     (ap (λ (s : Record). doEdit (record { at = at; act = put s })) (put-back r rest h))
@@ -89,8 +91,10 @@ act-back at (withdraw id) rest h =
     form-command 0x02 at (bigEndian 2 id) rest (doEdit (record { at = at; act = withdraw id })) tt refl
     (ap (λ (n : ℕ). doEdit (record { at = at; act = withdraw n })) (value-back 2 id h))
 act-back at (move id start) rest h =
-    form-command 0x03 at (bigEndian 2 id ++ bigEndian 4 start) rest (doEdit (record { at = at; act = move id start })) tt refl
-    (ap₂ (λ (m n : ℕ). doEdit (record { at = at; act = move m n })) (value-back 2 id (h .0)) (value-back 4 start (h .1)))
+    form-command 0x03 at (bigEndian 2 id ++ bigEndian 4 start) rest (doEdit (record { at = at; act = move id start }))
+    tt refl
+    (ap₂ (λ (m n : ℕ). doEdit (record { at = at; act = move m n })) (value-back 2 id (h .0))
+    (value-back 4 start (h .1)))
 
 pub command-back : (at : ℕ) (c : Command) (rest : List ℕ)
     → offsetOf c ≡ at
@@ -102,7 +106,8 @@ command-back at (undo there) rest here h = rw (← here) (form-command 0x04 ther
 back-from : (at : ℕ) (cs : List Command) → Placed at cs → formFrom 0 at (scriptBytes cs) ≡ commands cs
 back-from at [] h = refl
 back-from at (c ∷ cs) h =
-    command-back at c (scriptBytes cs) (h .0) (h .1) ∙ ap (before c) (back-from (at + length (commandBytes c)) cs (h .2))
+    command-back at c (scriptBytes cs) (h .0) (h .1)
+    ∙ ap (before c) (back-from (at + length (commandBytes c)) cs (h .2))
 
 -- the form of some commands' bytes is these commands
 pub form-back : (cs : List Command) → Placed 0 cs → formOf (scriptBytes cs) ≡ commands cs
@@ -135,7 +140,9 @@ module _ (bs : List ℕ) (bytes : Bytes bs) where
       ∙ rw (← take-add 2 4 bs, ← take-add 6 4 bs, ← take-add 10 1 bs, ← take-add 11 4 bs, ← take-add 15 2 bs)
 
   move-forth : 6 ≤ length bs → bigEndian 2 (field 0 2 bs) ++ bigEndian 4 (field 2 4 bs) ≡ take 6 bs
-  move-forth h = (λ i. field-forth bs bytes 0 2 (omega arith) i ++ field-forth bs bytes 2 4 (omega arith) i) ∙ rw (← take-add 2 4 bs)
+  move-forth h =
+      (λ i. field-forth bs bytes 0 2 (omega arith) i ++ field-forth bs bytes 2 4 (omega arith) i)
+      ∙ rw (← take-add 2 4 bs)
 
   -- what a command with all its operands is
   Forth : ℕ → ℕ → Type 0
@@ -168,8 +175,11 @@ module _ (bs : List ℕ) (bytes : Bytes bs) where
 
       move-case : Forth at 0x03
       move-case whole =
-          let h : 6 ≤ length bs = whole-room 0x03 bs whole in
-          (refl, (field-fits bs bytes 0 2 (omega arith), field-fits bs bytes 2 4 h), ap (λ (operands : List ℕ). 0x03 ∷ operands) (move-forth h))
+          let h : 6 ≤ length bs = whole-room 0x03 bs whole in (
+            refl,
+            (field-fits bs bytes 0 2 (omega arith), field-fits bs bytes 2 4 h),
+            ap (λ (operands : List ℕ). 0x03 ∷ operands) (move-forth h),
+          )
 
 pub before-only : (c : Command) (form : Form) (cs : List Command)
     → before c form ≡ commands cs

@@ -1,6 +1,6 @@
--- Which numbers an edit leaves as they were, beyond what proofs/Writes.antt says of PUT and WITHDRAW: those around both places of a
--- MOVE, those behind the list's limit, and how many there are. An edit writes records over the front of the buffer, so it is
--- enough to say which records are as they were. Assumes nothing.
+-- Which numbers an edit leaves as they were, beyond what proofs/Writes.antt says of PUT and WITHDRAW: those around both
+-- places of a MOVE, those behind the list's limit, and how many there are. An edit writes records over the front of the
+-- buffer, so it is enough to say which records are as they were. Assumes nothing.
 use mathlib.Core.Path.{_≡_, refl, sym, ap, _∙_}
 use mathlib.Core.Logic.{⊎-elim}
 use Prim.Native.Nat.{ℕ, suc, _+_, _-_, _*_, _≤_, _<_}
@@ -22,24 +22,29 @@ use Rattle.eit.proofs.Records.{count-records, buffer-is, numbers-length, number
 use Rattle.eit.proofs.Sound.{sound-list}
 use Rattle.script.specs.Form.{Act, put, withdraw, move}
 use Rattle.script.specs.Edit.{Edited, edit}
-use Rattle.script.specs.Machine.{limitOf, insert, find, without, withStart, zeroRecord, written, afterMove, done, step}
+use Rattle.script.specs.Machine.{limitOf, insert, find, without, withStart, zeroRecord, written, afterMove, done}
+use Rattle.script.specs.Machine.{step}
 use Rattle.script.proofs.Places.{insert-before, insert-behind, without-before, without-behind}
-use Rattle.script.proofs.Machine.{limit-is, put-length, withdraw-length, move-length, put-done, withdraw-done, move-done, step-sound}
+use Rattle.script.proofs.Machine.{limit-is, put-length, withdraw-length, move-length, put-done, withdraw-done}
+use Rattle.script.proofs.Machine.{move-done, step-sound}
 use Rattle.script.proofs.Edit.{run-ind, edit-or}
 
 -- ---- records written over the front of a buffer
 
 module _ (list : EventList) (rs : List Record) (n : ℕ) where
   -- numbers behind what is written stay
-  written-beyond : (k : ℕ) → length rs ≤ k → drop (k * recordSize) (written list rs n .buffer) ≡ drop (k * recordSize) (list .buffer)
-  written-beyond k h = over-after (list .buffer) 0 (numbersOfAll rs) (k * recordSize) (omega arith) (omega (arith, numbers-length rs))
+  written-beyond : (k : ℕ) → length rs ≤ k
+      → drop (k * recordSize) (written list rs n .buffer) ≡ drop (k * recordSize) (list .buffer)
+  written-beyond k h =
+      over-after (list .buffer) 0 (numbersOfAll rs) (k * recordSize) (omega arith) (omega (arith, numbers-length rs))
 
 module _ (list : EventList) (held : list .count * recordSize ≤ length (list .buffer)) (rs : List Record) (n : ℕ) where
   -- so do the first k records, if they are the same
   written-before : (k : ℕ) → k ≤ length rs → k ≤ list .count → take k rs ≡ take k (recordsOf list)
       → take (k * recordSize) (written list rs n .buffer) ≡ take (k * recordSize) (list .buffer)
   written-before k h l e =
-      let was = numbers-take k (recordsOf list) (drop (list .count * recordSize) (list .buffer)) (omega (arith, count-records list)) in
+      let was = numbers-take k (recordsOf list) (drop (list .count * recordSize) (list .buffer))
+      (omega (arith, count-records list)) in
       numbers-take k rs (drop (0 + length (numbersOfAll rs)) (list .buffer)) h
       ∙ ap numbersOfAll e
       ∙ sym was
@@ -57,7 +62,8 @@ module _ (list : EventList) (held : list .count * recordSize ≤ length (list .b
 
 -- ---- MOVE
 
-module _ (list : EventList) (id start k : ℕ) (a : T (isAmong id (idsOf (recordsOf list)))) (held : list .count * recordSize ≤ length (list .buffer)) where
+module _ (list : EventList) (id start k : ℕ) (a : T (isAmong id (idsOf (recordsOf list))))
+    (held : list .count * recordSize ≤ length (list .buffer)) where
   -- records before both places, the old one and the new one, stay
   pub move-before : k ≤ positionOf id (recordsOf list) → k ≤ placeOf start (without id (recordsOf list))
       → take (k * recordSize) (afterMove list id start .buffer) ≡ take (k * recordSize) (list .buffer)
@@ -80,7 +86,8 @@ module _ (list : EventList) (id start k : ℕ) (a : T (isAmong id (idsOf (record
       ⊎-elim
       (λ few.
       written-behind list held (insert r others) (list .count) k few whole
-      (rw e (insert-behind (k - 1) r others (omega arith) ∙ without-behind (k - 1) id (recordsOf list) a (omega arith))))
+      (rw e (insert-behind (k - 1) r others (omega arith)
+      ∙ without-behind (k - 1) id (recordsOf list) a (omega arith))))
       (λ more. written-beyond list (insert r others) (list .count) k (omega arith))
       (le-or-lt k (list .count))
 
@@ -104,7 +111,12 @@ module _ (sizes : Sizes) (pools : Pools) (list : EventList) where
       let rs : List Record = without id (recordsOf list) in
       rw (p .after)
       (written-length (rs ++ (zeroRecord ∷ [])) (list .count - 1)
-      (omega (arith, withdraw-length list id (p .oldId), length-append rs (zeroRecord ∷ []), sound-list sizes pools list t .held)))
+      (omega (
+        arith,
+        withdraw-length list id (p .oldId),
+        length-append rs (zeroRecord ∷ []),
+        sound-list sizes pools list t .held,
+      )))
   step-length (move id start) next e t =
       let p = move-done sizes pools list id start next e in
       let rs : List Record = recordsOf list in
@@ -117,11 +129,13 @@ module _ (sizes : Sizes) (pools : Pools) (list : EventList) where
 pub edit-length : (sizes : Sizes) (pools : Pools) (list : EventList) (script : List ℕ)
     → length (edit sizes pools list script .list .buffer) ≡ length (list .buffer)
 edit-length sizes pools list script =
-    edit-or sizes pools (λ o. length (o .list .buffer) ≡ length (list .buffer)) list script refl (λ at. refl) (λ at. refl)
+    edit-or sizes pools (λ o. length (o .list .buffer) ≡ length (list .buffer)) list script refl (λ at. refl)
+    (λ at. refl)
     (λ es t.
     run-ind sizes pools (λ list o. T (sound sizes pools list) → length (o .list .buffer) ≡ length (list .buffer))
     (λ list t. refl) (λ list e n q t. refl)
-    (λ list e next o q ih t. ih (step-sound sizes pools list (e .act) next q t) ∙ step-length sizes pools list (e .act) next q t)
+    (λ list e next o q ih t. ih (step-sound sizes pools list (e .act) next q t)
+    ∙ step-length sizes pools list (e .act) next q t)
     list es t)
 
 -- ---- numbers beyond the limit stay, whatever Edit answers
@@ -162,7 +176,8 @@ module _ (sizes : Sizes) (pools : Pools) (k : ℕ) where
       → drop (k * recordSize) (edit sizes pools list script .list .buffer) ≡ drop (k * recordSize) (list .buffer)
   unfolding Beyond
   edit-beyond list script h =
-      edit-or sizes pools (λ o. drop (k * recordSize) (o .list .buffer) ≡ drop (k * recordSize) (list .buffer)) list script refl
+      edit-or sizes pools (λ o. drop (k * recordSize) (o .list .buffer) ≡ drop (k * recordSize) (list .buffer)) list
+      script refl
       (λ at. refl) (λ at. refl)
       (λ es t.
       run-ind sizes pools Beyond (λ list t h. refl) (λ list e n q t h. refl)

@@ -20,12 +20,16 @@ use Rattle.eit.proofs.Test.{tests}
 use Rattle.eit.proofs.Overwrite.{over-length}
 use Rattle.eit.proofs.Records.{count-records, numbers-length, records-front}
 use Rattle.eit.proofs.Sound.{RecordFacts, ListFacts, list-sound, sound-list}
-use Rattle.script.specs.Machine.{limitOf, insert, find, without, withStart, zeroRecord, written, afterPut, afterWithdraw, afterMove, Step, done, check, step}
+use Rattle.script.specs.Machine.{limitOf, insert, find, without, withStart, zeroRecord, written, afterPut}
+use Rattle.script.specs.Machine.{afterWithdraw, afterMove, Step, done, check, step}
 use Rattle.script.specs.Form.{Act, put, withdraw, move}
-use Rattle.script.proofs.Placing.{insert-length, without-length, insert-valid, without-valid, find-valid, new-start, insert-rises, without-rises, insert-differ, without-differ, without-gone, find-id}
+use Rattle.script.proofs.Placing.{insert-length, without-length, insert-valid, without-valid, find-valid}
+use Rattle.script.proofs.Placing.{new-start, insert-rises, without-rises, insert-differ, without-differ}
+use Rattle.script.proofs.Placing.{without-gone, find-id}
 
 -- records written over the front of the buffer are the records of the list, as many as it counts
-pub written-records : (list : EventList) (rs : List Record) (n : ℕ) → n ≤ length rs → recordsOf (written list rs n) ≡ take n rs
+pub written-records : (list : EventList) (rs : List Record) (n : ℕ) → n ≤ length rs
+    → recordsOf (written list rs n) ≡ take n rs
 unfolding recordsOf
 written-records list rs n h = records-front n rs (drop (0 + length (numbersOfAll rs)) (list .buffer)) h
 
@@ -53,14 +57,16 @@ module _ (list : EventList) where
     withdraw-records =
         let rs : List Record = without id (recordsOf list) in
         let last : length rs ≡ list .count - 1 = omega (arith, withdraw-length) in
-        written-records list (rs ++ (zeroRecord ∷ [])) (list .count - 1) (omega (arith, length-append rs (zeroRecord ∷ [])))
+        written-records list (rs ++ (zeroRecord ∷ [])) (list .count - 1)
+        (omega (arith, length-append rs (zeroRecord ∷ [])))
         ∙ take-at rs (zeroRecord ∷ []) (list .count - 1) last
 
     pub move-length : (r : Record) → length (insert r (without id (recordsOf list))) ≡ list .count
     move-length r = insert-length r (without id (recordsOf list)) ∙ withdraw-length
 
     pub move-records : (start : ℕ)
-        → recordsOf (afterMove list id start) ≡ insert (withStart start (find id (recordsOf list))) (without id (recordsOf list))
+        → recordsOf (afterMove list id start)
+        ≡ insert (withStart start (find id (recordsOf list))) (without id (recordsOf list))
     move-records start =
         let r : Record = withStart start (find id (recordsOf list)) in
         let rs : List Record = insert r (without id (recordsOf list)) in
@@ -101,7 +107,8 @@ module _ (sizes : Sizes) (pools : Pools) (list : EventList) where
       let rs : List Record = recordsOf list in
       let more : length (without id rs ++ (zeroRecord ∷ [])) ≡ list .count =
       rw length-append (omega (arith, withdraw-length list id a)) in
-      written-sound (without id rs ++ (zeroRecord ∷ [])) (list .count - 1) (omega arith) (omega (arith, f .few)) (omega (arith, f .held))
+      written-sound (without id rs ++ (zeroRecord ∷ [])) (list .count - 1) (omega arith) (omega (arith, f .few))
+      (omega (arith, f .held))
       (rw (withdraw-records list id a)
       record {
         valid = without-valid pools id rs (f .records .valid);
@@ -109,21 +116,25 @@ module _ (sizes : Sizes) (pools : Pools) (list : EventList) where
         differ = without-differ id rs (f .records .differ);
       })
 
-  move-sound : (id start : ℕ) → ListFacts sizes pools list → T (ltb start windowSeconds) → T (isAmong id (idsOf (recordsOf list)))
-      → T (not (isAmong start (startsOf (without id (recordsOf list))))) → ListFacts sizes pools (afterMove list id start)
+  move-sound : (id start : ℕ) → ListFacts sizes pools list → T (ltb start windowSeconds)
+      → T (isAmong id (idsOf (recordsOf list)))
+      → T (not (isAmong start (startsOf (without id (recordsOf list)))))
+      → ListFacts sizes pools (afterMove list id start)
   move-sound id start f limit a other =
       let rs : List Record = recordsOf list in
       let r : Record = withStart start (find id rs) in
       let others : List Record = without id rs in
       let was = find-valid pools id rs a (f .records .valid) in
       let range : T (inRange r) = search (tests, was .0) in
-      let gone : T (not (isAmong (find id rs .id) (idsOf others))) = rw (find-id id rs a) (without-gone id rs (f .records .differ)) in
+      let gone : T (not (isAmong (find id rs .id) (idsOf others))) =
+      rw (find-id id rs a) (without-gone id rs (f .records .differ)) in
       let whole : length (insert r others) ≡ list .count = move-length list id a r in
       written-sound (insert r others) (list .count) (omega arith) (f .few) (omega (arith, f .held))
       (rw (move-records list id a start)
       record {
         valid = insert-valid pools r others range (was .1) (without-valid pools id rs (f .records .valid));
-        rises = insert-rises pools r others (new-start pools r others other) (without-rises pools id rs (f .records .rises));
+        rises = insert-rises pools r others (new-start pools r others other)
+            (without-rises pools id rs (f .records .rises));
         differ = insert-differ r others gone (without-differ id rs (f .records .differ));
       })
 
@@ -164,12 +175,14 @@ module _ (sizes : Sizes) (pools : Pools) (list : EventList) where
       let f = check-done (ltb (list .count) (limitOf sizes list)) 8 _ (d .1) in
       record { range = a .0; chain = b .0; newId = c .0; newStart = d .0; limit = f .0; after = cc (f .1) }
 
-  pub withdraw-done : (id : ℕ) (next : EventList) → step sizes pools list (withdraw id) ≡ done next → WithdrawDone id next
+  pub withdraw-done : (id : ℕ) (next : EventList) → step sizes pools list (withdraw id) ≡ done next
+      → WithdrawDone id next
   unfolding step
   withdraw-done id next e =
       let a = check-done (isAmong id (idsOf (recordsOf list))) 6 _ e in record { oldId = a .0; after = cc (a .1) }
 
-  pub move-done : (id start : ℕ) (next : EventList) → step sizes pools list (move id start) ≡ done next → MoveDone id start next
+  pub move-done : (id start : ℕ) (next : EventList) → step sizes pools list (move id start) ≡ done next
+      → MoveDone id start next
   unfolding step
   move-done id start next e =
       let a = check-done (ltb start windowSeconds) 5 _ e in

@@ -1,5 +1,5 @@
--- MOVE of an event onto its own start succeeds and changes nothing: the record that is taken away is inserted where it was.
--- By induction over the records, whose starts rise. Assumes nothing.
+-- MOVE of an event onto its own start succeeds and changes nothing: the record that is taken away is inserted where it
+-- was. By induction over the records, whose starts rise. Assumes nothing.
 use mathlib.Core.Path.{_≡_, refl, ap, ap₂, _∙_}
 use mathlib.Core.Logic.{⊎-elim}
 use mathlib.Core.Bool.{not}
@@ -26,11 +26,13 @@ use Rattle.eit.proofs.Sound.{sound-list}
 use Rattle.script.specs.Form.{move}
 use Rattle.script.specs.Machine.{insert, find, without, afterMove, done, step}
 use Rattle.script.proofs.Steps.{move-passes}
-use Rattle.script.proofs.Placing.{insert-here, insert-later, without-here, without-later, find-here, find-later, among-later, find-valid}
+use Rattle.script.proofs.Placing.{insert-here, insert-later, without-here, without-later, find-here, find-later}
+use Rattle.script.proofs.Placing.{among-later, find-valid}
 
 module _ (pools : Pools) where
   -- a record among later ones starts later
-  find-after : (s id : ℕ) (rs : List Record) → T (isAmong id (idsOf rs)) → AllAfter s (eventsIn pools rs) → s < find id rs .start
+  find-after : (s id : ℕ) (rs : List Record) → T (isAmong id (idsOf rs)) → AllAfter s (eventsIn pools rs)
+      → s < find id rs .start
   find-after s id [] a after = absurd a
   find-after s id (r ∷ rs) a after =
       ⊎-elim (λ t. rw (find-here id r rs t) (after .0))
@@ -61,7 +63,8 @@ module _ (pools : Pools) where
   start-before : (s : ℕ) (rs : List Record) → AllAfter s (eventsIn pools rs) → T (not (isAmong s (startsOf rs)))
   start-before s [] after = tt
   start-before s (r ∷ rs) after =
-      nor-both (eqb s (r .start)) (isAmong s (startsOf rs)) (ne-test s (r .start) (λ e. omega arith)) (start-before s rs (after .1))
+      nor-both (eqb s (r .start)) (isAmong s (startsOf rs)) (ne-test s (r .start) (λ e. omega arith))
+      (start-before s rs (after .1))
 
   start-other : (id : ℕ) (rs : List Record) → T (isAmong id (idsOf rs)) → T (rising (eventsIn pools rs))
       → T (not (isAmong (find id rs .start) (startsOf (without id rs))))
@@ -78,7 +81,8 @@ module _ (pools : Pools) where
       (start-other id rs (among-later id r rs there a) (rising-rest (eventOf pools r) (eventsIn pools rs) t))))
       (test-or (eqb id (r .id)))
 
-module _ (sizes : Sizes) (pools : Pools) (list : EventList) (id : ℕ) (t : T (sound sizes pools list)) (a : T (isAmong id (idsOf (recordsOf list)))) where
+module _ (sizes : Sizes) (pools : Pools) (list : EventList) (id : ℕ) (t : T (sound sizes pools list))
+    (a : T (isAmong id (idsOf (recordsOf list)))) where
   -- the records are written over themselves
   move-same : afterMove list id (find id (recordsOf list) .start) ≡ list
   unfolding recordsOf
@@ -86,7 +90,8 @@ module _ (sizes : Sizes) (pools : Pools) (list : EventList) (id : ℕ) (t : T (s
       let f = sound-list sizes pools list t in
       let rs : List Record = recordsOf list in
       let same : numbersOfAll (insert (find id rs) (without id rs)) ≡ take (list .count * recordSize) (list .buffer) =
-      ap numbersOfAll (insert-back pools id rs a (f .records .rises)) ∙ numbers-back (list .count) (list .buffer) (f .held) in
+      ap numbersOfAll (insert-back pools id rs a (f .records .rises))
+      ∙ numbers-back (list .count) (list .buffer) (f .held) in
       let buffer : overwrite (list .buffer) 0 (numbersOfAll (insert (find id rs) (without id rs))) ≡ list .buffer =
       ap (overwrite (list .buffer) 0) same ∙ over-self (list .buffer) 0 (list .count * recordSize) in
       λ i. record { buffer = buffer i; count = list .count }

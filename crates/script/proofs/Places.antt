@@ -1,5 +1,5 @@
--- An insertion and a record that is taken away, by their places: what stands before the place stays, what stands behind it moves
--- by one. By induction over the records, and then by the laws of `take` and `drop`. Assumes nothing.
+-- An insertion and a record that is taken away, by their places: what stands before the place stays, what stands behind
+-- it moves by one. By induction over the records, and then by the laws of `take` and `drop`. Assumes nothing.
 use mathlib.Core.Path.{_≡_, refl, ap, _∙_}
 use mathlib.Core.Logic.{⊎-elim}
 use Prim.Native.Nat.{ℕ, suc, _+_, _-_, _≤_}
@@ -15,18 +15,22 @@ use Rattle.eit.specs.declared.Record.{Record}
 use Rattle.eit.proofs.Test.{test-or}
 use Rattle.eit.proofs.Find.{place-here, place-later, place-length, position-here, position-later, position-length}
 use Rattle.script.specs.Machine.{insert, find, without}
-use Rattle.script.proofs.Placing.{insert-here, insert-later, without-here, without-later, find-here, find-later, among-later}
+use Rattle.script.proofs.Placing.{insert-here, insert-later, without-here, without-later, find-here, find-later}
+use Rattle.script.proofs.Placing.{among-later}
 
 -- ---- the records around the place
 
-pub insert-place : (r : Record) (rs : List Record) → insert r rs ≡ take (placeOf (r .start) rs) rs ++ r ∷ drop (placeOf (r .start) rs) rs
+pub insert-place : (r : Record) (rs : List Record)
+    → insert r rs ≡ take (placeOf (r .start) rs) rs ++ r ∷ drop (placeOf (r .start) rs) rs
 insert-place r [] = refl
 insert-place r (s ∷ rs) =
     ⊎-elim (λ t. rw (place-here (r .start) s rs t, insert-here r s rs t))
-    (λ t. rw (place-later (r .start) s rs t, insert-later r s rs t) (ap (λ (ss : List Record). s ∷ ss) (insert-place r rs)))
+    (λ t. rw (place-later (r .start) s rs t, insert-later r s rs t)
+    (ap (λ (ss : List Record). s ∷ ss) (insert-place r rs)))
     (test-or (ltb (r .start) (s .start)))
 
-pub without-position : (id : ℕ) (rs : List Record) → T (isAmong id (idsOf rs)) → without id rs ≡ take (positionOf id rs) rs ++ drop (suc (positionOf id rs)) rs
+pub without-position : (id : ℕ) (rs : List Record) → T (isAmong id (idsOf rs))
+    → without id rs ≡ take (positionOf id rs) rs ++ drop (suc (positionOf id rs)) rs
 without-position id [] a = absurd a
 without-position id (r ∷ rs) a =
     ⊎-elim (λ t. rw (position-here id r rs t, without-here id r rs t))
@@ -35,7 +39,8 @@ without-position id (r ∷ rs) a =
     (ap (λ (ss : List Record). r ∷ ss) (without-position id rs (among-later id r rs t a))))
     (test-or (eqb id (r .id)))
 
-pub find-at : (id : ℕ) (rs : List Record) (d : Record) → T (isAmong id (idsOf rs)) → find id rs ≡ getD rs (positionOf id rs) d
+pub find-at : (id : ℕ) (rs : List Record) (d : Record) → T (isAmong id (idsOf rs))
+    → find id rs ≡ getD rs (positionOf id rs) d
 find-at id [] d a = absurd a
 find-at id (r ∷ rs) d a =
     ⊎-elim (λ t. rw (find-here id r rs t, position-here id r rs t))

@@ -49,13 +49,15 @@ module _ (id : ℕ) (r : Record) (rs : List Record) where
 pub insert-length : (r : Record) (rs : List Record) → length (insert r rs) ≡ suc (length rs)
 insert-length r [] = refl
 insert-length r (s ∷ rs) =
-    ⊎-elim (λ t. ap length (insert-here r s rs t)) (λ t. ap length (insert-later r s rs t) ∙ ap suc (insert-length r rs))
+    ⊎-elim (λ t. ap length (insert-here r s rs t))
+    (λ t. ap length (insert-later r s rs t) ∙ ap suc (insert-length r rs))
     (test-or (ltb (r .start) (s .start)))
 
 pub without-length : (id : ℕ) (rs : List Record) → T (isAmong id (idsOf rs)) → suc (length (without id rs)) ≡ length rs
 without-length id [] a = absurd a
 without-length id (r ∷ rs) a =
-    ⊎-elim (λ t. rw (without-here id r rs t)) (λ t. rw (without-later id r rs t) (ap suc (without-length id rs (among-later id r rs t a))))
+    ⊎-elim (λ t. rw (without-here id r rs t))
+    (λ t. rw (without-later id r rs t) (ap suc (without-length id rs (among-later id r rs t a))))
     (test-or (eqb id (r .id)))
 
 -- ---- values in range, parts and chains
@@ -89,7 +91,9 @@ module _ (pools : Pools) where
   -- a record has a place among others: each of them may follow it, or it may follow that one
   abbrev pub HasPlace : Record → List Record → Type 0
   HasPlace r [] = Unit {0}
-  HasPlace r (s ∷ rs) = (T (follows (eventOf pools r) (eventOf pools s)) ⊎ T (follows (eventOf pools s) (eventOf pools r))) × HasPlace r rs
+  HasPlace r (s ∷ rs) =
+      (T (follows (eventOf pools r) (eventOf pools s)) ⊎ T (follows (eventOf pools s) (eventOf pools r)))
+      × HasPlace r rs
 
   -- one whose start none of them has
   pub new-start : (r : Record) (rs : List Record) → T (not (isAmong (r .start) (startsOf rs))) → HasPlace r rs
@@ -100,16 +104,19 @@ module _ (pools : Pools) where
         ⊎-elim (λ b. inl (later-follows (eventOf pools r) (eventOf pools s) (ltb→lt (r .start) (s .start) b)))
             (λ b.
             let differ = eqb-false (r .start) (s .start) (false-is (eqb (r .start) (s .start)) other) in
-            inr (later-follows (eventOf pools s) (eventOf pools r) (omega (arith, nltb→le (r .start) (s .start) b, differ))))
+            inr (later-follows (eventOf pools s) (eventOf pools r)
+            (omega (arith, nltb→le (r .start) (s .start) b, differ))))
             (test-or (ltb (r .start) (s .start))),
         new-start r rs others,
       )
 
-  insert-follow : (e : Event) (r : Record) (rs : List Record) → T (follows e (eventOf pools r)) → AllFollow e (eventsIn pools rs)
+  insert-follow : (e : Event) (r : Record) (rs : List Record) → T (follows e (eventOf pools r))
+      → AllFollow e (eventsIn pools rs)
       → AllFollow e (eventsIn pools (insert r rs))
   insert-follow e r [] t all = (t, tt)
   insert-follow e r (s ∷ rs) t all =
-      ⊎-elim (λ b. rw (insert-here r s rs b) (t, all)) (λ b. rw (insert-later r s rs b) (all .0, insert-follow e r rs t (all .1)))
+      ⊎-elim (λ b. rw (insert-here r s rs b) (t, all))
+      (λ b. rw (insert-later r s rs b) (all .0, insert-follow e r rs t (all .1)))
       (test-or (ltb (r .start) (s .start)))
 
   pub insert-rises : (r : Record) (rs : List Record) → HasPlace r rs → T (rising (eventsIn pools rs))
@@ -121,24 +128,29 @@ module _ (pools : Pools) where
       ⊎-elim
       (λ b.
       let next : T (follows new first) =
-      ⊎-elim (λ f. f) (λ f. absurd (omega (arith, ltb→lt (r .start) (s .start) b, follows-later first new f))) (place .0) in
+      ⊎-elim (λ f. f) (λ f. absurd (omega (arith, ltb→lt (r .start) (s .start) b, follows-later first new f)))
+      (place .0) in
       rw (insert-here r s rs b) (and-both (follows new first) (rising (eventsIn pools (s ∷ rs))) next t))
       (λ b.
       let next : T (follows first new) =
-      ⊎-elim (λ f. absurd (omega (arith, nltb→le (r .start) (s .start) b, follows-later new first f))) (λ f. f) (place .0) in
+      ⊎-elim (λ f. absurd (omega (arith, nltb→le (r .start) (s .start) b, follows-later new first f))) (λ f. f)
+      (place .0) in
       rw (insert-later r s rs b)
       (follow-rising first (eventsIn pools (insert r rs))
       (insert-follow first r rs next (rising-follow first (eventsIn pools rs) t))
       (insert-rises r rs (place .1) (rising-rest first (eventsIn pools rs) t))))
       (test-or (ltb (r .start) (s .start)))
 
-  without-follow : (e : Event) (id : ℕ) (rs : List Record) → AllFollow e (eventsIn pools rs) → AllFollow e (eventsIn pools (without id rs))
+  without-follow : (e : Event) (id : ℕ) (rs : List Record) → AllFollow e (eventsIn pools rs)
+      → AllFollow e (eventsIn pools (without id rs))
   without-follow e id [] all = tt
   without-follow e id (r ∷ rs) all =
-      ⊎-elim (λ t. rw (without-here id r rs t) (all .1)) (λ t. rw (without-later id r rs t) (all .0, without-follow e id rs (all .1)))
+      ⊎-elim (λ t. rw (without-here id r rs t) (all .1))
+      (λ t. rw (without-later id r rs t) (all .0, without-follow e id rs (all .1)))
       (test-or (eqb id (r .id)))
 
-  pub without-rises : (id : ℕ) (rs : List Record) → T (rising (eventsIn pools rs)) → T (rising (eventsIn pools (without id rs)))
+  pub without-rises : (id : ℕ) (rs : List Record) → T (rising (eventsIn pools rs))
+      → T (rising (eventsIn pools (without id rs)))
   without-rises id [] t = tt
   without-rises id (r ∷ rs) t =
       let first : Event = eventOf pools r in
@@ -170,7 +182,8 @@ insert-differ r (s ∷ rs) a d =
     ⊎-elim (λ t. rw (insert-here r s rs t) (search tests)) (λ t. rw (insert-later r s rs t) (search tests))
     (test-or (ltb (r .start) (s .start)))
 
-without-among : (n id : ℕ) (rs : List Record) → T (not (isAmong n (idsOf rs))) → T (not (isAmong n (idsOf (without id rs))))
+without-among : (n id : ℕ) (rs : List Record) → T (not (isAmong n (idsOf rs)))
+    → T (not (isAmong n (idsOf (without id rs))))
 without-among n id [] a = tt
 without-among n id (r ∷ rs) a =
     let rest : T (not (isAmong n (idsOf (without id rs)))) = without-among n id rs (search tests) in
@@ -190,7 +203,8 @@ pub without-gone : (id : ℕ) (rs : List Record) → T (allDiffer (idsOf rs)) �
 without-gone id [] d = tt
 without-gone id (r ∷ rs) d =
     let rest : T (not (isAmong id (idsOf (without id rs)))) = without-gone id rs (search tests) in
-    ⊎-elim (λ t. rw (without-here id r rs t, eqb→eq id (r .id) t) (search tests)) (λ t. rw (without-later id r rs t) (search tests))
+    ⊎-elim (λ t. rw (without-here id r rs t, eqb→eq id (r .id) t) (search tests))
+    (λ t. rw (without-later id r rs t) (search tests))
     (test-or (eqb id (r .id)))
 
 pub find-id : (id : ℕ) (rs : List Record) → T (isAmong id (idsOf rs)) → find id rs .id ≡ id

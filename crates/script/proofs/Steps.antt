@@ -1,5 +1,6 @@
--- Which number an edit is refused with, and when it is done: the first check that fails, in the paper's order (01, "When a call says
--- no": per edit 5, 9, 6, 7, 8). With `put-done`, `withdraw-done` and `move-done` each answer is exact. Assumes nothing.
+-- Which number an edit is refused with, and when it is done: the first check that fails, in the paper's order (01,
+-- "When a call says no": per edit 5, 9, 6, 7, 8). With `put-done`, `withdraw-done` and `move-done` each answer is
+-- exact. Assumes nothing.
 use mathlib.Core.Path.{_≡_, refl, _∙_}
 use mathlib.Core.Bool.{Bool, true, false, not}
 use Prim.Native.Nat.{ℕ}
@@ -13,7 +14,8 @@ use Rattle.eit.specs.Sound.{inRange, hasChain, idsOf, startsOf}
 use Rattle.eit.specs.declared.Record.{Record}
 use Rattle.eit.proofs.Test.{not-not}
 use Rattle.script.specs.Form.{put, withdraw, move}
-use Rattle.script.specs.Machine.{limitOf, without, afterPut, afterWithdraw, afterMove, Step, done, refused, check, step}
+use Rattle.script.specs.Machine.{limitOf, without, afterPut, afterWithdraw, afterMove, Step, done, refused, check}
+use Rattle.script.specs.Machine.{step}
 
 check-passed : (b : Bool) (n : ℕ) (s : Step) → T b → check b n s ≡ s
 check-passed true n s t = refl
@@ -45,7 +47,8 @@ module _ (sizes : Sizes) (pools : Pools) (list : EventList) (r : Record) where
     module _ (chain : T (hasChain pools r)) where
       pub put-6 : T (not newId) → step sizes pools list (put r) ≡ refused 6
       unfolding step
-      put-6 c = check-passed (inRange r) 5 _ range ∙ check-passed (hasChain pools r) 9 _ chain ∙ check-failed newId 6 _ c
+      put-6 c = check-passed (inRange r) 5 _ range ∙ check-passed (hasChain pools r) 9 _ chain
+          ∙ check-failed newId 6 _ c
 
       module _ (id : T newId) where
         pub put-7 : T (not newStart) → step sizes pools list (put r) ≡ refused 7
@@ -72,7 +75,8 @@ module _ (sizes : Sizes) (pools : Pools) (list : EventList) (id : ℕ) where
   unfolding step
   withdraw-6 a = check-failed (isAmong id (idsOf (recordsOf list))) 6 _ a
 
-  pub withdraw-passes : T (isAmong id (idsOf (recordsOf list))) → step sizes pools list (withdraw id) ≡ done (afterWithdraw list id)
+  pub withdraw-passes : T (isAmong id (idsOf (recordsOf list)))
+      → step sizes pools list (withdraw id) ≡ done (afterWithdraw list id)
   unfolding step
   withdraw-passes a = check-passed (isAmong id (idsOf (recordsOf list))) 6 _ a
 
@@ -84,18 +88,23 @@ module _ (sizes : Sizes) (pools : Pools) (list : EventList) (id : ℕ) where
     module _ (range : T (ltb start windowSeconds)) where
       pub move-6 : T (not (isAmong id (idsOf (recordsOf list)))) → step sizes pools list (move id start) ≡ refused 6
       unfolding step
-      move-6 b = check-passed (ltb start windowSeconds) 5 _ range ∙ check-failed (isAmong id (idsOf (recordsOf list))) 6 _ b
+      move-6 b =
+          check-passed (ltb start windowSeconds) 5 _ range ∙ check-failed (isAmong id (idsOf (recordsOf list))) 6 _ b
 
       module _ (old : T (isAmong id (idsOf (recordsOf list)))) where
-        pub move-7 : T (isAmong start (startsOf (without id (recordsOf list)))) → step sizes pools list (move id start) ≡ refused 7
+        pub move-7 : T (isAmong start (startsOf (without id (recordsOf list))))
+            → step sizes pools list (move id start) ≡ refused 7
         unfolding step
         move-7 c =
-            check-passed (ltb start windowSeconds) 5 _ range ∙ check-passed (isAmong id (idsOf (recordsOf list))) 6 _ old
-            ∙ check-failed (not (isAmong start (startsOf (without id (recordsOf list))))) 7 _ (not-not (isAmong start (startsOf (without id (recordsOf list)))) c)
+            check-passed (ltb start windowSeconds) 5 _ range
+            ∙ check-passed (isAmong id (idsOf (recordsOf list))) 6 _ old
+            ∙ check-failed (not (isAmong start (startsOf (without id (recordsOf list))))) 7 _
+            (not-not (isAmong start (startsOf (without id (recordsOf list)))) c)
 
         pub move-passes : T (not (isAmong start (startsOf (without id (recordsOf list)))))
             → step sizes pools list (move id start) ≡ done (afterMove list id start)
         unfolding step
         move-passes c =
-            check-passed (ltb start windowSeconds) 5 _ range ∙ check-passed (isAmong id (idsOf (recordsOf list))) 6 _ old
+            check-passed (ltb start windowSeconds) 5 _ range
+            ∙ check-passed (isAmong id (idsOf (recordsOf list))) 6 _ old
             ∙ check-passed (not (isAmong start (startsOf (without id (recordsOf list))))) 7 _ c

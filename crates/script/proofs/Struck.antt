@@ -1,5 +1,5 @@
--- UNDO strikes the nearest edit, is refused exactly where none is left, and says the same when the script is read from the
--- right: by induction over the commands, where each law speaks of any kept edits or of any number of pending UNDOs.
+-- UNDO strikes the nearest edit, is refused exactly where none is left, and says the same when the script is read from
+-- the right: by induction over the commands, where each law speaks of any kept edits or of any number of pending UNDOs.
 -- Assumes nothing.
 use mathlib.Core.Path.{_≡_, refl, sym, ap, ap₂, _∙_}
 use mathlib.Core.List.{List, [], _∷_, _++_, map, reverse, append-nil, reverse-cons, reverse-reverse}
@@ -49,7 +49,8 @@ strike-append-refused (e ∷ kept) (undo there ∷ xs) ys at h = strike-append-r
 -- ---- an UNDO with nothing to strike
 
 -- it is refused there exactly if all edits before it are struck
-pub refused-at : (xs ys : List Command) (at : ℕ) → unstruckIn xs ≡ unstruck [] → unstruckIn (xs ++ (undo at ∷ ys)) ≡ nothingAt at
+pub refused-at : (xs ys : List Command) (at : ℕ) → unstruckIn xs ≡ unstruck []
+    → unstruckIn (xs ++ (undo at ∷ ys)) ≡ nothingAt at
 unfolding unstruckIn
 refused-at xs ys at h = strike-append [] xs (undo at ∷ ys) [] h
 
@@ -105,7 +106,8 @@ strike-enough [] (undo at ∷ cs) h = absurd (omega arith)
 strike-enough (e ∷ kept) (undo at ∷ cs) h = strike-enough kept cs (omega arith)
 
 -- and there are enough unless an UNDO has nothing to strike
-pub strike-pending : (kept : List Edit) (cs : List Command) (es : List Edit) → strike kept cs ≡ unstruck es → pendingBefore 0 cs ≤ length kept
+pub strike-pending : (kept : List Edit) (cs : List Command) (es : List Edit) → strike kept cs ≡ unstruck es
+    → pendingBefore 0 cs ≤ length kept
 strike-pending kept [] es h = omega arith
 strike-pending kept (doEdit e ∷ cs) es h =
     let room : pred (pendingBefore 0 cs) ≤ length kept = omega (arith, strike-pending (e ∷ kept) cs es h) in
@@ -118,7 +120,8 @@ pub strike-live : (kept : List Edit) (cs : List Command) (es : List Edit)
     → es ≡ reverse (drop (pendingBefore 0 cs) kept) ++ live 0 cs
 strike-live kept cs es h = cc (strike-enough kept cs (strike-pending kept cs es h))
 
--- of a whole script: the unstruck edits are the live ones, and each UNDO has something to strike exactly if none passes all
+-- of a whole script: the unstruck edits are the live ones, and each UNDO has something to strike exactly if none passes
+-- all
 pub struck-live : (cs : List Command) (es : List Edit) → unstruckIn cs ≡ unstruck es → es ≡ live 0 cs
 unfolding unstruckIn
 struck-live cs es h = strike-live [] cs es h ∙ rw drop-nil
@@ -143,14 +146,17 @@ live-sublist p [] = Sublistᴰ·slnil
 live-sublist p (doEdit e ∷ cs) = unless-sublist (pendingBefore p cs) e (live p cs) cs (live-sublist p cs)
 live-sublist p (undo at ∷ cs) = Sublistᴰ·cons (live-sublist p cs)
 
-pub unstruck-are-edits : (cs : List Command) (es : List Edit) → unstruckIn cs ≡ unstruck es → Sublistᴰ (map doEdit es) cs
+pub unstruck-are-edits : (cs : List Command) (es : List Edit) → unstruckIn cs ≡ unstruck es
+    → Sublistᴰ (map doEdit es) cs
 unstruck-are-edits cs es h = rw (struck-live cs es h) (live-sublist 0 cs)
 
-pub struck-joined : (xs ys : List Command) (es fs : List Edit) → unstruckIn xs ≡ unstruck es → unstruckIn ys ≡ unstruck fs
+pub struck-joined : (xs ys : List Command) (es fs : List Edit) → unstruckIn xs ≡ unstruck es
+    → unstruckIn ys ≡ unstruck fs
     → unstruckIn (xs ++ ys) ≡ unstruck (es ++ fs)
 struck-joined xs ys es fs h k =
     let none : pendingBefore 0 ys ≡ 0 = struck-pending ys fs k in
-    let all : pendingBefore 0 (xs ++ ys) ≡ 0 = pending-append 0 xs ys ∙ ap (λ (p : ℕ). pendingBefore p xs) none ∙ struck-pending xs es h in
+    let all : pendingBefore 0 (xs ++ ys) ≡ 0 =
+    pending-append 0 xs ys ∙ ap (λ (p : ℕ). pendingBefore p xs) none ∙ struck-pending xs es h in
     let both : live 0 (xs ++ ys) ≡ es ++ fs =
     live-append 0 xs ys ∙ ap (λ (p : ℕ). live p xs ++ live 0 ys) none
     ∙ ap₂ (λ (us vs : List Edit). us ++ vs) (sym (struck-live xs es h)) (sym (struck-live ys fs k)) in

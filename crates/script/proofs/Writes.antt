@@ -1,5 +1,6 @@
--- PUT and WITHDRAW as one write from the record's place on, and MOVE as a WITHDRAW and a PUT: the numbers before the place and
--- behind the write stay, by the definition of `overwrite`. By the places of the records in the buffer. Assumes nothing.
+-- PUT and WITHDRAW as one write from the record's place on, and MOVE as a WITHDRAW and a PUT: the numbers before the
+-- place and behind the write stay, by the definition of `overwrite`. By the places of the records in the buffer.
+-- Assumes nothing.
 use mathlib.Core.Path.{_≡_, sym, ap, ap₂, _∙_}
 use Prim.Native.Nat.{ℕ, suc, _+_, _-_, _*_, _≤_}
 use native.Mathlib.Omega.{arith}
@@ -22,13 +23,16 @@ use Rattle.script.proofs.Machine.{withdraw-length, withdraw-records, mo
 
 module _ (list : EventList) (held : list .count * recordSize ≤ length (list .buffer)) where
   -- the numbers of the first k records, and of the others
-  front-numbers : (k : ℕ) → k ≤ list .count → numbersOfAll (take k (recordsOf list)) ≡ take (k * recordSize) (list .buffer)
+  front-numbers : (k : ℕ) → k ≤ list .count
+      → numbersOfAll (take k (recordsOf list)) ≡ take (k * recordSize) (list .buffer)
   front-numbers k h =
-      sym (numbers-take k (recordsOf list) (drop (list .count * recordSize) (list .buffer)) (omega (arith, count-records list)))
+      sym (numbers-take k (recordsOf list) (drop (list .count * recordSize) (list .buffer))
+      (omega (arith, count-records list)))
       ∙ ap (take (k * recordSize)) (sym (buffer-is list held))
 
   back-numbers : (k : ℕ) → k ≤ list .count
-      → numbersOfAll (drop k (recordsOf list)) ≡ take ((list .count - k) * recordSize) (drop (k * recordSize) (list .buffer))
+      → numbersOfAll (drop k (recordsOf list))
+      ≡ take ((list .count - k) * recordSize) (drop (k * recordSize) (list .buffer))
   back-numbers k h =
       let rs : List Record = recordsOf list in
       let rest : List ℕ = drop (list .count * recordSize) (list .buffer) in
@@ -36,7 +40,8 @@ module _ (list : EventList) (held : list .count * recordSize ≤ length (list .b
       omega (arith, numbers-length (drop k rs), length-drop k rs, count-records list) in
       sym (take-at (numbersOfAll (drop k rs)) rest ((list .count - k) * recordSize) size)
       ∙ ap (take ((list .count - k) * recordSize))
-      (sym (numbers-drop k rs rest (omega (arith, count-records list))) ∙ ap (drop (k * recordSize)) (sym (buffer-is list held)))
+      (sym (numbers-drop k rs rest (omega (arith, count-records list)))
+      ∙ ap (drop (k * recordSize)) (sym (buffer-is list held)))
 
   -- the record, and behind it the later records, which have moved up by one
   pub put-writes : (r : Record)
@@ -53,7 +58,8 @@ module _ (list : EventList) (held : list .count * recordSize ≤ length (list .b
       ap numbersOfAll (insert-place r rs)
       ∙ numbers-append (take p rs) (r ∷ drop p rs)
       ∙ ap₂ (λ (xs ys : List ℕ). xs ++ (numbersOf r ++ ys)) (front-numbers p few) (back-numbers p few) in
-      ap (overwrite (list .buffer) 0) numbers ∙ over-front (list .buffer) (p * recordSize) (numbersOf r ++ moved) (omega arith)
+      ap (overwrite (list .buffer) 0) numbers
+      ∙ over-front (list .buffer) (p * recordSize) (numbersOf r ++ moved) (omega arith)
 
   -- the later records, which have moved down by one, and behind them six zeros
   pub withdraw-writes : (id : ℕ) → T (isAmong id (idsOf (recordsOf list)))
@@ -67,14 +73,16 @@ module _ (list : EventList) (held : list .count * recordSize ≤ length (list .b
       let few : suc i ≤ list .count = omega (arith, position-length id rs a, count-records list) in
       let moved : List ℕ = take ((list .count - suc i) * recordSize) (drop (suc i * recordSize) (list .buffer)) in
       let zeros : List ℕ = replicate recordSize 0 in
-      let numbers : numbersOfAll (without id rs ++ (zeroRecord ∷ [])) ≡ take (i * recordSize) (list .buffer) ++ (moved ++ zeros) =
+      let numbers : numbersOfAll (without id rs ++ (zeroRecord ∷ []))
+      ≡ take (i * recordSize) (list .buffer) ++ (moved ++ zeros) =
       numbers-append (without id rs) (zeroRecord ∷ [])
       ∙ ap (λ (ns : List ℕ). ns ++ zeros)
       (ap numbersOfAll (without-position id rs a)
       ∙ numbers-append (take i rs) (drop (suc i) rs)
       ∙ ap₂ (λ (xs ys : List ℕ). xs ++ ys) (front-numbers i (omega arith)) (back-numbers (suc i) few))
       ∙ append-assoc (take (i * recordSize) (list .buffer)) moved zeros in
-      ap (overwrite (list .buffer) 0) numbers ∙ over-front (list .buffer) (i * recordSize) (moved ++ zeros) (omega arith)
+      ap (overwrite (list .buffer) 0) numbers
+      ∙ over-front (list .buffer) (i * recordSize) (moved ++ zeros) (omega arith)
 
 -- MOVE takes the record away and puts it back with its new start
 pub move-is : (list : EventList) (id start : ℕ) → T (isAmong id (idsOf (recordsOf list)))
@@ -95,6 +103,7 @@ move-is list id start a =
     let buffer : overwrite (list .buffer) 0 (numbersOfAll (insert r (without id rs)))
     ≡ overwrite (afterWithdraw list id .buffer) 0 (numbersOfAll (insert r (recordsOf (afterWithdraw list id)))) =
     sym (over-again (list .buffer) 0 (numbersOfAll gone) (numbersOfAll (insert r (without id rs))) same (omega arith))
-    ∙ ap (λ (ss : List Record). overwrite (afterWithdraw list id .buffer) 0 (numbersOfAll (insert r ss))) (sym (withdraw-records list id a)) in
+    ∙ ap (λ (ss : List Record). overwrite (afterWithdraw list id .buffer) 0 (numbersOfAll (insert r ss)))
+    (sym (withdraw-records list id a)) in
     let count : list .count ≡ list .count - 1 + 1 = omega (arith, withdraw-length list id a) in
     λ i. record { buffer = buffer i; count = count i }

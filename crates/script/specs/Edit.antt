@@ -22,8 +22,8 @@ pub record Edited : Type 0 where
 abbrev pub refusal : ℕ → ℕ → EventList → Edited
 refusal number value list = record { number = number; value = value; list = list }
 
--- the unstruck edits are carried out in order; success returns the new count, a refusal the edit's offset, and it leaves the
--- list as the earlier edits made it
+-- the unstruck edits are carried out in order; success returns the new count, a refusal the edit's offset, and it
+-- leaves the list as the earlier edits made it
 unfoldable pub run : Sizes → Pools → EventList → List Edit → Edited
 unfolding step
 run sizes pools list [] = record { number = 0; value = list .count; list = list }

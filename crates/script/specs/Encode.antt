@@ -1,5 +1,5 @@
--- Commands as bytes, there to state what `formOf` reads: the laws `form-back` and `form-forth` of proofs/Form.antt (01, "Edit":
--- commands of one byte with big-endian operands of these widths in bytes). Assumes nothing.
+-- Commands as bytes, there to state what `formOf` reads: the laws `form-back` and `form-forth` of proofs/Form.antt (01,
+-- "Edit": commands of one byte with big-endian operands of these widths in bytes). Assumes nothing.
 use Prim.Native.Nat.{ℕ, _+_, _^_, _<_}
 use mathlib.Core.Path.{_≡_}
 use mathlib.Core.List.{List, [], _∷_, _++_}

@@ -1,5 +1,5 @@
--- Edit on a list of two events, computed: what each command does, each refusal, and which refusal comes first (01, "Edit", "When a
--- call says no"). The value is in proofs/Examples.antt. Assumes nothing.
+-- Edit on a list of two events, computed: what each command does, each refusal, and which refusal comes first (01,
+-- "Edit", "When a call says no"). The value is in proofs/Examples.antt. Assumes nothing.
 use Prim.Native.Nat.{ℕ}
 use mathlib.Core.Path.{_≡_}
 use mathlib.Core.List.{List, [], _∷_, _++_}
@@ -43,15 +43,35 @@ abbrev pub left : List ℕ → List ℕ
 left script = edit broadcast pools (list 2) script .list .buffer
 
 pub record Examples : Type 0 where
-  -- the form, from raw bytes: 01's own script; then every operand of PUT and of MOVE in its place, and an UNDO between them
+  -- the form, from raw bytes: 01's own script; then every operand of PUT and of MOVE in its place, and an UNDO between
+  -- them
   pub paper-script : formOf (0x01 ∷ 0 ∷ 1 ∷ 0 ∷ 0 ∷ 0xB3 ∷ 0x4C ∷ 0 ∷ 0 ∷ 0x18 ∷ 0xBA ∷ 0 ∷ 0 ∷ 0 ∷ 0 ∷ 0 ∷ 0 ∷ 0 ∷ [])
-      ≡ commands (doEdit (record { at = 0; act = put (record { id = 1; start = 45_900; duration = 6_330; marks = 0; offset = 0; «chain_length» = 0 }) }) ∷ [])
-  pub operands : formOf (0x01 ∷ 1 ∷ 2 ∷ 0 ∷ 0 ∷ 3 ∷ 4 ∷ 0 ∷ 0 ∷ 5 ∷ 6 ∷ 7 ∷ 0 ∷ 0 ∷ 8 ∷ 9 ∷ 10 ∷ 11 ∷ 0x04 ∷ 0x03 ∷ 1 ∷ 2 ∷ 0 ∷ 0 ∷ 3 ∷ 4 ∷ [])
-      ≡ commands (doEdit (record { at = 0; act = put (record { id = 258; start = 772; duration = 1_286; marks = 7; offset = 2_057; «chain_length» = 2_571 }) })
+      ≡ commands
+      (doEdit (record {
+        at = 0;
+        act = put (record { id = 1; start = 45_900; duration = 6_330; marks = 0; offset = 0; «chain_length» = 0 });
+      })
+      ∷ [])
+  pub operands : formOf
+      (0x01 ∷ 1 ∷ 2 ∷ 0 ∷ 0 ∷ 3 ∷ 4 ∷ 0 ∷ 0 ∷ 5 ∷ 6 ∷ 7 ∷ 0 ∷ 0 ∷ 8 ∷ 9 ∷ 10 ∷ 11 ∷ 0x04 ∷ 0x03 ∷ 1 ∷ 2 ∷ 0 ∷ 0 ∷ 3 ∷ 4
+      ∷ [])
+      ≡ commands
+      (doEdit (record {
+        at = 0;
+        act = put (record {
+          id = 258;
+          start = 772;
+          duration = 1_286;
+          marks = 7;
+          offset = 2_057;
+          «chain_length» = 2_571;
+        });
+      })
       ∷ undo 18 ∷ doEdit (record { at = 19; act = move 258 772 }) ∷ [])
   pub withdraw-operand : formOf (0x02 ∷ 1 ∷ 2 ∷ []) ≡ commands (doEdit (record { at = 0; act = withdraw 258 }) ∷ [])
   -- what each command does
-  pub put-between : left (actBytes (put (plain 3 150))) ≡ numbersOfAll (plain 1 100 ∷ plain 3 150 ∷ plain 2 200 ∷ []) ++ (7 ∷ 7 ∷ [])
+  pub put-between : left (actBytes (put (plain 3 150)))
+      ≡ numbersOfAll (plain 1 100 ∷ plain 3 150 ∷ plain 2 200 ∷ []) ++ (7 ∷ 7 ∷ [])
   pub withdraw-frees : left (actBytes (withdraw 1)) ≡ numbersOfAll (plain 2 200 ∷ []) ++ replicate 6 0 ++ replicate 8 7
   pub move-re-places : left (actBytes (move 1 300)) ≡ numbersOfAll (plain 2 200 ∷ plain 1 300 ∷ []) ++ replicate 8 7
   pub move-to-front : left (actBytes (move 2 50)) ≡ numbersOfAll (plain 2 50 ∷ plain 1 100 ∷ []) ++ replicate 8 7
@@ -93,12 +113,15 @@ pub record Examples : Type 0 where
   pub taken : resultOf (actBytes (put (plain 3 300)) ++ actBytes (put (plain 4 200))) ≡ (7, 18, 3)
   pub full : resultOf (actBytes (put (plain 3 300)) ++ actBytes (put (plain 4 400))) ≡ (8, 18, 3)
   pub at-event-limit :
-      edit (record { «section_limit» = 4096; «event_limit» = 2 }) pools (list 2) (actBytes (put (plain 3 150))) .number ≡ 8
+      edit (record { «section_limit» = 4096; «event_limit» = 2 }) pools (list 2) (actBytes (put (plain 3 150))) .number
+      ≡ 8
   pub below-event-limit :
-      edit (record { «section_limit» = 4096; «event_limit» = 3 }) pools (list 2) (actBytes (put (plain 3 150))) .number ≡ 0
+      edit (record { «section_limit» = 4096; «event_limit» = 3 }) pools (list 2) (actBytes (put (plain 3 150))) .number
+      ≡ 0
   -- WITHDRAW and MOVE
   pub absent : resultOf (actBytes (withdraw 9)) ≡ (6, 0, 2)
-  pub keeps-the-earlier : left (actBytes (withdraw 1) ++ actBytes (withdraw 1)) ≡ numbersOfAll (plain 2 200 ∷ []) ++ replicate 6 0 ++ replicate 8 7
+  pub keeps-the-earlier : left (actBytes (withdraw 1) ++ actBytes (withdraw 1))
+      ≡ numbersOfAll (plain 2 200 ∷ []) ++ replicate 6 0 ++ replicate 8 7
   pub moved-late : resultOf (actBytes (move 9 windowSeconds)) ≡ (5, 0, 2)
   pub moved-absent : resultOf (actBytes (move 9 200)) ≡ (6, 0, 2)
   pub moved-when-full : resultOf (actBytes (put (plain 3 300)) ++ actBytes (move 3 400)) ≡ (0, 3, 3)

@@ -75,7 +75,8 @@ abbrev pub before : Command → Form → Form
 before c (commands cs) = commands (c ∷ cs)
 before c (broken at) = broken at
 
--- the rest of a script from the offset `at` on, of which the first `skip` bytes are operands of a command that has begun
+-- the rest of a script from the offset `at` on, of which the first `skip` bytes are operands of a command that has
+-- begun
 abbrev pub formFrom : ℕ → ℕ → List ℕ → Form
 formFrom zero at [] = commands []
 -- never met: a cut operand is refused at its command

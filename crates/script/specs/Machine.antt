@@ -1,5 +1,5 @@
--- 01's term: plain machine ("Edit"). Its state is the whole buffer and the count; a number that no command changes stays.
--- Laws: proofs/Placing, Places, Steps, Machine, OwnStart and Frame. Assumes nothing.
+-- 01's term: plain machine ("Edit"). Its state is the whole buffer and the count; a number that no command changes
+-- stays. Laws: proofs/Placing, Places, Steps, Machine, OwnStart and Frame. Assumes nothing.
 use Prim.Native.Nat.{ℕ, _+_, _-_, _/_, min}
 use mathlib.Core.Bool.{Bool, true, false, not}
 use mathlib.Core.List.{List, [], _∷_, _++_}
@@ -77,8 +77,8 @@ abbrev pub check : Bool → ℕ → Step → Step
 check true number next = next
 check false number next = refused number
 
--- 01, "When a call says no": per edit 5, 9, 6, 7, 8. 5 value out of range (PUT, MOVE); 9 part outside pool, or no chain (PUT);
--- 6 id present (PUT), absent (others); 7 start of another event; 8 list at its limit (PUT)
+-- 01, "When a call says no": per edit 5, 9, 6, 7, 8. 5 value out of range (PUT, MOVE); 9 part outside pool, or no chain
+-- (PUT); 6 id present (PUT), absent (others); 7 start of another event; 8 list at its limit (PUT)
 unfoldable pub step : Sizes → Pools → EventList → Act → Step
 step sizes pools list (put r) =
     let rs = recordsOf list in

@@ -4,7 +4,8 @@ use Prim.Native.Nat.{ℕ, zero, suc, pred}
 use mathlib.Core.List.{List, [], _∷_, reverse}
 use Rattle.script.specs.Form.{Edit, Command, doEdit, undo}
 
--- 01's term: struck. The edits of a script that are not struck, in order; or the offset of the first UNDO with nothing to strike
+-- 01's term: struck. The edits of a script that are not struck, in order; or the offset of the first UNDO with nothing
+-- to strike
 pub data Unstruck : Type 0 where
   unstruck : List Edit → Unstruck
   nothingAt : ℕ → Unstruck
@@ -20,8 +21,8 @@ strike (e ∷ kept) (undo at ∷ cs) = strike kept cs
 unfoldable pub unstruckIn : List Command → Unstruck
 unstruckIn cs = strike [] cs
 
--- the same from the right: with p UNDOs pending behind the commands, `pendingBefore` is how many are pending before them; an UNDO adds
--- one, an edit takes one if there is one
+-- the same from the right: with p UNDOs pending behind the commands, `pendingBefore` is how many are pending before
+-- them; an UNDO adds one, an edit takes one if there is one
 abbrev pub pendingBefore : ℕ → List Command → ℕ
 pendingBefore p [] = p
 pendingBefore p (doEdit e ∷ cs) = pred (pendingBefore p cs)

@@ -1,6 +1,6 @@
--- Which refusal Read answers with: the first test that fails (20, 21, 22, 23, 24, 26), at the first section where one does, with
--- that section's offset; and 25 with the file's length where all pass and the file is not complete. By the tests of `step` and
--- induction over the sections. Assumes nothing.
+-- Which refusal Read answers with: the first test that fails (20, 21, 22, 23, 24, 26), at the first section where one
+-- does, with that section's offset; and 25 with the file's length where all pass and the file is not complete. By the
+-- tests of `step` and induction over the sections. Assumes nothing.
 use mathlib.Core.Path.{_≡_, refl, sym, ap, _∙_}
 use mathlib.Core.Bool.{not}
 use Prim.Native.Nat.{ℕ, _+_, _≤_}
@@ -16,7 +16,8 @@ use Rattle.eit.proofs.Test.{true-is, false-is}
 use Rattle.sections.specs.Decode.{headerIn, splitFile}
 use Rattle.sections.specs.HeaderTests.{isFramed, hasRightCrc, isHeader, hasRightNumbering}
 use Rattle.sections.specs.EventTests.{isEventLoop, isWithinLimit}
-use Rattle.sections.specs.Walk.{Progress, atStart, behind, behindAll, Verdict, passed, refused, require, step, walk}
+use Rattle.sections.specs.Walk.{Progress, atStart, behind, behindAll, Verdict, passed, refused, require, step}
+use Rattle.sections.specs.Walk.{walk}
 use Rattle.sections.specs.Read.{isComplete, refusal, atEnd, checkFile}
 use Rattle.sections.proofs.Walk.{Passes, AllPass, step-passes, step-passed, walk-passes}
 
@@ -53,11 +54,14 @@ module _ (sizes : Sizes) (base : ℕ) (p : Progress) (bs : List ℕ) where
     pub step-23 : T (isHeader (p .before) bs) → T (not (hasRightNumbering (p .before) (headerIn bs)))
         → step sizes base p bs ≡ refused 23 (p .offset)
     step-23 header fails =
-        at-header ∙ rw (true-is (isHeader (p .before) bs) header, false-is (hasRightNumbering (p .before) (headerIn bs)) fails)
+        at-header ∙ rw
+        (true-is (isHeader (p .before) bs) header, false-is (hasRightNumbering (p .before) (headerIn bs)) fails)
 
     module _ (header : T (isHeader (p .before) bs)) (numbering : T (hasRightNumbering (p .before) (headerIn bs))) where
       at-events : step sizes base p bs ≡ fromEvents
-      at-events = at-header ∙ rw (true-is (isHeader (p .before) bs) header, true-is (hasRightNumbering (p .before) (headerIn bs)) numbering)
+      at-events =
+          at-header ∙ rw
+          (true-is (isHeader (p .before) bs) header, true-is (hasRightNumbering (p .before) (headerIn bs)) numbering)
 
       pub step-24 : T (not (isEventLoop base (p .seen) bs)) → step sizes base p bs ≡ refused 24 (p .offset)
       step-24 fails = at-events ∙ rw (false-is (isEventLoop base (p .seen) bs) fails)
@@ -65,12 +69,14 @@ module _ (sizes : Sizes) (base : ℕ) (p : Progress) (bs : List ℕ) where
       pub step-26 : T (isEventLoop base (p .seen) bs) → T (not (isWithinLimit sizes (p .seen) bs))
           → step sizes base p bs ≡ refused 26 (p .offset)
       step-26 loop fails =
-          at-events ∙ rw (true-is (isEventLoop base (p .seen) bs) loop, false-is (isWithinLimit sizes (p .seen) bs) fails)
+          at-events ∙ rw
+          (true-is (isEventLoop base (p .seen) bs) loop, false-is (isWithinLimit sizes (p .seen) bs) fails)
 
 -- ---- the first section where one fails
 
 -- a section's offset is how many bytes stand before it
-pub behind-offset : (base : ℕ) (p : Progress) (xs : List (List ℕ)) → behindAll base p xs .offset ≡ p .offset + length (flatten xs)
+pub behind-offset : (base : ℕ) (p : Progress) (xs : List (List ℕ))
+    → behindAll base p xs .offset ≡ p .offset + length (flatten xs)
 unfolding flatten
 behind-offset base p [] = sym (add-zero (p .offset))
 behind-offset base p (bs ∷ rest) =
@@ -114,7 +120,8 @@ module _ (sizes : Sizes) (base : ℕ) where
         refuses = r .refuses;
       }
 
-  refused-first : (p : Progress) (bs : List ℕ) (xs : List (List ℕ)) (number offset : ℕ) (v : Verdict) → step sizes base p bs ≡ v
+  refused-first : (p : Progress) (bs : List ℕ) (xs : List (List ℕ)) (number offset : ℕ) (v : Verdict)
+      → step sizes base p bs ≡ v
       → walk sizes base p (bs ∷ xs) ≡ refused number offset
       → (walk sizes base (behind base p bs) xs ≡ refused number offset → RefusedAt (behind base p bs) xs number offset)
       → RefusedAt p (bs ∷ xs) number offset
@@ -126,12 +133,14 @@ module _ (sizes : Sizes) (base : ℕ) where
   refused-first p bs xs number offset (refused n o) is e later =
       record { before = []; section = bs; rest = xs; split = refl; pass = tt; refuses = is ∙ rw (walk, is) at e }
 
-  pub refused-only : (p : Progress) (xs : List (List ℕ)) (number offset : ℕ) → walk sizes base p xs ≡ refused number offset
+  pub refused-only : (p : Progress) (xs : List (List ℕ)) (number offset : ℕ)
+      → walk sizes base p xs ≡ refused number offset
       → RefusedAt p xs number offset
   unfolding walk
   refused-only p [] number offset e = let never : _≡_ {A = ℕ} 0 1 = cc in absurd (omega arith)
   refused-only p (bs ∷ xs) number offset e =
-      refused-first p bs xs number offset (step sizes base p bs) refl e (refused-only (behind base p bs) xs number offset)
+      refused-first p bs xs number offset (step sizes base p bs) refl e
+      (refused-only (behind base p bs) xs number offset)
 
   module _ (file : List ℕ) (legal : base ≤ baseDayMax) where
     -- a refusal of a section is Read's answer, and nothing behind that section is looked at
@@ -150,7 +159,8 @@ module _ (sizes : Sizes) (base : ℕ) where
         rw (checkFile, le-leb base baseDayMax legal) (ap (atEnd (length file)) walked)
 
     -- all sections pass, and the file ends early or is empty
-    pub check-25 : AllPass sizes base atStart (splitFile file) → T (not (isComplete (behindAll base atStart (splitFile file) .before)))
+    pub check-25 : AllPass sizes base atStart (splitFile file)
+        → T (not (isComplete (behindAll base atStart (splitFile file) .before)))
         → checkFile sizes base file ≡ refusal 25 (length file)
     unfolding checkFile
     check-25 all early =

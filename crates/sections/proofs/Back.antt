@@ -1,5 +1,5 @@
--- A file of sections that keep the rules is accepted: each section passes, with those before it known, and the file is complete.
--- By induction over the sections. Assumes nothing.
+-- A file of sections that keep the rules is accepted: each section passes, with those before it known, and the file is
+-- complete. By induction over the sections. Assumes nothing.
 use mathlib.Core.Path.{_≡_, sym, subst, _∙_}
 use mathlib.Core.Option.{some}
 use Prim.Native.Nat.{ℕ, _+_, _≤_}
@@ -30,7 +30,8 @@ pub record Accepts (sizes : Sizes) (base : ℕ) (identity : Identity) (p : Progr
   pub complete : T (isComplete (behindAll base p xs .before))
   pub same : identityOf (behindAll base p xs .before) ≡ identity
 
-module _ (sizes : Sizes) (base : ℕ) (identity : Identity) (lastTableId : ℕ) (legal : Legal sizes base identity lastTableId) where
+module _ (sizes : Sizes) (base : ℕ) (identity : Identity) (lastTableId : ℕ)
+    (legal : Legal sizes base identity lastTableId) where
   -- what is known behind a section that keeps the rules
   abbrev knownBehind : Progress → Section → Progress
   knownBehind p s =
@@ -76,7 +77,8 @@ module _ (sizes : Sizes) (base : ℕ) (identity : Identity) (lastTableId : ℕ) 
       file-same (s .header) (t .header) (record {
         triplet = that .sameTriplet ∙ sym (this .sameTriplet);
         version =
-            that .sameVersion ∙ versions-same identity (t .header .tableId) (s .header .tableId) ∙ sym (this .sameVersion);
+            that .sameVersion ∙ versions-same identity (t .header .tableId) (s .header .tableId)
+            ∙ sym (this .sameVersion);
         lastTable = that .sameLastTable ∙ sym (this .sameLastTable);
       }) in
       let behind = next-is (s .header) (t .header) (this .numbered) (succeeding .0) in

@@ -1,6 +1,6 @@
--- Counting in a segment from a file's bytes counts the sections with that segment's table and numbers, and these hold the events
--- that start in it: the bytes of sections that keep the rules show these sections, and table and first section tell the index.
--- Assumes nothing.
+-- Counting in a segment from a file's bytes counts the sections with that segment's table and numbers, and these hold
+-- the events that start in it: the bytes of sections that keep the rules show these sections, and table and first
+-- section tell the index. Assumes nothing.
 use mathlib.Core.Path.{_≡_, refl, sym, ap, ap₂, subst, _∙_}
 use mathlib.Core.Bool.{not, _&&_}
 use mathlib.Core.Logic.{_↔_, ⊎-elim}
@@ -21,7 +21,8 @@ use Rattle.sections.specs.Section.{Header, Section, sectionEvents}
 use Rattle.sections.specs.Encode.{fileBytes}
 use Rattle.sections.specs.Decode.{headerIn, splitEvents, sectionIn, splitFile, sectionsIn}
 use Rattle.sections.specs.Rules.{EventRules, Rules}
-use Rattle.sections.specs.Count.{isInFirst, firstSections, segmentEvents, segmentSections, sectionsCounted, eventsCounted}
+use Rattle.sections.specs.Count.{isInFirst, firstSections, segmentEvents, segmentSections, sectionsCounted}
+use Rattle.sections.specs.Count.{eventsCounted}
 use Rattle.sections.proofs.Exact.{sections-in-back}
 
 -- ---- arithmetic of indices
@@ -41,7 +42,8 @@ first-of index k few = omega arith
 -- what the test of a segment's first k sections says
 module _ (index k : ℕ) (h : Header) where
   pub in-first : T (isInFirst index k h)
-      → (h .tableId ≡ tableOf index) × (firstSection index ≤ h .sectionNumber) × (h .sectionNumber < firstSection index + k)
+      → (h .tableId ≡ tableOf index) × (firstSection index ≤ h .sectionNumber)
+      × (h .sectionNumber < firstSection index + k)
   in-first inside =
       let S : ℕ = h .sectionNumber in
       let s0 : ℕ = firstSection index in
@@ -49,7 +51,8 @@ module _ (index k : ℕ) (h : Header) where
       let (least, most) = and-parts (leb s0 S) (ltb S (s0 + k)) numbers in
       (eqb→eq (h .tableId) (tableOf index) table, leb→le s0 S least, ltb→lt S (s0 + k) most)
 
-  pub first-in : h .tableId ≡ tableOf index → firstSection index ≤ h .sectionNumber → h .sectionNumber < firstSection index + k
+  pub first-in : h .tableId ≡ tableOf index → firstSection index ≤ h .sectionNumber
+      → h .sectionNumber < firstSection index + k
       → T (isInFirst index k h)
   first-in table least most = search (tests, eq-test, le→leb)
 
@@ -69,7 +72,8 @@ module _ (base : ℕ) (file : List ℕ) (index : ℕ) where
   unfolding sectionsCounted
   counted-is = refl
 
-  pub held-is : (k : ℕ) → eventsCounted base file index k ≡ length (sectionEvents (firstSections index k (sectionsIn base file)))
+  pub held-is : (k : ℕ)
+      → eventsCounted base file index k ≡ length (sectionEvents (firstSections index k (sectionsIn base file)))
   unfolding eventsCounted
   held-is k = refl
 
@@ -77,10 +81,12 @@ module _ (base : ℕ) (file : List ℕ) (index : ℕ) where
 
 module _ (sizes : Sizes) (base : ℕ) (lengthFits : sizes .«section_limit» ≤ 4_096) (legal : base ≤ baseDayMax)
     (identity : Identity) (ss : List Section) (rules : Rules sizes identity ss) where
-  pub sections-counted : (index : ℕ) → sectionsCounted base (fileBytes base ss) index ≡ length (segmentSections index ss)
+  pub sections-counted : (index : ℕ)
+      → sectionsCounted base (fileBytes base ss) index ≡ length (segmentSections index ss)
   sections-counted index =
       counted-is base (fileBytes base ss) index
-      ∙ ap (λ (ts : List Section). length (segmentSections index ts)) (sections-in-back sizes base lengthFits legal identity ss rules)
+      ∙ ap (λ (ts : List Section). length (segmentSections index ts))
+      (sections-in-back sizes base lengthFits legal identity ss rules)
 
   pub events-counted : (index k : ℕ)
       → eventsCounted base (fileBytes base ss) index k ≡ length (sectionEvents (firstSections index k ss))
@@ -113,7 +119,8 @@ first-append index k (s ∷ ss) ts =
 
 module _ (base other index k : ℕ) where
   same-sections : (xs : List (List ℕ))
-      → length (firstSections index k (map (sectionIn base) xs)) ≡ length (firstSections index k (map (sectionIn other) xs))
+      → length (firstSections index k (map (sectionIn base) xs))
+      ≡ length (firstSections index k (map (sectionIn other) xs))
   unfolding sectionIn
   same-sections [] = refl
   same-sections (x ∷ xs) =
@@ -166,7 +173,8 @@ events-append : (index : ℕ) (ds es : List Event)
     → segmentEvents index (ds ++ es) ≡ segmentEvents index ds ++ segmentEvents index es
 events-append index [] es = refl
 events-append index (d ∷ ds) es =
-    let rest : segmentEvents index (ds ++ es) ≡ segmentEvents index ds ++ segmentEvents index es = events-append index ds es in
+    let rest : segmentEvents index (ds ++ es) ≡ segmentEvents index ds ++ segmentEvents index es =
+    events-append index ds es in
     events-cases index d ds (λ (fs : List Event). segmentEvents index (d ∷ (ds ++ es)) ≡ fs ++ segmentEvents index es)
     (λ here. events-more index d (ds ++ es) here ∙ ap (λ (fs : List Event). d ∷ fs) rest)
     (λ elsewhere. events-same index d (ds ++ es) elsewhere ∙ rest)
@@ -187,7 +195,8 @@ module _ (index : ℕ) (h : Header) where
   none-start (e ∷ es) rules outside =
       let elsewhere : segmentIndex (e .start) ≡ index → ⊥ =
       λ here. T-not (isInFirst index 8 h) outside
-      (in-segment index h .1 (sym (rules .0 .table) ∙ ap tableOf here, sym (rules .0 .segment) ∙ ap firstSection here)) in
+      (in-segment index h .1
+      (sym (rules .0 .table) ∙ ap tableOf here, sym (rules .0 .segment) ∙ ap firstSection here)) in
       events-same index e es elsewhere ∙ none-start es (rules .1) outside
 
 -- the sections in a segment hold the events that start in it

@@ -1,6 +1,6 @@
--- Events that keep the rules come back from their bytes, and bytes that pass are those of the events that they are read as: field
--- by field, where running_status, free_CA and chain length are three digits of one word (`word-parts`, `word-whole`).
--- Assumes nothing.
+-- Events that keep the rules come back from their bytes, and bytes that pass are those of the events that they are read
+-- as: field by field, where running_status, free_CA and chain length are three digits of one word (`word-parts`,
+-- `word-whole`). Assumes nothing.
 use mathlib.Core.Path.{_≡_, refl, sym, ap, _∙_}
 use mathlib.Core.Bool.{Bool, true, false, not, _||_}
 use mathlib.Core.Logic.{⊎-elim}
@@ -105,7 +105,8 @@ status-is : (b : Bool) → T (eqb (runningStatus b) 0 || eqb (runningStatus b) 5
 status-is true = tt
 status-is false = tt
 
-module _ (base : ℕ) (legal : base ≤ baseDayMax) (h : Header) (e : Event) (rules : EventRules h e) (short : Short e) where
+module _ (base : ℕ) (legal : base ≤ baseDayMax) (h : Header) (e : Event) (rules : EventRules h e)
+    (short : Short e) where
   -- the bytes of an event that keeps the rules are read as this event
   pub event-back : eventIn base (eventBytes base e) ≡ e
   unfolding eventBytes
@@ -116,8 +117,10 @@ module _ (base : ℕ) (legal : base ≤ baseDayMax) (h : Header) (e : Event) (ru
         id = value-back 2 (e .id) (omega (arith, rules .id)) i;
         start = start-back base (e .start) legal (rules .start) i;
         duration = duration-back (e .duration) (rules .durationHigh) i;
-        offAir = (ap (λ (w : ℕ). eqb (w / 0x2000) 5) word ∙ ap (λ (n : ℕ). eqb n 5) (digits .0) ∙ off-air-back (e .offAir)) i;
-        freeCa = (ap (λ (w : ℕ). odd (w / 0x1000)) word ∙ ap (λ (n : ℕ). eqb n 1) (digits .1) ∙ free-back (e .freeCa)) i;
+        offAir = (ap (λ (w : ℕ). eqb (w / 0x2000) 5) word ∙ ap (λ (n : ℕ). eqb n 5) (digits .0)
+            ∙ off-air-back (e .offAir)) i;
+        freeCa = (ap (λ (w : ℕ). odd (w / 0x1000)) word ∙ ap (λ (n : ℕ). eqb n 1) (digits .1) ∙ free-back (e .freeCa))
+            i;
         chain = e .chain;
       }
 
@@ -126,7 +129,8 @@ module _ (base : ℕ) (legal : base ≤ baseDayMax) (h : Header) (e : Event) (ru
   unfolding isEvent eventBytes
   event-is =
       let w : ℕ = valueOf (bigEndian 2 (statusWord e)) in
-      let the-start : startOf base (startBytes base (e .start)) ≡ e .start = start-back base (e .start) legal (rules .start) in
+      let the-start : startOf base (startBytes base (e .start)) ≡ e .start =
+      start-back base (e .start) legal (rules .start) in
       let whole : T (eqb (length (eventBytes base e)) (eventOverhead + w % 0x1000)) =
       eq-test _ _ (event-length base e ∙ sym (size-back base e short)) in
       let start : T (isStartBytes base (startBytes base (e .start))) = start-is base (e .start) legal (rules .start) in
@@ -136,7 +140,8 @@ module _ (base : ℕ) (legal : base ≤ baseDayMax) (h : Header) (e : Event) (ru
       rw (word-back base e short, status-parts base e short .0) (status-is (e .offAir)) in
       let table : T (eqb (tableOf (segmentIndex (startOf base (startBytes base (e .start))))) (h .tableId)) =
       eq-test _ _ (ap (λ (s : ℕ). tableOf (segmentIndex s)) the-start ∙ rules .table) in
-      let segment : T (eqb (firstSection (segmentIndex (startOf base (startBytes base (e .start))))) (firstOf (h .sectionNumber))) =
+      let segment : T
+      (eqb (firstSection (segmentIndex (startOf base (startBytes base (e .start))))) (firstOf (h .sectionNumber))) =
       eq-test _ _ (ap (λ (s : ℕ). firstSection (segmentIndex s)) the-start ∙ rules .segment) in
       let chain = rules .chain in
       search tests depth 8

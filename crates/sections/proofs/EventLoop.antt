@@ -1,5 +1,5 @@
--- An event loop is cut into its events, and these come back from their bytes as in proofs/EventBytes.antt: by induction over the
--- events. Assumes nothing.
+-- An event loop is cut into its events, and these come back from their bytes as in proofs/EventBytes.antt: by induction
+-- over the events. Assumes nothing.
 use mathlib.Core.Path.{_≡_, refl, ap₂}
 use mathlib.Core.List.{List, [], _∷_, _++_, map, flatten}
 use Prim.Native.Nat.{ℕ, _≤_, _<_}
@@ -20,11 +20,13 @@ use Rattle.sections.specs.Rules.{EventRules}
 use Rattle.sections.proofs.Split.{Stated, split-back}
 use Rattle.sections.proofs.EventBytes.{Short, event-bytes, event-stated, event-back, event-is, event-forth}
 
-pub loop-bytes : (base : ℕ) (es : List Event) → Every (λ (e : Event). Bytes (e .chain)) es → Bytes (eventLoopBytes base es)
+pub loop-bytes : (base : ℕ) (es : List Event) → Every (λ (e : Event). Bytes (e .chain)) es
+    → Bytes (eventLoopBytes base es)
 unfolding eventLoopBytes
 loop-bytes base [] chains = tt
 loop-bytes base (e ∷ es) chains =
-    bytes-append (eventBytes base e) (eventLoopBytes base es) (event-bytes base e (chains .0)) (loop-bytes base es (chains .1))
+    bytes-append (eventBytes base e) (eventLoopBytes base es) (event-bytes base e (chains .0))
+    (loop-bytes base es (chains .1))
 
 -- ---- the event loop: cut into events
 

@@ -1,5 +1,5 @@
--- Read is exact (demand 2): it accepts exactly the files that follow the rules, and returns their identity and their events' records.
--- Forth by proofs/Forth.antt, back by proofs/Back.antt. Assumes nothing.
+-- Read is exact (demand 2): it accepts exactly the files that follow the rules, and returns their identity and their
+-- events' records. Forth by proofs/Forth.antt, back by proofs/Back.antt. Assumes nothing.
 use mathlib.Core.Path.{_≡_, refl, sym, ap, ap₂, subst, _∙_}
 use mathlib.Core.Logic.{_↔_, ⊎-elim}
 use Prim.Native.Nat.{ℕ, _*_, _≤_}
@@ -30,7 +30,8 @@ use Rattle.sections.specs.Exact.{FollowsRules, readingOf}
 use Rattle.sections.proofs.Split.{Stated, split-joined, split-back}
 use Rattle.sections.proofs.Order.{seen-length, order-new}
 use Rattle.sections.proofs.SectionBack.{Legal, section-bytes, section-back, section-stated}
-use Rattle.sections.proofs.Read.{successOf, check-succeeds, check-succeeded, read-short, read-succeeds, read-agrees}
+use Rattle.sections.proofs.Read.{successOf, check-succeeds, check-succeeded, read-short, read-succeeds}
+use Rattle.sections.proofs.Read.{read-agrees}
 use Rattle.sections.proofs.Forth.{shown-seen, shown-few, all-forth}
 use Rattle.sections.proofs.Back.{Accepts, all-back}
 use Rattle.sections.proofs.Offsets.{records-count}
@@ -54,7 +55,8 @@ unfolding fileRecords
 records-are base file = refl
 
 -- the events that the walk has seen are those of the sections
-seen-count : (base : ℕ) (file : List ℕ) → length (behindAll base atStart (splitFile file) .seen) ≡ length (fileRecords base file)
+seen-count : (base : ℕ) (file : List ℕ)
+    → length (behindAll base atStart (splitFile file) .seen) ≡ length (fileRecords base file)
 seen-count base file =
     let ss : List Section = map (sectionIn base) (splitFile file) in
     ap length (shown-seen base atStart (splitFile file))
@@ -75,7 +77,8 @@ module _ (sizes : Sizes) (base : ℕ) (file : List ℕ) where
       → checkFile sizes base file ≡ success (checkFile sizes base file .identity) (length (fileRecords base file))
   accepted-answer zero =
       let (legal, all, complete) = check-succeeded sizes base file zero in
-      let is : checkFile sizes base file ≡ successOf sizes base file = check-succeeds sizes base file legal all complete in
+      let is : checkFile sizes base file ≡ successOf sizes base file =
+      check-succeeds sizes base file legal all complete in
       is ∙ ap₂ success (sym (ap (λ (a : Answer). a .identity) is)) (seen-count base file)
 
   -- they are within the limit
@@ -95,7 +98,8 @@ module _ (sizes : Sizes) (base : ℕ) (file : List ℕ) where
       let xs : List (List ℕ) = splitFile file in
       let ss : List Section = map (sectionIn base) xs in
       let (legal, all, complete) = check-succeeded sizes base file zero in
-      let is : checkFile sizes base file ≡ successOf sizes base file = check-succeeds sizes base file legal all complete in
+      let is : checkFile sizes base file ≡ successOf sizes base file =
+      check-succeeds sizes base file legal all complete in
       let same : checkFile sizes base file .identity ≡ identityOf (behindAll base atStart xs .before) =
       ap (λ (a : Answer). a .identity) is in
       let (joined, rules) = all-forth sizes base xs (rw (file-joined file) bytes) all complete in
@@ -114,10 +118,12 @@ sections-bytes : (base : ℕ) (identity : Identity) (sizes : Sizes) (lastTableId
 unfolding flatten
 sections-bytes base identity sizes lastTableId [] rules = tt
 sections-bytes base identity sizes lastTableId (s ∷ ss) rules =
-    bytes-append (sectionBytes base s) (flatten (map (sectionBytes base) ss)) (section-bytes base s (rules .0 .eventRules))
+    bytes-append (sectionBytes base s) (flatten (map (sectionBytes base) ss))
+    (section-bytes base s (rules .0 .eventRules))
     (sections-bytes base identity sizes lastTableId ss (rules .1))
 
-module _ (sizes : Sizes) (base : ℕ) (identity : Identity) (lastTableId : ℕ) (legal : Legal sizes base identity lastTableId) where
+module _ (sizes : Sizes) (base : ℕ) (identity : Identity) (lastTableId : ℕ)
+    (legal : Legal sizes base identity lastTableId) where
   sections-stated : (ss : List Section) → Every (SectionRules sizes identity lastTableId) ss
       → Every (Stated statedSectionSize) (map (sectionBytes base) ss)
   sections-stated [] rules = tt
@@ -136,7 +142,12 @@ module _ (sizes : Sizes) (base : ℕ) (lengthFits : sizes .«section_limit» ≤
   where
     legal-file : Legal sizes base identity (rules .lastTableId)
     legal-file =
-        record { lengthFits = lengthFits; day = legal; identityRules = rules .identityRules; lastTable = rules .lastTable }
+        record {
+          lengthFits = lengthFits;
+          day = legal;
+          identityRules = rules .identityRules;
+          lastTable = rules .lastTable;
+        }
 
     -- the joined bytes of sections that keep the rules are bytes
     pub file-bytes : Bytes (fileBytes base ss)
@@ -166,7 +177,9 @@ module _ (sizes : Sizes) (base : ℕ) (lengthFits : sizes .«section_limit» ≤
         let new : T (areNew [] (sectionEvents ss)) =
         order-new [] (sectionEvents ss) (record { rises = rules .rises; differ = rules .differ }) in
         let accepts : Accepts sizes base identity atStart (splitFile (fileBytes base ss)) =
-        rw split-file-back (all-back sizes base identity (rules .lastTableId) legal-file ss (rules .sections) (rules .ordered) new (rules .few)) in
+        rw split-file-back
+        (all-back sizes base identity (rules .lastTableId) legal-file ss (rules .sections) (rules .ordered) new
+        (rules .few)) in
         check-succeeds sizes base (fileBytes base ss) legal (accepts .all) (accepts .complete)
         ∙ ap₂ success (accepts .same) (seen-count base (fileBytes base ss) ∙ ap length follows-records)
 
@@ -175,7 +188,8 @@ module _ (sizes : Sizes) (base : ℕ) (lengthFits : sizes .«section_limit» ≤
     follows-read buffer fits =
         let count : checkFile sizes base (fileBytes base ss) .count ≡ length (recordsFrom 0 ss) =
         ap (λ (a : Answer). a .count) follows-accepted in
-        read-succeeds sizes base (fileBytes base ss) buffer (ap (λ (a : Answer). a .number) follows-accepted) (omega arith)
+        read-succeeds sizes base (fileBytes base ss) buffer (ap (λ (a : Answer). a .number) follows-accepted)
+        (omega arith)
         ∙ (λ i. record { answer = follows-accepted i; buffer = overwrite buffer 0 (numbersOfAll (follows-records i)) })
 
 -- ---- Read is exact
@@ -202,7 +216,8 @@ module _ (sizes : Sizes) (base : ℕ) (file buffer : List ℕ) where
       read-agrees sizes base file buffer (λ number-is. omega arith) in
       let zero : checkFile sizes base file .number ≡ 0 = sym (ap (λ (a : Answer). a .number) agrees) ∙ success-is in
       let answer = accepted-answer sizes base file zero in
-      let count : checkFile sizes base file .count ≡ length (fileRecords base file) = ap (λ (a : Answer). a .count) answer in
+      let count : checkFile sizes base file .count ≡ length (fileRecords base file) =
+      ap (λ (a : Answer). a .count) answer in
       let fits : checkFile sizes base file .count * recordSize ≤ length buffer =
       ⊎-elim (λ fits. fits)
       (λ short.
@@ -225,7 +240,8 @@ module _ (sizes : Sizes) (base : ℕ) (file buffer : List ℕ) where
         let follows : FollowsRules sizes base file identity (fileRecords base file) =
         subst (λ (i : Identity). FollowsRules sizes base file i (fileRecords base file)) same
         (accepted-follows sizes base file bytes zero) in
-        subst (λ (qs : List Record). FollowsRules sizes base file identity qs × (length qs * recordSize ≤ length buffer)) records
+        subst (λ (qs : List Record). FollowsRules sizes base file identity qs
+        × (length qs * recordSize ≤ length buffer)) records
         (follows, fits)
 
     follows-reads : sizes .«section_limit» ≤ 4_096 → base ≤ baseDayMax → FollowsRules sizes base file identity rs
@@ -235,8 +251,8 @@ module _ (sizes : Sizes) (base : ℕ) (file buffer : List ℕ) where
         rw (← f .bytes, ← f .records)
         (follows-read sizes base lengthFits legal identity (f .sections) (f .rules) buffer (rw (f .records) fits))
 
-    -- demand 2: for every legal base day, every file of bytes and every record buffer, Read succeeds with an identity and records
-    -- exactly if the file follows the rules with these, and the records fit the buffer
+    -- demand 2: for every legal base day, every file of bytes and every record buffer, Read succeeds with an identity
+    -- and records exactly if the file follows the rules with these, and the records fit the buffer
     pub read-exact : sizes .«section_limit» ≤ 4_096
         → base ≤ baseDayMax
         → Bytes file

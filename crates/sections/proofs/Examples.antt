@@ -15,7 +15,8 @@ use Rattle.sections.specs.Examples.{Examples}
 use Rattle.sections.specs.Broken.{Broken}
 
 pub examples : Examples
-unfolding read isFramed hasRightCrc isHeader hasRightNumbering isEvent isEventLoop isWithinLimit crc32 isChain follows fileBytes sectionsCounted eventsCounted
+unfolding read isFramed hasRightCrc isHeader hasRightNumbering isEvent isEventLoop isWithinLimit crc32 isChain follows
+    fileBytes sectionsCounted eventsCounted
 examples =
     record {
       first-sections = (refl, refl, refl, refl, refl, refl);

@@ -1,5 +1,5 @@
--- An accepted file has at most 16 × 256 sections, and so at most 16 × 256 × 4,096 bytes: table and section_number, read as one
--- number, rise from each section to the next. By induction over the sections. Assumes nothing.
+-- An accepted file has at most 16 × 256 sections, and so at most 16 × 256 × 4,096 bytes: table and section_number, read
+-- as one number, rise from each section to the next. By induction over the sections. Assumes nothing.
 use mathlib.Core.Path.{_≡_, sym, ap, _∙_}
 use mathlib.Core.Logic.{⊎-elim}
 use Prim.Native.Nat.{ℕ, _+_, _*_, _≤_, _<_}
@@ -28,8 +28,10 @@ pub next-later : (g h : Header) → Numbered g → g .lastSectionNumber < 256 �
 next-later g h n byte next =
     ⊎-elim
     (λ ends. ⊎-elim
-    (λ last. let (table, section) = next .tables (omega (arith, n .segment, n .table)) in omega (arith, n .segment, n .table))
-    (λ inside. let (within, section) = next .table (omega (arith, n .segment)) (omega arith) in omega (arith, within .table))
+    (λ last. let (table, section) = next .tables (omega (arith, n .segment, n .table)) in
+    omega (arith, n .segment, n .table))
+    (λ inside. let (within, section) = next .table (omega (arith, n .segment)) (omega arith) in
+    omega (arith, within .table))
     (le-or-lt (g .lastSectionNumber) (g .sectionNumber)))
     (λ inside. let (within, section, same) = next .segment inside in omega (arith, within .table))
     (le-or-lt (g .segmentLastSectionNumber) (g .sectionNumber))
@@ -53,7 +55,8 @@ module _ (sizes : Sizes) (identity : Identity) (lastTableId : ℕ) (most : lastT
   sizes-few lengthFits [] rules = omega arith
   sizes-few lengthFits (s ∷ ss) rules = omega (arith, rules .0 .size, sizes-few lengthFits ss (rules .1))
 
-pub sections-few : (sizes : Sizes) (identity : Identity) (ss : List Section) → Rules sizes identity ss → length ss ≤ 16 * 256
+pub sections-few : (sizes : Sizes) (identity : Identity) (ss : List Section) → Rules sizes identity ss
+    → length ss ≤ 16 * 256
 sections-few sizes identity [] rules = absurd (rules .ordered)
 sections-few sizes identity (s ∷ ss) rules =
     let first = rules .ordered .0 in

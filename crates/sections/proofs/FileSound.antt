@@ -1,5 +1,5 @@
--- The records of a file that follows the rules are a sound list with the file as day pool, and its events are the sections': each
--- part of soundness is a rule, or a law of Places. Assumes nothing.
+-- The records of a file that follows the rules are a sound list with the file as day pool, and its events are the
+-- sections': each part of soundness is a rule, or a law of Places. Assumes nothing.
 use mathlib.Core.Path.{_≡_, sym, ap, subst, _∙_}
 use Prim.Native.Nat.{ℕ, _*_, _≤_}
 use native.Mathlib.Omega.{arith}
@@ -76,7 +76,8 @@ module _ (sizes : Sizes) (base : ℕ) (file buffer series : List ℕ) where
   reading-sound : (identity : Identity) (ss : List Section) → Rules sizes identity ss → fileBytes base ss ≡ file
       → length (recordsFrom 0 ss) * recordSize ≤ length buffer
       → T (sound sizes (filePools file series) (listOf (readingOf buffer identity (recordsFrom 0 ss))))
-  reading-sound identity ss rules joined fits = rw (← joined) (file-sound sizes base identity ss series buffer rules fits)
+  reading-sound identity ss rules joined fits =
+      rw (← joined) (file-sound sizes base identity ss series buffer rules fits)
 
   reading-events : (identity : Identity) (ss : List Section) → fileBytes base ss ≡ file
       → eventsOf (filePools file series) (listOf (readingOf buffer identity (recordsFrom 0 ss))) ≡ sectionEvents ss
@@ -98,5 +99,6 @@ module _ (sizes : Sizes) (base : ℕ) (file buffer series : List ℕ) where
     accepted-events =
         let (accepted, is, fits) = read-accepted sizes base file buffer zero in
         let (rules, joined) = accepted-rules sizes base file bytes accepted in
-        ap (λ (r : Reading). eventsOf (filePools file series) (listOf r)) (is ∙ ap (readingOf buffer _) (records-are base file))
+        ap (λ (r : Reading). eventsOf (filePools file series) (listOf r))
+        (is ∙ ap (readingOf buffer _) (records-are base file))
         ∙ reading-events (checkFile sizes base file .identity) (sectionsIn base file) joined

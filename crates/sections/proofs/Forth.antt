@@ -1,5 +1,6 @@
--- A file that Read accepts follows the rules: each section that passes is the bytes of the section that it shows, and what the walk
--- keeps of the sections before says what the rules say of the whole file. By induction over the sections. Assumes nothing.
+-- A file that Read accepts follows the rules: each section that passes is the bytes of the section that it shows, and
+-- what the walk keeps of the sections before says what the rules say of the whole file. By induction over the sections.
+-- Assumes nothing.
 use mathlib.Core.Path.{_≡_, refl, sym, ap, _∙_, subst}
 use mathlib.Core.Option.{some}
 use Prim.Native.Nat.{ℕ, _+_, _≤_}
@@ -53,7 +54,8 @@ module _ (sizes : Sizes) (base : ℕ) where
   shown-new p (bs ∷ rest) all =
       let es : List Event = map (eventIn base) (splitEvents bs) in
       let loop = all .0 .loop in
-      new-append (p .seen) es (sectionEvents (shown base rest)) (search tests) (shown-new (behind base p bs) rest (all .1))
+      new-append (p .seen) es (sectionEvents (shown base rest)) (search tests)
+      (shown-new (behind base p bs) rest (all .1))
 
   pub shown-few : (p : Progress) (xs : List (List ℕ)) → length (p .seen) ≤ sizes .«event_limit»
       → AllPass sizes base p xs
@@ -108,7 +110,8 @@ module _ (sizes : Sizes) (base : ℕ) where
       let sameIdentity : headerIdentity h ≡ headerIdentity g =
       (λ i. record { triplet = same .triplet i; version = same .version i }) in
       let next : Next g h = is-next g h numbered (search tests) in
-      let behind = behind-forth (q .offset) h (q .seen) rest others (this .rules .headerRules .numbered) (all .1) complete in
+      let behind =
+      behind-forth (q .offset) h (q .seen) rest others (this .rules .headerRules .numbered) (all .1) complete in
       record {
         bytes = λ i. this .bytes i ∷ behind .bytes i;
         rules = same-rules (shown base (bs ∷ rest)) sameIdentity (same .lastTable) (this .rules, behind .rules);
@@ -119,7 +122,8 @@ module _ (sizes : Sizes) (base : ℕ) where
   -- all of them
   pub all-forth : (xs : List (List ℕ)) → Bytes (flatten xs) → AllPass sizes base atStart xs
       → T (isComplete (behindAll base atStart xs .before))
-      → (map (sectionBytes base) (shown base xs) ≡ xs) × Rules sizes (identityOf (behindAll base atStart xs .before)) (shown base xs)
+      → (map (sectionBytes base) (shown base xs) ≡ xs)
+      × Rules sizes (identityOf (behindAll base atStart xs .before)) (shown base xs)
   unfolding flatten hasRightNumbering sectionIn
   all-forth [] bytes all complete = absurd complete
   all-forth (bs ∷ rest) bytes all complete =
@@ -129,7 +133,8 @@ module _ (sizes : Sizes) (base : ℕ) where
       let (first, others) = bytes-parts bs (flatten rest) bytes in
       let this : Shown sizes base bs = section-forth sizes base atStart bs first (all .0) in
       let numbering = all .0 .numbering in
-      let behind = behind-forth (q .offset) h (q .seen) rest others (this .rules .headerRules .numbered) (all .1) complete in
+      let behind =
+      behind-forth (q .offset) h (q .seen) rest others (this .rules .headerRules .numbered) (all .1) complete in
       let order : InOrder (sectionEvents ss) =
       new-order [] (sectionEvents ss) (record { rises = tt; differ = tt }) (shown-new atStart (bs ∷ rest) all) in
       let few = shown-few atStart (bs ∷ rest) (omega arith) all in (

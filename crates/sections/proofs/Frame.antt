@@ -1,5 +1,5 @@
--- What Read leaves of the record buffer: all of it where it refuses, and what lies beyond 6 × count where it succeeds. By the cases
--- of Read. Assumes nothing.
+-- What Read leaves of the record buffer: all of it where it refuses, and what lies beyond 6 × count where it succeeds.
+-- By the cases of Read. Assumes nothing.
 use mathlib.Core.Path.{_≡_, ap, _∙_}
 use mathlib.Core.Logic.{_⊎_, inl, inr, ⊎-elim}
 use Prim.Native.Nat.{ℕ, _*_, _≤_}
@@ -28,7 +28,8 @@ module _ (sizes : Sizes) (base : ℕ) (file buffer : List ℕ) where
       let (zero, short) = read-27 sizes base file buffer .0 (eqb→eq number 27 t) in
       ap (λ (r : Reading). r .buffer) (read-short sizes base file buffer zero short))
       (λ t.
-      let agrees = read-agrees sizes base file buffer (λ number-is. T-not (eqb number 27) t (eq-test number 27 number-is)) in
+      let agrees =
+      read-agrees sizes base file buffer (λ number-is. T-not (eqb number 27) t (eq-test number 27 number-is)) in
       ap (λ (r : Reading). r .buffer)
       (read-refused sizes base file buffer (λ zero. refused (ap (λ (a : Answer). a .number) agrees ∙ zero))))
       (test-or (eqb number 27))
@@ -63,6 +64,7 @@ module _ (sizes : Sizes) (base : ℕ) (file buffer : List ℕ) where
       let rs : List Record = fileRecords base file in
       ⊎-elim
       (λ (is, fits).
-      ap (λ (r : Reading). length (r .buffer)) is ∙ over-length buffer 0 (numbersOfAll rs) (omega (arith, numbers-length rs)))
+      ap (λ (r : Reading). length (r .buffer)) is
+      ∙ over-length buffer 0 (numbersOfAll rs) (omega (arith, numbers-length rs)))
       (ap length)
       written-or-left

@@ -1,5 +1,5 @@
--- A header that fits comes back from its 14 bytes, and 14 bytes with the fixed bits are those of the header that they show: field by
--- field, where section_length and the version share their bytes with fixed bits by arithmetic.
+-- A header that fits comes back from its 14 bytes, and 14 bytes with the fixed bits are those of the header that they
+-- show: field by field, where section_length and the version share their bytes with fixed bits by arithmetic.
 -- Assumes nothing.
 use mathlib.Core.Path.{_≡_, ap, _∙_}
 use Prim.Native.Nat.{ℕ, _+_, _-_, _/_, _%_, _^_, _≤_, _<_}
@@ -110,7 +110,8 @@ header-back size h rest fits =
     let rules = fits .tripletRules in
     let v : ℕ = h .version in
     let most : v ≤ versionMax = fits .version in
-    let byte : valueOf (bigEndian 1 (versionByte v)) ≡ versionByte v = byte-back (versionByte v) (version-byte v most) in
+    let byte : valueOf (bigEndian 1 (versionByte v)) ≡ versionByte v =
+    byte-back (versionByte v) (version-byte v most) in
     let version : valueOf (bigEndian 1 (versionByte v)) / 2 % 32 ≡ v = rw byte (version-back v most) in
     λ k. record {
       tableId = byte-back (h .tableId) (fits .table) k;
@@ -152,7 +153,8 @@ header-fixed size h rest least most known =
     let v : ℕ = h .version in
     let few : size - 3 < 0x1000 = omega arith in
     let word : valueOf (bigEndian 2 (lengthWord size)) ≡ lengthWord size = length-back size few in
-    let byte : valueOf (bigEndian 1 (versionByte v)) ≡ versionByte v = byte-back (versionByte v) (version-byte v known) in
+    let byte : valueOf (bigEndian 1 (versionByte v)) ≡ versionByte v =
+    byte-back (versionByte v) (version-byte v known) in
     let (high, low) = version-fixed v known in
     fixed-bits (valueOf (bigEndian 2 (lengthWord size))) (valueOf (bigEndian 1 (versionByte v)))
     (rw word (length-word (size - 3) few .1))
@@ -178,7 +180,11 @@ module _ (bs : List ℕ) (bytes : Bytes bs) (enough : 14 ≤ length bs) where
         segmentLast = fits 12 1 (omega arith);
         lastTable = fits 13 1 (omega arith);
         tripletRules =
-            record { service = fits 3 2 (omega arith); stream = fits 8 2 (omega arith); network = fits 10 2 (omega arith) };
+            record {
+              service = fits 3 2 (omega arith);
+              stream = fits 8 2 (omega arith);
+              network = fits 10 2 (omega arith);
+            };
         version = version-most (field 5 1 bs);
       }
 

@@ -34,7 +34,8 @@ covered-length base s =
 pub section-length : (base : ℕ) (s : Section) → length (sectionBytes base s) ≡ sectionSize s
 unfolding sectionBytes
 section-length base s =
-    length-append (coveredBytes base s) (bigEndian 4 (crc32 (coveredBytes base s))) ∙ omega (arith, covered-length base s)
+    length-append (coveredBytes base s) (bigEndian 4 (crc32 (coveredBytes base s)))
+    ∙ omega (arith, covered-length base s)
 
 pub file-length : (base : ℕ) (ss : List Section) → length (fileBytes base ss) ≡ sectionSizes ss
 unfolding fileBytes

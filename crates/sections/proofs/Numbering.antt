@@ -1,6 +1,5 @@
--- Read's tests of numbering say what the rules say: each test of numbers is the fact that it tests, and a section that is itself
--- numbered by the rules has just one of three places behind it.
--- Assumes nothing.
+-- Read's tests of numbering say what the rules say: each test of numbers is the fact that it tests, and a section that
+-- is itself numbered by the rules has just one of three places behind it. Assumes nothing.
 use mathlib.Core.Path.{_≡_}
 use mathlib.Core.Bool.{Bool, _&&_, _||_}
 use mathlib.Core.List.{[]}
@@ -57,7 +56,8 @@ is-numbered h t =
       table = leb→le G L table;
       eight = leb→le G (s0 + 7) eight;
       whole =
-          ⊎-elim (λ e. inl (eqb→eq G L e)) (λ later. inr (leb→le (s0 + 8) L later)) (or-cases (eqb G L) (leb (s0 + 8) L) whole);
+          ⊎-elim (λ e. inl (eqb→eq G L e)) (λ later. inr (leb→le (s0 + 8) L later))
+          (or-cases (eqb G L) (leb (s0 + 8) L) whole);
     }
 
 -- ---- the first
@@ -122,7 +122,8 @@ module _ (g h : Header) where
 
         table : G ≤ S → S < L → T (isNext (some g) h)
         table ends inside =
-            rw (next-in-table ends inside) (at-is (firstOf S + 8) (next .table (omega (arith, n .segment)) (omega arith)))
+            rw (next-in-table ends inside)
+            (at-is (firstOf S + 8) (next .table (omega (arith, n .segment)) (omega arith)))
 
         tables : G ≤ S → L ≤ S → T (isNext (some g) h)
         tables ends last =
@@ -135,7 +136,8 @@ module _ (g h : Header) where
         segment : S < G → Within g h × (h .sectionNumber ≡ S + 1) × (h .segmentLastSectionNumber ≡ G)
         segment inside =
             let at-next : Bool = isAt (g .tableId) (S + 1) L h in
-            let (here, same) = and-parts at-next (eqb (h .segmentLastSectionNumber) G) (rw (next-in-segment inside) at t) in
+            let (here, same) =
+            and-parts at-next (eqb (h .segmentLastSectionNumber) G) (rw (next-in-segment inside) at t) in
             let (within, section) = is-at (S + 1) here in
             (within, section, eqb→eq (h .segmentLastSectionNumber) G same)
 

@@ -1,5 +1,6 @@
--- The records of sections that stand in a file are those sections' events with the file as day pool, and valid: by where bytes stand
--- in the file, from a file to its sections, from a section to its events, from an event to its chain. Assumes nothing.
+-- The records of sections that stand in a file are those sections' events with the file as day pool, and valid: by
+-- where bytes stand in the file, from a file to its sections, from a section to its events, from an event to its chain.
+-- Assumes nothing.
 use mathlib.Core.Path.{_≡_, refl, sym, ap, ap₂, _∙_}
 use mathlib.Core.Bool.{Bool, true, false}
 use Prim.Native.Nat.{ℕ, _+_, _*_, _≤_}
@@ -49,7 +50,8 @@ unfolding sectionEvents
 records-ids at [] = refl
 records-ids at (s ∷ ss) =
     rw (
-      map-append (λ (r : Record). r .id) (recordsAt (at + headerSize) (s .events)) (recordsFrom (at + sectionSize s) ss),
+      map-append (λ (r : Record). r .id) (recordsAt (at + headerSize) (s .events))
+          (recordsFrom (at + sectionSize s) ss),
       at-ids (at + headerSize) (s .events),
       records-ids (at + sectionSize s) ss,
     )
@@ -130,7 +132,8 @@ module _ (file series : List ℕ) (base at : ℕ) (e : Event) (h : Stands file a
       (bigEndian 2 (e .id) ++ startBytes base (e .start) ++ durationBytes (e .duration) ++ bigEndian 2 (statusWord e))
       (e .chain) h
 
-  chain-chosen : choose (filePools file series) (recordAt at e .marks) (at + eventOverhead) (length (e .chain)) ≡ e .chain
+  chain-chosen : choose (filePools file series) (recordAt at e .marks) (at + eventOverhead) (length (e .chain))
+      ≡ e .chain
   chain-chosen =
       choose-part (filePools file series) (recordAt at e .marks) (at + eventOverhead) (length (e .chain))
       ∙ rw (marks-day (filePools file series) (e .freeCa) (e .offAir))
@@ -176,7 +179,8 @@ module _ (file series : List ℕ) (base : ℕ) where
   loop-rest : (at : ℕ) (e : Event) (es : List Event) → Stands file at (eventLoopBytes base (e ∷ es))
       → Stands file (at + eventSize e) (eventLoopBytes base es)
   unfolding eventLoopBytes
-  loop-rest at e es h = rw (event-length base e) at (stands-right file at (eventBytes base e) (eventLoopBytes base es) h)
+  loop-rest at e es h =
+      rw (event-length base e) at (stands-right file at (eventBytes base e) (eventLoopBytes base es) h)
 
   loop-events : (at : ℕ) (es : List Event) → Stands file at (eventLoopBytes base es)
       → eventsIn (filePools file series) (recordsAt at es) ≡ es
@@ -185,7 +189,8 @@ module _ (file series : List ℕ) (base : ℕ) where
       ap₂ (λ (d : Event) (ds : List Event). d ∷ ds) (record-event file series base at e (loop-first at e es h))
       (loop-events (at + eventSize e) es (loop-rest at e es h))
 
-  loop-valid : (header : Header) (at : ℕ) (es : List Event) → Stands file at (eventLoopBytes base es) → Every (EventRules header) es
+  loop-valid : (header : Header) (at : ℕ) (es : List Event) → Stands file at (eventLoopBytes base es)
+      → Every (EventRules header) es
       → T (allValid (filePools file series) (recordsAt at es))
   loop-valid header at [] h r = tt
   loop-valid header at (e ∷ es) h r =
@@ -221,7 +226,8 @@ module _ (file series : List ℕ) (base : ℕ) where
   unfolding sectionEvents
   from-events at [] h = refl
   from-events at (s ∷ ss) h =
-      map-append (eventOf (filePools file series)) (recordsAt (at + headerSize) (s .events)) (recordsFrom (at + sectionSize s) ss)
+      map-append (eventOf (filePools file series)) (recordsAt (at + headerSize) (s .events))
+      (recordsFrom (at + sectionSize s) ss)
       ∙ ap₂ (λ (ds es : List Event). ds ++ es)
       (loop-events (at + headerSize) (s .events) (section-loop at s (file-first at s ss h)))
       (from-events (at + sectionSize s) ss (file-rest at s ss h))
@@ -231,13 +237,15 @@ module _ (file series : List ℕ) (base : ℕ) where
       → T (allValid (filePools file series) (recordsFrom at ss))
   from-valid at [] h r = tt
   from-valid at (s ∷ ss) h r =
-      valid-append (filePools file series) (recordsAt (at + headerSize) (s .events)) (recordsFrom (at + sectionSize s) ss)
+      valid-append (filePools file series) (recordsAt (at + headerSize) (s .events))
+      (recordsFrom (at + sectionSize s) ss)
       (loop-valid (s .header) (at + headerSize) (s .events) (section-loop at s (file-first at s ss h)) (r .0))
       (from-valid (at + sectionSize s) ss (file-rest at s ss h) (r .1))
 
 -- sections that stand between other bytes: their records' events are theirs
 pub records-events : (base : ℕ) (before : List ℕ) (ss : List Section) (after series : List ℕ)
-    → eventsIn (filePools (before ++ (fileBytes base ss ++ after)) series) (recordsFrom (length before) ss) ≡ sectionEvents ss
+    → eventsIn (filePools (before ++ (fileBytes base ss ++ after)) series) (recordsFrom (length before) ss)
+    ≡ sectionEvents ss
 records-events base before ss after series =
     from-events (before ++ (fileBytes base ss ++ after)) series base (length before) ss
     (record { front = before; rest = after; offset-is = refl; whole = refl })

@@ -1,6 +1,6 @@
--- Which events the sections hold in each segment tells the whole file: from the same place on, the next sections are in the
--- same segment and so at the same place, and a header's last numbers follow from the next section. By induction over two files at
--- once. Assumes nothing.
+-- Which events the sections hold in each segment tells the whole file: from the same place on, the next sections are in
+-- the same segment and so at the same place, and a header's last numbers follow from the next section. By induction
+-- over two files at once. Assumes nothing.
 use mathlib.Core.Path.{_≡_, sym, ap, ap₂, _∙_}
 use mathlib.Core.Bool.{not}
 use mathlib.Core.Logic.{_⊎_, inl, inr, ⊎-elim}
@@ -49,7 +49,8 @@ module _ (h : Header) (least : tableFirst ≤ h .tableId) (byte : h .sectionNumb
 -- ---- one section less
 
 -- of two files that agree, each from a section at the same place on
-module _ (s t : Section) (ss ts : List Section) (level : Level (s .header) (t .header)) (agree : Agree (s ∷ ss) (t ∷ ts)) where
+module _ (s t : Section) (ss ts : List Section) (level : Level (s .header) (t .header))
+    (agree : Agree (s ∷ ss) (t ∷ ts)) where
   level-inside : (index : ℕ) → T (isInFirst index 8 (s .header)) → T (isInFirst index 8 (t .header))
   level-inside index inside =
       let (table, low, high) = in-first index 8 (s .header) inside in
@@ -59,11 +60,13 @@ module _ (s t : Section) (ss ts : List Section) (level : Level (s .header) (t .h
   level-outside index outside =
       not-T (isInFirst index 8 (t .header)) (λ inside.
       let (table, low, high) = in-first index 8 (t .header) inside in
-      T-not (isInFirst index 8 (s .header)) outside (first-in index 8 (s .header) (omega arith) (omega arith) (omega arith)))
+      T-not (isInFirst index 8 (s .header)) outside
+      (first-in index 8 (s .header) (omega arith) (omega arith) (omega arith)))
 
   -- where both are the first of a segment
   heads-agree : (index : ℕ) → T (isInFirst index 8 (s .header))
-      → (s .events ∷ eventsBySection (segmentSections index ss)) ≡ (t .events ∷ eventsBySection (segmentSections index ts))
+      → (s .events ∷ eventsBySection (segmentSections index ss))
+      ≡ (t .events ∷ eventsBySection (segmentSections index ts))
   heads-agree index inside =
       sym (ap eventsBySection (first-more index 8 s ss inside))
       ∙ agree index
@@ -86,7 +89,8 @@ module _ (s t : Section) (ss ts : List Section) (level : Level (s .header) (t .h
 
 -- ---- from a section to the next
 
--- the next section tells the last numbers: its own where it is in the segment or in the table, else the section's number
+-- the next section tells the last numbers: its own where it is in the segment or in the table, else the section's
+-- number
 next-cases : (g h : Header) → Numbered g → g .lastSectionNumber < 256 → Next g h
     → (((sectionKey h / 8 ≡ sectionKey g / 8) × (g .segmentLastSectionNumber ≡ h .segmentLastSectionNumber))
     ⊎ ((sectionKey g / 8 < sectionKey h / 8) × (g .segmentLastSectionNumber ≡ g .sectionNumber)))
@@ -110,7 +114,8 @@ next-cases g h n byte next =
     (le-or-lt (g .segmentLastSectionNumber) (g .sectionNumber))
 
 -- so two sections at the same place have the same last numbers where the next is the same
-level-numbers : (g h next : Header) → Level g h → Numbered g → Numbered h → g .lastSectionNumber < 256 → h .lastSectionNumber < 256
+level-numbers : (g h next : Header) → Level g h → Numbered g → Numbered h → g .lastSectionNumber < 256
+    → h .lastSectionNumber < 256
     → Next g next → Next h next
     → (g .segmentLastSectionNumber ≡ h .segmentLastSectionNumber) × (g .lastSectionNumber ≡ h .lastSectionNumber)
 level-numbers g h next level m n few small one other =
@@ -123,7 +128,8 @@ level-numbers g h next level m n few small one other =
     )
 
 -- the next key, or the first of a segment: the segment decides which
-next-key-only : (p q r : ℕ) → p < q → p < r → q / 8 ≡ r / 8 → (q ≡ p + 1) ⊎ (q % 8 ≡ 0) → (r ≡ p + 1) ⊎ (r % 8 ≡ 0) → q ≡ r
+next-key-only : (p q r : ℕ) → p < q → p < r → q / 8 ≡ r / 8 → (q ≡ p + 1) ⊎ (q % 8 ≡ 0) → (r ≡ p + 1) ⊎ (r % 8 ≡ 0)
+    → q ≡ r
 next-key-only p q r later after same one other =
     ⊎-elim
     (λ next. ⊎-elim (λ also. omega arith) (λ first. omega arith) other)
@@ -244,7 +250,8 @@ module _ (sizes : Sizes) (identity : Identity) where
           h .numbered .table,
         ) in
         ap (λ (u : Section). u ∷ [])
-        (same-section s t level numbers (omega (arith, one .section, other .section)) (omega (arith, one .table, other .table))
+        (same-section s t level numbers (omega (arith, one .section, other .section))
+        (omega (arith, one .table, other .table))
         (g .sameTriplet ∙ sym (h .sameTriplet))
         (same-version s t level g h)
         (heads-same s t [] [] level agree (g .least) (byte-number sizes identity l 0 s (ours .0))))
@@ -275,7 +282,8 @@ module _ (sizes : Sizes) (identity : Identity) where
         (heads-same s t (s' ∷ ss) (t' ∷ ts) level agree (g .least) (byte-number sizes identity l 0 s (ours .0))))
         same
 
--- sections that keep the rules under the same identity, and whose sections in each segment hold the same events, are the same
+-- sections that keep the rules under the same identity, and whose sections in each segment hold the same events, are
+-- the same
 pub sections-only : (sizes : Sizes) (identity : Identity) (ss ts : List Section)
     → Rules sizes identity ss → Rules sizes identity ts
     → ((index : ℕ) → eventsBySection (segmentSections index ss) ≡ eventsBySection (segmentSections index ts))

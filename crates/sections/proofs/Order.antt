@@ -1,5 +1,5 @@
--- Read's look-back test says the same as "starts rise strictly and ids differ" over all events in order: by induction over the new
--- events, where each joins the end of those seen. Assumes nothing.
+-- Read's look-back test says the same as "starts rise strictly and ids differ" over all events in order: by induction
+-- over the new events, where each joins the end of those seen. Assumes nothing.
 use mathlib.Core.Path.{_≡_, refl, ap, subst, _∙_}
 use mathlib.Core.Bool.{Bool, true, false, not, _||_}
 use mathlib.Core.Logic.{_↔_}
@@ -50,7 +50,8 @@ order-front : (ds es : List Event) → InOrder (ds ++ es) → InOrder ds
 order-front ds es o =
     record {
       rises = rising-front ds es (o .rises);
-      differ = differ-front (eventIds ds) (eventIds es) (subst (λ (ns : List ℕ). T (allDiffer ns)) (ids-append ds es) (o .differ));
+      differ = differ-front (eventIds ds) (eventIds es)
+          (subst (λ (ns : List ℕ). T (allDiffer ns)) (ids-append ds es) (o .differ));
     }
 
 -- behind the last one
@@ -70,7 +71,8 @@ order-snoc ds d e =
     )
 
 -- behind those seen, of which the latest is first
-order-seen : (seen : List Event) (e : Event) → InOrder (reverse (e ∷ seen)) ↔ (InOrder (reverse seen) × T (isNew seen e))
+order-seen : (seen : List Event) (e : Event)
+    → InOrder (reverse (e ∷ seen)) ↔ (InOrder (reverse seen) × T (isNew seen e))
 order-seen [] e = (λ o. (record { rises = tt; differ = tt }, tt), λ p. record { rises = tt; differ = tt })
 order-seen (d ∷ seen) e =
     let id : ℕ = e .id in
@@ -107,13 +109,16 @@ pub seen-length : (es seen : List Event) → length (reverse es ++ seen) ≡ len
 seen-length [] seen = omega arith
 seen-length (e ∷ es) seen = ap length (next-seen es e seen) ∙ seen-length es (e ∷ seen) ∙ omega arith
 
-pub new-append : (seen es fs : List Event) → T (areNew seen es) → T (areNew (reverse es ++ seen) fs) → T (areNew seen (es ++ fs))
+pub new-append : (seen es fs : List Event) → T (areNew seen es) → T (areNew (reverse es ++ seen) fs)
+    → T (areNew seen (es ++ fs))
 new-append seen [] fs t u = u
 new-append seen (e ∷ es) fs t u =
-    let rest : T (areNew (e ∷ seen) (es ++ fs)) = new-append (e ∷ seen) es fs (search tests) (rw (next-seen es e seen) at u) in
+    let rest : T (areNew (e ∷ seen) (es ++ fs)) =
+    new-append (e ∷ seen) es fs (search tests) (rw (next-seen es e seen) at u) in
     search tests
 
-pub new-parts : (seen es fs : List Event) → T (areNew seen (es ++ fs)) → T (areNew seen es) × T (areNew (reverse es ++ seen) fs)
+pub new-parts : (seen es fs : List Event) → T (areNew seen (es ++ fs))
+    → T (areNew seen es) × T (areNew (reverse es ++ seen) fs)
 new-parts seen [] fs t = (tt, t)
 new-parts seen (e ∷ es) fs t =
     let (first, second) = new-parts (e ∷ seen) es fs (search tests) in

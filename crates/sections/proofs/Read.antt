@@ -67,7 +67,8 @@ end-succeeded : (size : ℕ) (v : Verdict) → Numbers v → atEnd size v .numbe
 end-succeeded size (refused number offset) numbers zero = absurd (omega arith)
 end-succeeded size (passed p) numbers zero =
     ⊎-elim (λ t. (p, refl, t))
-    (λ t. let never : _≡_ {A = ℕ} 25 0 = rw (atEnd, false-is (isComplete (p .before)) t) at zero in absurd (omega arith))
+    (λ t. let never : _≡_ {A = ℕ} 25 0 = rw (atEnd, false-is (isComplete (p .before)) t) at zero in
+    absurd (omega arith))
     (test-or (isComplete (p .before)))
 
 module _ (sizes : Sizes) (base : ℕ) where
@@ -98,10 +99,12 @@ module _ (sizes : Sizes) (base : ℕ) where
       let ended : atEnd (length file) (walk sizes base atStart (splitFile file)) .number ≡ 0 =
       rw (checkFile, le-leb base baseDayMax legal) at zero in
       let (p, is, complete) =
-      end-succeeded (length file) (walk sizes base atStart (splitFile file)) (walk-numbers sizes base atStart (splitFile file)) ended in
+      end-succeeded (length file) (walk sizes base atStart (splitFile file))
+      (walk-numbers sizes base atStart (splitFile file)) ended in
       let (all, end) = walk-passed sizes base atStart p (splitFile file) is in
       (legal, all, rw end complete))
-      (λ above. let never : _≡_ {A = ℕ} 1 0 = rw (checkFile, lt-leb base baseDayMax above) at zero in absurd (omega arith))
+      (λ above. let never : _≡_ {A = ℕ} 1 0 = rw (checkFile, lt-leb base baseDayMax above) at zero in
+      absurd (omega arith))
       (le-or-lt base baseDayMax)
 
 end-numbers : (size : ℕ) (v : Verdict) → Numbers v → atEnd size v .number < 27
@@ -117,12 +120,14 @@ unfolding checkFile
 check-below-27 sizes base file =
     ⊎-elim
     (λ legal. rw (checkFile, le-leb base baseDayMax legal)
-    (end-numbers (length file) (walk sizes base atStart (splitFile file)) (walk-numbers sizes base atStart (splitFile file))))
+    (end-numbers (length file) (walk sizes base atStart (splitFile file))
+    (walk-numbers sizes base atStart (splitFile file))))
     (λ above. rw (checkFile, lt-leb base baseDayMax above) (omega arith))
     (le-or-lt base baseDayMax)
 
 -- 1 before all
-pub check-base : (sizes : Sizes) (base : ℕ) (file : List ℕ) → baseDayMax < base → checkFile sizes base file ≡ refusal 1 0
+pub check-base : (sizes : Sizes) (base : ℕ) (file : List ℕ) → baseDayMax < base
+    → checkFile sizes base file ≡ refusal 1 0
 unfolding checkFile
 check-base sizes base file above = rw (checkFile, lt-leb base baseDayMax above)
 
@@ -153,9 +158,13 @@ module _ (sizes : Sizes) (base : ℕ) (file buffer : List ℕ) where
   unfolding read
   read-short zero short = fill-short buffer (fileRecords base file) (checkFile sizes base file) zero short
 
-  pub read-succeeds : checkFile sizes base file .number ≡ 0 → checkFile sizes base file .count * recordSize ≤ length buffer
+  pub read-succeeds : checkFile sizes base file .number ≡ 0
+      → checkFile sizes base file .count * recordSize ≤ length buffer
       → read sizes base file buffer
-      ≡ record { answer = checkFile sizes base file; buffer = overwrite buffer 0 (numbersOfAll (fileRecords base file)) }
+      ≡ record {
+        answer = checkFile sizes base file;
+        buffer = overwrite buffer 0 (numbersOfAll (fileRecords base file));
+      }
   unfolding read
   read-succeeds zero fits = fill-succeeds buffer (fileRecords base file) (checkFile sizes base file) zero fits
 

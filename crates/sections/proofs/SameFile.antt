@@ -19,7 +19,8 @@ same-file g h t =
     let stream : h .triplet .«transport_stream_id» ≡ g .triplet .«transport_stream_id» = eqb→eq _ _ (search tests) in
     let network : h .triplet .«original_network_id» ≡ g .triplet .«original_network_id» = eqb→eq _ _ (search tests) in
     record {
-      triplet = λ i. record { «service_id» = service i; «transport_stream_id» = stream i; «original_network_id» = network i };
+      triplet = λ i.
+          record { «service_id» = service i; «transport_stream_id» = stream i; «original_network_id» = network i };
       version = eqb→eq _ _ (search tests);
       lastTable = eqb→eq _ _ (search tests);
     }

@@ -1,5 +1,5 @@
--- Sections that keep the rules come back from their bytes, which state their own length and pass Read's tests: header, event loop and
--- the four bytes of CRC_32 each by its own law. Assumes nothing.
+-- Sections that keep the rules come back from their bytes, which state their own length and pass Read's tests: header,
+-- event loop and the four bytes of CRC_32 each by its own law. Assumes nothing.
 use mathlib.Core.Path.{_≡_, refl, sym, ap, subst, _∙_}
 use mathlib.Core.Bool.{_&&_}
 use mathlib.Core.Option.{Option, some}
@@ -24,7 +24,8 @@ use Rattle.sections.specs.Segment.{tableFirst, tableMax}
 use Rattle.sections.specs.Section.{Header, Section, headerSize, eventSizes, sectionSize}
 use Rattle.sections.specs.Split.{splitBy}
 use Rattle.sections.specs.Encode.{eventBytes, headerBytes, eventLoopBytes, coveredBytes, sectionBytes}
-use Rattle.sections.specs.Decode.{statedEventSize, eventIn, statedSectionSize, headerIn, eventLoop, splitEvents, sectionIn}
+use Rattle.sections.specs.Decode.{statedEventSize, eventIn, statedSectionSize, headerIn, eventLoop, splitEvents}
+use Rattle.sections.specs.Decode.{sectionIn}
 use Rattle.sections.specs.Rules.{Alone, IdentityRules, EventRules, SectionRules}
 use Rattle.sections.specs.HeaderTests.{isTable, isFramed, hasRightCrc, hasFixedBits}
 use Rattle.sections.specs.HeaderTests.{isSameFile, isHeader, isNumbered, isNext, hasRightNumbering}
@@ -35,7 +36,8 @@ use Rattle.sections.proofs.Lengths.{loop-length, header-length, section
 use Rattle.sections.proofs.Split.{Stated}
 use Rattle.sections.proofs.EventBytes.{Short}
 use Rattle.sections.proofs.EventLoop.{loop-bytes, loop-split, sizes-short, events-back, events-are}
-use Rattle.sections.proofs.HeaderBytes.{HeaderFits, rules-fit, header-bytes, header-back, header-stated, header-fixed}
+use Rattle.sections.proofs.HeaderBytes.{HeaderFits, rules-fit, header-bytes, header-back, header-stated}
+use Rattle.sections.proofs.HeaderBytes.{header-fixed}
 use Rattle.sections.proofs.Numbering.{numbered-is, alone-is}
 use Rattle.sections.proofs.Walk.{Passes}
 
@@ -54,7 +56,8 @@ unfolding coveredBytes
 covered-is base s = refl
 
 section-parts : (base : ℕ) (s : Section)
-    → sectionBytes base s ≡ headerBytes (sectionSize s) (s .header) ++ (eventLoopBytes base (s .events) ++ crcBytes base s)
+    → sectionBytes base s
+    ≡ headerBytes (sectionSize s) (s .header) ++ (eventLoopBytes base (s .events) ++ crcBytes base s)
 section-parts base s =
     section-is base s
     ∙ ap (λ (ds : List ℕ). ds ++ crcBytes base s) (covered-is base s)
@@ -71,14 +74,16 @@ covered-bytes base s rules =
 pub section-bytes : (base : ℕ) (s : Section) → Every (EventRules (s .header)) (s .events) → Bytes (sectionBytes base s)
 section-bytes base s rules =
     rw (section-is base s)
-    (bytes-append (coveredBytes base s) (crcBytes base s) (covered-bytes base s rules) (big-endian-bytes 4 (crc32 (coveredBytes base s))))
+    (bytes-append (coveredBytes base s) (crcBytes base s) (covered-bytes base s rules)
+    (big-endian-bytes 4 (crc32 (coveredBytes base s))))
 
-alone-back : (base : ℕ) (h : Header) (es : List Event) → (es ≡ [] → Alone h) → T (isFilledOrAlone h (map (eventBytes base) es))
+alone-back : (base : ℕ) (h : Header) (es : List Event) → (es ≡ [] → Alone h)
+    → T (isFilledOrAlone h (map (eventBytes base) es))
 alone-back base h [] alone = alone-is h (alone refl)
 alone-back base h (e ∷ es) alone = tt
 
--- what holds of a file before its sections: 12 bits reach the section size, the base day is legal, and identity and last_table_id keep
--- the rules
+-- what holds of a file before its sections: 12 bits reach the section size, the base day is legal, and identity and
+-- last_table_id keep the rules
 pub record Legal (sizes : Sizes) (base : ℕ) (identity : Identity) (lastTableId : ℕ) : Type 0 where
   pub lengthFits : sizes .«section_limit» ≤ 4_096
   pub day : base ≤ baseDayMax
@@ -86,7 +91,8 @@ pub record Legal (sizes : Sizes) (base : ℕ) (identity : Identity) (lastTableId
   pub lastTable : lastTableId ≤ tableMax
 
 -- a section of such a file that keeps the rules
-module _ (sizes : Sizes) (base : ℕ) (identity : Identity) (lastTableId : ℕ) (legal : Legal sizes base identity lastTableId)
+module _ (sizes : Sizes) (base : ℕ) (identity : Identity) (lastTableId : ℕ)
+    (legal : Legal sizes base identity lastTableId)
     (s : Section) (rules : SectionRules sizes identity lastTableId s)
   where
     fits : HeaderFits (s .header)
@@ -100,20 +106,25 @@ module _ (sizes : Sizes) (base : ℕ) (identity : Identity) (lastTableId : ℕ) 
 
     loop-back : eventLoop (sectionBytes base s) ≡ eventLoopBytes base (s .events)
     loop-back =
-        let size : length (sectionBytes base s) - sectionOverhead ≡ eventSizes (s .events) = omega (arith, section-length base s) in
+        let size : length (sectionBytes base s) - sectionOverhead ≡ eventSizes (s .events) =
+        omega (arith, section-length base s) in
         ap (λ (n : ℕ). take n (drop headerSize (sectionBytes base s))) size
         ∙ ap (take (eventSizes (s .events)))
         (ap (drop headerSize) (section-parts base s)
-        ∙ drop-at (headerBytes (sectionSize s) (s .header)) (eventLoopBytes base (s .events) ++ crcBytes base s) headerSize
+        ∙ drop-at (headerBytes (sectionSize s) (s .header)) (eventLoopBytes base (s .events) ++ crcBytes base s)
+        headerSize
         (header-length (sectionSize s) (s .header)))
-        ∙ take-at (eventLoopBytes base (s .events)) (crcBytes base s) (eventSizes (s .events)) (loop-length base (s .events))
+        ∙ take-at (eventLoopBytes base (s .events)) (crcBytes base s) (eventSizes (s .events))
+        (loop-length base (s .events))
 
     split-events : splitEvents (sectionBytes base s) ≡ map (eventBytes base) (s .events)
     unfolding splitEvents
     split-events = ap (splitBy statedEventSize) loop-back ∙ loop-split base (s .events) short
 
     events-shown : map (eventIn base) (splitEvents (sectionBytes base s)) ≡ s .events
-    events-shown = ap (map (eventIn base)) split-events ∙ events-back base (legal .day) (s .header) (s .events) (rules .eventRules) short
+    events-shown =
+        ap (map (eventIn base)) split-events
+        ∙ events-back base (legal .day) (s .header) (s .events) (rules .eventRules) short
 
     -- its bytes show the section
     pub section-back : sectionIn base (sectionBytes base s) ≡ s
@@ -130,8 +141,10 @@ module _ (sizes : Sizes) (base : ℕ) (identity : Identity) (lastTableId : ℕ) 
               λ rest.
               ap statedSectionSize
               (ap (λ (ds : List ℕ). ds ++ rest) (section-parts base s)
-              ∙ append-assoc (headerBytes (sectionSize s) (s .header)) (eventLoopBytes base (s .events) ++ crcBytes base s) rest)
-              ∙ header-stated (sectionSize s) (s .header) _ (omega arith) (omega (arith, legal .lengthFits, rules .size))
+              ∙ append-assoc (headerBytes (sectionSize s) (s .header))
+              (eventLoopBytes base (s .events) ++ crcBytes base s) rest)
+              ∙ header-stated (sectionSize s) (s .header) _ (omega arith)
+              (omega (arith, legal .lengthFits, rules .size))
               ∙ sym size;
         }
 
@@ -163,21 +176,25 @@ module _ (sizes : Sizes) (base : ℕ) (identity : Identity) (lastTableId : ℕ) 
     fixed : T (hasFixedBits (sectionBytes base s))
     fixed =
         rw (section-parts base s)
-        (header-fixed (sectionSize s) (s .header) _ (omega arith) (omega (arith, legal .lengthFits, rules .size)) (fits .version))
+        (header-fixed (sectionSize s) (s .header) _ (omega arith) (omega (arith, legal .lengthFits, rules .size))
+        (fits .version))
 
-    header-passes : (before : Option Header) → T (isSameFile before (s .header)) → T (isHeader before (sectionBytes base s))
+    header-passes : (before : Option Header) → T (isSameFile before (s .header))
+        → T (isHeader before (sectionBytes base s))
     unfolding isHeader
     header-passes before same =
         let lastTable : T (isTable (s .header .lastTableId)) =
         and-both (leb tableFirst (s .header .lastTableId)) (leb (s .header .lastTableId) tableMax)
         (le→leb tableFirst (s .header .lastTableId)
         (omega (arith, rules .headerRules .least, rules .headerRules .most, rules .headerRules .sameLastTable)))
-        (le→leb (s .header .lastTableId) tableMax (omega (arith, legal .lastTable, rules .headerRules .sameLastTable))) in
+        (le→leb (s .header .lastTableId) tableMax
+        (omega (arith, legal .lastTable, rules .headerRules .sameLastTable))) in
         and-both (hasFixedBits (sectionBytes base s)) _ fixed
         (subst (λ (h : Header). T (isTable (h .lastTableId) && isSameFile before h)) (sym section-header)
         (and-both (isTable (s .header .lastTableId)) (isSameFile before (s .header)) lastTable same))
 
-    numbering-passes : (before : Option Header) → T (isNext before (s .header)) → T (hasRightNumbering before (headerIn (sectionBytes base s)))
+    numbering-passes : (before : Option Header) → T (isNext before (s .header))
+        → T (hasRightNumbering before (headerIn (sectionBytes base s)))
     unfolding hasRightNumbering
     numbering-passes before next =
         let numbered : T (isNumbered (s .header)) = numbered-is (s .header) (rules .headerRules .numbered) in
@@ -222,7 +239,11 @@ module _ (sizes : Sizes) (base : ℕ) (identity : Identity) (lastTableId : ℕ) 
 
     pub section-behind : (p : Progress)
         → behind base p (sectionBytes base s)
-        ≡ record { offset = p .offset + sectionSize s; before = some (s .header); seen = reverse (s .events) ++ p .seen }
+        ≡ record {
+          offset = p .offset + sectionSize s;
+          before = some (s .header);
+          seen = reverse (s .events) ++ p .seen;
+        }
     section-behind p =
         λ i. record {
           offset = p .offset + section-length base s i;

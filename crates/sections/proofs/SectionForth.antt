@@ -1,5 +1,5 @@
--- Bytes that pass Read's tests are those of the section that they show, and it keeps the rules: header, event loop and the four bytes
--- of CRC_32 each by its own law. Assumes nothing.
+-- Bytes that pass Read's tests are those of the section that they show, and it keeps the rules: header, event loop and
+-- the four bytes of CRC_32 each by its own law. Assumes nothing.
 use mathlib.Core.Path.{_≡_, refl, sym, ap, _∙_}
 use Prim.Native.Nat.{ℕ, _-_, _≤_}
 use native.Mathlib.Omega.{arith}
@@ -19,9 +19,11 @@ use Rattle.sections.specs.Every.{Every}
 use Rattle.sections.specs.Segment.{tableFirst, tableMax}
 use Rattle.sections.specs.Section.{Header, headerIdentity, headerSize, sectionSize}
 use Rattle.sections.specs.Encode.{headerBytes, eventLoopBytes, coveredBytes, sectionBytes}
-use Rattle.sections.specs.Decode.{statedEventSize, eventIn, statedSectionSize, headerIn, eventLoop, splitEvents, sectionIn}
+use Rattle.sections.specs.Decode.{statedEventSize, eventIn, statedSectionSize, headerIn, eventLoop, splitEvents}
+use Rattle.sections.specs.Decode.{sectionIn}
 use Rattle.sections.specs.Rules.{Alone, IdentityRules, EventRules, SectionRules}
-use Rattle.sections.specs.HeaderTests.{isFramed, hasRightCrc, hasFixedBits, isHeader, isNumbered, hasRightNumbering}
+use Rattle.sections.specs.HeaderTests.{isFramed, hasRightCrc, hasFixedBits, isHeader, isNumbered}
+use Rattle.sections.specs.HeaderTests.{hasRightNumbering}
 use Rattle.sections.specs.EventTests.{isFilledOrAlone, areEvents, isEventLoop}
 use Rattle.sections.specs.Walk.{Progress}
 use Rattle.sections.proofs.Version.{version-shown}
@@ -39,7 +41,8 @@ pub record Shown (sizes : Sizes) (base : ℕ) (bs : List ℕ) : Type 0 where
   pub lastTable : headerIn bs .lastTableId ≤ tableMax
   pub rules : SectionRules sizes (headerIdentity (headerIn bs)) (headerIn bs .lastTableId) (sectionIn base bs)
 
-alone-forth : (base : ℕ) (h : Header) (xs : List (List ℕ)) → T (isFilledOrAlone h xs) → map (eventIn base) xs ≡ [] → Alone h
+alone-forth : (base : ℕ) (h : Header) (xs : List (List ℕ)) → T (isFilledOrAlone h xs) → map (eventIn base) xs ≡ []
+    → Alone h
 alone-forth base h [] t empty = is-alone h t
 alone-forth base h (x ∷ xs) t empty = let never : _≡_ {A = ℕ} 0 1 = cc in absurd (omega arith)
 
@@ -54,10 +57,12 @@ closing bs = drop (length bs - sectionOverhead) (drop headerSize bs)
 section-joined : (bs : List ℕ) → take headerSize bs ++ eventLoop bs ++ closing bs ≡ bs
 section-joined bs =
     append-assoc (take headerSize bs) (eventLoop bs) (closing bs)
-    ∙ ap (λ (ds : List ℕ). take headerSize bs ++ ds) (take-append-drop (length bs - sectionOverhead) (drop headerSize bs))
+    ∙ ap (λ (ds : List ℕ). take headerSize bs ++ ds)
+    (take-append-drop (length bs - sectionOverhead) (drop headerSize bs))
     ∙ take-append-drop headerSize bs
 
-module _ (sizes : Sizes) (base : ℕ) (p : Progress) (bs : List ℕ) (bytes : Bytes bs) (passes : Passes sizes base p bs) where
+module _ (sizes : Sizes) (base : ℕ) (p : Progress) (bs : List ℕ) (bytes : Bytes bs)
+    (passes : Passes sizes base p bs) where
   -- 20, part by part
   framed-parts : (length bs ≡ statedSectionSize bs) × (sectionOverhead ≤ length bs)
       × (length bs ≤ sizes .«section_limit»)
@@ -87,7 +92,8 @@ module _ (sizes : Sizes) (base : ℕ) (p : Progress) (bs : List ℕ) (bytes : By
 
   loop-size : length (eventLoop bs) ≡ length bs - sectionOverhead
   loop-size =
-      length-take-le (length bs - sectionOverhead) (drop headerSize bs) (simp length-drop (omega (arith, framed-parts .1)))
+      length-take-le (length bs - sectionOverhead) (drop headerSize bs)
+      (simp length-drop (omega (arith, framed-parts .1)))
 
   loop-is-bytes : Bytes (eventLoop bs)
   loop-is-bytes = field-bytes bs bytes headerSize (length bs - sectionOverhead)

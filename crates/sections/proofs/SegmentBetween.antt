@@ -1,5 +1,5 @@
--- No segment of a file is skipped: table and segment, read as one number, stay from each section to the next, go up by one in the
--- same table, or go on to the next table's first segment. By induction over the sections. Assumes nothing.
+-- No segment of a file is skipped: table and segment, read as one number, stay from each section to the next, go up by
+-- one in the same table, or go on to the next table's first segment. By induction over the sections. Assumes nothing.
 use mathlib.Core.Path.{_≡_, ap}
 use mathlib.Core.Logic.{_⊎_, inl, inr, ⊎-elim}
 use Prim.Native.Nat.{ℕ, _+_, _*_, _/_, _%_, _≤_, _<_}
@@ -29,7 +29,8 @@ indexAt index = tableOf index * 32 + segmentOf index
 
 -- the next section stays in the segment, is in the table's next one, or in the next table's first
 next-segment : (g h : Header) → Numbered g → Next g h
-    → ((h .tableId ≡ g .tableId) × (segmentAt h ≤ segmentAt g + 1)) ⊎ ((h .tableId ≡ g .tableId + 1) × (h .sectionNumber ≡ 0))
+    → ((h .tableId ≡ g .tableId) × (segmentAt h ≤ segmentAt g + 1))
+    ⊎ ((h .tableId ≡ g .tableId + 1) × (h .sectionNumber ≡ 0))
 next-segment g h n next =
     ⊎-elim
     (λ ends. ⊎-elim
@@ -76,11 +77,13 @@ module _ (sizes : Sizes) (identity : Identity) (lastTableId : ℕ) where
   KeepsRules s = SectionRules sizes identity lastTableId s
 
   -- a segment that has sections from a section on is in no table before that section's
-  table-least : (j : ℕ) (s : Section) (ss : List Section) → Every KeepsRules (s ∷ ss) → Succeeding (s .header) (headersOf ss)
+  table-least : (j : ℕ) (s : Section) (ss : List Section) → Every KeepsRules (s ∷ ss)
+      → Succeeding (s .header) (headersOf ss)
       → 0 < length (segmentSections j (s ∷ ss))
       → s .header .tableId ≤ tableOf j
   table-least j s [] rules succeeding some =
-      ⊎-elim (λ here. omega (arith, in-first j 8 (s .header) here .0)) (λ rest. absurd (omega arith)) (some-where j s [] some)
+      ⊎-elim (λ here. omega (arith, in-first j 8 (s .header) here .0)) (λ rest. absurd (omega arith))
+      (some-where j s [] some)
   table-least j s (t ∷ ss) rules succeeding some =
       ⊎-elim
       (λ here. omega (arith, in-first j 8 (s .header) here .0))
@@ -90,17 +93,20 @@ module _ (sizes : Sizes) (identity : Identity) (lastTableId : ℕ) where
       (next-segment (s .header) (t .header) (rules .0 .headerRules .numbered) (succeeding .0)))
       (some-where j s (t ∷ ss) some)
 
-  ordered-begins : (ss : List Section) → Every KeepsRules ss → Ordered (headersOf ss) → 0 < length (segmentSections 0 ss)
+  ordered-begins : (ss : List Section) → Every KeepsRules ss → Ordered (headersOf ss)
+      → 0 < length (segmentSections 0 ss)
   ordered-begins [] rules ordered = absurd ordered
   ordered-begins (s ∷ ss) rules ordered =
       let first = ordered .0 in
-      here-some 0 s ss (first-in 0 8 (s .header) (first .table) (omega (arith, first .section)) (omega (arith, first .section)))
+      here-some 0 s ss
+      (first-in 0 8 (s .header) (first .table) (omega (arith, first .section)) (omega (arith, first .section)))
 
   module _ (i j : ℕ) (early : i ≤ j) (near : (i / 32 ≡ j / 32) ⊎ (i % 32 ≡ 0)) where
     -- a section in segment i, or one before it, with segment j in the rest
     here-or-before : (s : Section) (ss : List Section) → KeepsRules s → segmentAt (s .header) ≤ indexAt i
         → 0 < length (segmentSections j (s ∷ ss))
-        → (0 < length (segmentSections i (s ∷ ss))) ⊎ ((segmentAt (s .header) < indexAt i) × (0 < length (segmentSections j ss)))
+        → (0 < length (segmentSections i (s ∷ ss)))
+        ⊎ ((segmentAt (s .header) < indexAt i) × (0 < length (segmentSections j ss)))
     here-or-before s ss rules least some =
         let h = rules .headerRules in
         let byte : s .header .sectionNumber < 256 = omega (arith, h .numbered .segment, h .numbered .table, h .byte) in
@@ -113,7 +119,8 @@ module _ (sizes : Sizes) (identity : Identity) (lastTableId : ℕ) where
         (le-or-lt (indexAt i) (segmentAt (s .header)))
 
     -- the next section does not pass segment i: in a table behind it there is no section of segment j
-    next-least : (s t : Section) (ss : List Section) → Every KeepsRules (s ∷ t ∷ ss) → Succeeding (s .header) (headersOf (t ∷ ss))
+    next-least : (s t : Section) (ss : List Section) → Every KeepsRules (s ∷ t ∷ ss)
+        → Succeeding (s .header) (headersOf (t ∷ ss))
         → segmentAt (s .header) < indexAt i
         → 0 < length (segmentSections j (t ∷ ss))
         → segmentAt (t .header) ≤ indexAt i
@@ -139,7 +146,8 @@ module _ (sizes : Sizes) (identity : Identity) (lastTableId : ℕ) where
         (from-between t ss (rules .1) (succeeding .1) (next-least s t ss rules succeeding before rest) rest))
         (here-or-before s (t ∷ ss) (rules .0) least some)
 
-    ordered-between : (ss : List Section) → Every KeepsRules ss → Ordered (headersOf ss) → 0 < length (segmentSections j ss)
+    ordered-between : (ss : List Section) → Every KeepsRules ss → Ordered (headersOf ss)
+        → 0 < length (segmentSections j ss)
         → 0 < length (segmentSections i ss)
     ordered-between [] rules ordered some = absurd ordered
     ordered-between (s ∷ ss) rules ordered some =
@@ -152,8 +160,8 @@ module _ (sizes : Sizes) (identity : Identity) (ss : List Section) (rules : Rule
   pub segment-begins : 0 < length (segmentSections 0 ss)
   segment-begins = ordered-begins sizes identity (rules .lastTableId) ss (rules .sections) (rules .ordered)
 
-  -- no segment is skipped: one that is not behind a segment with sections has sections, if it is in the same table or its table's
-  -- first
+  -- no segment is skipped: one that is not behind a segment with sections has sections, if it is in the same table or
+  -- its table's first
   pub segment-between : (i j : ℕ) → 0 < length (segmentSections j ss) → i ≤ j → (i / 32 ≡ j / 32) ⊎ (i % 32 ≡ 0)
       → 0 < length (segmentSections i ss)
   segment-between i j some early near =

@@ -1,6 +1,6 @@
--- The sections in a segment stand in the order of their numbers, from s0 on without a gap: table and section_number, read as one
--- number, are start + 0 to start + 7 in a segment, and from each section to the next this number goes up by one or on to the first
--- of a later segment. By induction over the sections. Assumes nothing.
+-- The sections in a segment stand in the order of their numbers, from s0 on without a gap: table and section_number,
+-- read as one number, are start + 0 to start + 7 in a segment, and from each section to the next this number goes up by
+-- one or on to the first of a later segment. By induction over the sections. Assumes nothing.
 use mathlib.Core.Path.{_≡_, refl, sym, ap, ap₂, subst, _∙_}
 use mathlib.Core.Logic.{_⊎_, inl, inr, ⊎-elim}
 use Prim.Native.Nat.{ℕ, suc, _+_, _-_, _*_, _%_, _≤_, _<_}
@@ -29,7 +29,8 @@ abbrev pub segmentKey : ℕ → ℕ
 segmentKey index = tableOf index * 256 + firstSection index
 
 -- a key among those of a segment's first k gives table and section_number
-key-in : (index k table S : ℕ) → k ≤ 8 → S < 256 → segmentKey index ≤ table * 256 + S → table * 256 + S < segmentKey index + k
+key-in : (index k table S : ℕ) → k ≤ 8 → S < 256 → segmentKey index ≤ table * 256 + S
+    → table * 256 + S < segmentKey index + k
     → (table ≡ tableOf index) × (firstSection index ≤ S) × (S < firstSection index + k)
 key-in index k table S few byte least most =
     let same : table ≡ tableOf index = omega arith in
@@ -85,7 +86,8 @@ module _ (start k key : ℕ) where
 
 -- the first k from a section on, where they are known behind it
 one-taken : (index k : ℕ) → k ≤ 8 → (s : Section) (ss : List Section) → s .header .sectionNumber < 256
-    → firstSections index k ss ≡ take (left (segmentKey index) k (suc (sectionKey (s .header)))) (segmentSections index ss)
+    → firstSections index k ss
+    ≡ take (left (segmentKey index) k (suc (sectionKey (s .header)))) (segmentSections index ss)
     → firstSections index k (s ∷ ss) ≡ take (left (segmentKey index) k (sectionKey (s .header)))
     (segmentSections index (s ∷ ss))
 one-taken index k few s ss byte rest =
@@ -156,11 +158,14 @@ module _ (sizes : Sizes) (identity : Identity) (lastTableId index : ℕ) where
       let h = rules .headerRules in
       omega (arith, h .numbered .segment, h .numbered .table, h .byte)
 
-  later : (s t : Section) → KeepsRules s → Next (s .header) (t .header) → sectionKey (s .header) < sectionKey (t .header)
-  later s t rules next = next-later (s .header) (t .header) (rules .headerRules .numbered) (rules .headerRules .byte) next
+  later : (s t : Section) → KeepsRules s → Next (s .header) (t .header)
+      → sectionKey (s .header) < sectionKey (t .header)
+  later s t rules next =
+      next-later (s .header) (t .header) (rules .headerRules .numbered) (rules .headerRules .byte) next
 
   -- none of the first k from a key behind them on
-  pub behind-none : (k : ℕ) → k ≤ 8 → (s : Section) (ss : List Section) → Every KeepsRules (s ∷ ss) → Succeeding (s .header) (headersOf ss)
+  pub behind-none : (k : ℕ) → k ≤ 8 → (s : Section) (ss : List Section) → Every KeepsRules (s ∷ ss)
+      → Succeeding (s .header) (headersOf ss)
       → segmentKey index + k ≤ sectionKey (s .header)
       → firstSections index k (s ∷ ss) ≡ []
   behind-none k few s [] rules succeeding behind =
@@ -173,8 +178,10 @@ module _ (sizes : Sizes) (identity : Identity) (lastTableId index : ℕ) where
   -- ---- the first k are the first k in the file's order
 
   -- the first k behind a section
-  rest-taken : (k : ℕ) → k ≤ 8 → (s : Section) (ss : List Section) → Every KeepsRules (s ∷ ss) → Succeeding (s .header) (headersOf ss)
-      → firstSections index k ss ≡ take (left (segmentKey index) k (suc (sectionKey (s .header)))) (segmentSections index ss)
+  rest-taken : (k : ℕ) → k ≤ 8 → (s : Section) (ss : List Section) → Every KeepsRules (s ∷ ss)
+      → Succeeding (s .header) (headersOf ss)
+      → firstSections index k ss
+      ≡ take (left (segmentKey index) k (suc (sectionKey (s .header)))) (segmentSections index ss)
   rest-taken k few s [] rules succeeding = sym (take-nil (left (segmentKey index) k (suc (sectionKey (s .header)))))
   rest-taken k few s (t ∷ ss) rules succeeding =
       let start : ℕ = segmentKey index in
@@ -184,7 +191,8 @@ module _ (sizes : Sizes) (identity : Identity) (lastTableId index : ℕ) where
       let taken : firstSections index k (t ∷ ss) ≡ take (left start k q) (segmentSections index (t ∷ ss)) =
       one-taken index k few t ss (byte-number t (rules .1 .0)) (rest-taken k few t ss (rules .1) (succeeding .1)) in
       ⊎-elim
-      (λ (inside, one). taken ∙ ap (λ (n : ℕ). take (left start k n) (segmentSections index (t ∷ ss))) (one ∙ add-one p))
+      (λ (inside, one). taken
+      ∙ ap (λ (n : ℕ). take (left start k n) (segmentSections index (t ∷ ss))) (one ∙ add-one p))
       (λ first. ⊎-elim
       (λ early. taken ∙ ap (λ (n : ℕ). take n (segmentSections index (t ∷ ss))) (left-early start k p q next early))
       (λ past.
@@ -235,7 +243,8 @@ module _ (sizes : Sizes) (identity : Identity) (lastTableId index : ℕ) where
       one-filled t ss (rules .1 .0) (omega arith) (rest-filled t ss (rules .1) (succeeding .1) (omega arith))
 
   -- behind a section without events the next segment begins
-  next-first : (s t : Section) → KeepsRules s → Next (s .header) (t .header) → s .events ≡ [] → sectionKey (t .header) % 8 ≡ 0
+  next-first : (s t : Section) → KeepsRules s → Next (s .header) (t .header) → s .events ≡ []
+      → sectionKey (t .header) % 8 ≡ 0
   next-first s t rules next none =
       let alone = rules .alone none in
       ⊎-elim (λ (inside, one). absurd (omega (arith, alone .number, alone .last))) (λ first. first)
@@ -259,7 +268,8 @@ module _ (sizes : Sizes) (identity : Identity) (lastTableId index : ℕ) where
       (λ early.
       let same : segmentSections index (s ∷ t ∷ ss) ≡ segmentSections index (t ∷ ss) =
       first-outside index 8 (omega arith) s (t ∷ ss) (byte-number s (rules .0)) (λ least most. omega arith) in
-      subst (λ (ts : List Section). (length ts ≤ 1) ⊎ Every Filled ts) (sym same) (all-filled t ss (rules .1) (succeeding .1)))
+      subst (λ (ts : List Section). (length ts ≤ 1) ⊎ Every Filled ts) (sym same)
+      (all-filled t ss (rules .1) (succeeding .1)))
       (le-or-lt (segmentKey index) (sectionKey (s .header)))
 
   ordered-filled : (ss : List Section) → Every KeepsRules ss → Ordered (headersOf ss)

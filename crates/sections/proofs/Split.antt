@@ -1,6 +1,6 @@
--- Bytes are cut into pieces that joined are the bytes, and joined pieces that state their lengths are cut into just these: by
--- induction over the bytes, where those of a piece that has begun are skipped (`split-skip`), so that each step is a whole piece.
--- Assumes nothing.
+-- Bytes are cut into pieces that joined are the bytes, and joined pieces that state their lengths are cut into just
+-- these: by induction over the bytes, where those of a piece that has begun are skipped (`split-skip`), so that each
+-- step is a whole piece. Assumes nothing.
 use mathlib.Core.Path.{_≡_, refl, sym, ap, ap₂, _∙_}
 use mathlib.Core.List.{List, [], _∷_, _++_, flatten}
 use Prim.Native.Nat.{ℕ, zero, suc, pred, _<_}
@@ -45,7 +45,8 @@ joined-from size some skip [] = sym (drop-nil skip)
 joined-from size some (suc skip) (b ∷ bs) = joined-from size some skip bs
 joined-from size some zero (b ∷ bs) =
     let n : ℕ = size (b ∷ bs) in
-    ap (λ (rest : List ℕ). take n (b ∷ bs) ++ rest) (joined-from size some (pred n) bs ∙ drop-first n b bs (some (b ∷ bs)))
+    ap (λ (rest : List ℕ). take n (b ∷ bs) ++ rest)
+    (joined-from size some (pred n) bs ∙ drop-first n b bs (some (b ∷ bs)))
     ∙ take-append-drop n (b ∷ bs)
 
 pub split-joined : (size : List ℕ → ℕ) → ((bs : List ℕ) → 0 < size bs) → (bs : List ℕ) → flatten (splitBy size bs) ≡ bs

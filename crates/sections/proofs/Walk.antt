@@ -1,5 +1,6 @@
--- What it means that Read's walk passes: every test of every section, with the sections before it known, and the file complete at
--- its end. By the six tests of `step`, one after the other, and induction over the sections. Assumes nothing.
+-- What it means that Read's walk passes: every test of every section, with the sections before it known, and the file
+-- complete at its end. By the six tests of `step`, one after the other, and induction over the sections.
+-- Assumes nothing.
 use mathlib.Core.Path.{_≡_, refl}
 use mathlib.Core.Bool.{Bool, true, false}
 use Prim.Native.Nat.{ℕ}
@@ -23,13 +24,15 @@ pub record Passes (sizes : Sizes) (base : ℕ) (p : Progress) (bs : List ℕ) : 
   pub limit : T (isWithinLimit sizes (p .seen) bs)
 
 -- what a passed verdict says of a test that must hold
-require-passed : (b : Bool) (number offset : ℕ) (next : Verdict) (q : Progress) → require b number offset next ≡ passed q
+require-passed : (b : Bool) (number offset : ℕ) (next : Verdict) (q : Progress)
+    → require b number offset next ≡ passed q
     → T b × (next ≡ passed q)
 require-passed true number offset next q e = (tt, e)
 require-passed false number offset next q e = let never : _≡_ {A = ℕ} 0 1 = cc in absurd (omega arith)
 
 module _ (sizes : Sizes) (base : ℕ) where
-  pub step-passes : (p : Progress) (bs : List ℕ) → Passes sizes base p bs → step sizes base p bs ≡ passed (behind base p bs)
+  pub step-passes : (p : Progress) (bs : List ℕ) → Passes sizes base p bs
+      → step sizes base p bs ≡ passed (behind base p bs)
   unfolding step
   step-passes p bs t =
       rw (
@@ -51,15 +54,25 @@ module _ (sizes : Sizes) (base : ℕ) where
       let (header, e22) = require-passed (isHeader (p .before) bs) 22 (p .offset) _ q e21 in
       let (numbering, e23) = require-passed (hasRightNumbering (p .before) (headerIn bs)) 23 (p .offset) _ q e22 in
       let (loop, e24) = require-passed (isEventLoop base (p .seen) bs) 24 (p .offset) _ q e23 in
-      let (limit, e26) = require-passed (isWithinLimit sizes (p .seen) bs) 26 (p .offset) _ q e24 in
-      (record { framed = framed; crc-right = crc-right; header = header; numbering = numbering; loop = loop; limit = limit }, cc)
+      let (limit, e26) = require-passed (isWithinLimit sizes (p .seen) bs) 26 (p .offset) _ q e24 in (
+        record {
+          framed = framed;
+          crc-right = crc-right;
+          header = header;
+          numbering = numbering;
+          loop = loop;
+          limit = limit;
+        },
+        cc,
+      )
 
   -- every section passes, with those before it known
   abbrev pub AllPass : Progress → List (List ℕ) → Type 0
   AllPass p [] = Unit {0}
   AllPass p (bs ∷ rest) = Passes sizes base p bs × AllPass (behind base p bs) rest
 
-  pub walk-passes : (p : Progress) (xs : List (List ℕ)) → AllPass p xs → walk sizes base p xs ≡ passed (behindAll base p xs)
+  pub walk-passes : (p : Progress) (xs : List (List ℕ)) → AllPass p xs
+      → walk sizes base p xs ≡ passed (behindAll base p xs)
   unfolding walk
   walk-passes p [] t = refl
   walk-passes p (bs ∷ rest) t = rw (walk, step-passes p bs (t .0)) (walk-passes (behind base p bs) rest (t .1))

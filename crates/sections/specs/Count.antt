@@ -1,5 +1,5 @@
--- Sections and events of a file in a segment, counted from its bytes (01, "Build, Read": "A file's sections in a segment are ..").
--- Laws: proofs/Count.antt. Assumes nothing.
+-- Sections and events of a file in a segment, counted from its bytes (01, "Build, Read": "A file's sections in a
+-- segment are .."). Laws: proofs/Count.antt. Assumes nothing.
 use Prim.Native.Nat.{ℕ, _+_}
 use mathlib.Core.Bool.{Bool, true, false, _&&_}
 use mathlib.Core.List.{List, [], _∷_}

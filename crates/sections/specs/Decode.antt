@@ -1,5 +1,6 @@
--- The sections that the bytes of a file show, by their length fields alone: fields are read, and nothing is tested (01, "The file of
--- sections"; EN 300 468, 5.2.4). Laws: proofs/EventBytes.antt, proofs/HeaderBytes.antt, proofs/Exact.antt. Assumes nothing.
+-- The sections that the bytes of a file show, by their length fields alone: fields are read, and nothing is tested (01,
+-- "The file of sections"; EN 300 468, 5.2.4). Laws: proofs/EventBytes.antt, proofs/HeaderBytes.antt, proofs/Exact.antt.
+-- Assumes nothing.
 use Prim.Native.Nat.{ℕ, _+_, _-_, _/_, _%_}
 use mathlib.Core.List.{List, map}
 use lib.Dec.{eqb}

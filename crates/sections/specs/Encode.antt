@@ -22,7 +22,8 @@ bitOf b = elim b [ true ↦ 1 | false ↦ 0 ]
 abbrev pub statusWord : Event → ℕ
 statusWord e = runningStatus (e .offAir) * 0x2000 + bitOf (e .freeCa) * 0x1000 + length (e .chain)
 
--- id (2); start as MJD (2) and six BCD digits; duration as six BCD digits; running_status, free_CA and chain length (2); the chain
+-- id (2); start as MJD (2) and six BCD digits; duration as six BCD digits; running_status, free_CA and chain length
+-- (2); the chain
 unfoldable pub eventBytes : ℕ → Event → List ℕ
 eventBytes base e =
     bigEndian 2 (e .id)

@@ -1,5 +1,6 @@
--- What Read asks of a section's events: a test for each of the refusals 24 and 26, on the section's bytes and on the events before it
--- (01, "When a call says no"). Laws: proofs/EventBytes.antt, proofs/EventLoop.antt, proofs/Order.antt. Assumes nothing.
+-- What Read asks of a section's events: a test for each of the refusals 24 and 26, on the section's bytes and on the
+-- events before it (01, "When a call says no"). Laws: proofs/EventBytes.antt, proofs/EventLoop.antt, proofs/Order.antt.
+-- Assumes nothing.
 use Prim.Native.Nat.{ℕ, _+_, _/_}
 use mathlib.Core.Bool.{Bool, true, not, _&&_, _||_}
 use mathlib.Core.List.{List, [], _∷_, map}
@@ -18,9 +19,11 @@ use Rattle.sections.specs.Decode.{statusField, statedEventSize, eventIn,
 -- an event starts in its section's segment
 abbrev pub isInSegment : Header → ℕ → Bool
 isInSegment h start =
-    eqb (tableOf (segmentIndex start)) (h .tableId) && eqb (firstSection (segmentIndex start)) (firstOf (h .sectionNumber))
+    eqb (tableOf (segmentIndex start)) (h .tableId)
+    && eqb (firstSection (segmentIndex start)) (firstOf (h .sectionNumber))
 
--- an event's bytes are all there; start, duration and running_status are in range; its chain is one; it starts in the segment
+-- an event's bytes are all there; start, duration and running_status are in range; its chain is one; it starts in the
+-- segment
 unfoldable pub isEvent : ℕ → Header → List ℕ → Bool
 isEvent base h bs =
     let status = statusField bs / 0x2000 in
@@ -39,7 +42,8 @@ areEvents base h (bs ∷ rest) = isEvent base h bs && areEvents base h rest
 abbrev pub isFilledOrAlone : Header → List (List ℕ) → Bool
 isFilledOrAlone h (bs ∷ rest) = true
 isFilledOrAlone h [] =
-    eqb (h .sectionNumber) (firstOf (h .sectionNumber)) && eqb (h .segmentLastSectionNumber) (firstOf (h .sectionNumber))
+    eqb (h .sectionNumber) (firstOf (h .sectionNumber))
+    && eqb (h .segmentLastSectionNumber) (firstOf (h .sectionNumber))
 
 -- an event follows the last one before it, and has an id that none before it has; `seen` has the latest first
 abbrev pub isNew : List Event → Event → Bool

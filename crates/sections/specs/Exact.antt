@@ -1,6 +1,6 @@
--- What "Read is exact" speaks of (demand 2: "Read accepts exactly the files that follow their rules, packing aside, and returns the
--- identity and events that the file's bytes carry"). The theorems are `read-exact` of proofs/Exact.antt and `accepted-exactly` of
--- proofs/Accepted.antt. Assumes nothing.
+-- What "Read is exact" speaks of (demand 2: "Read accepts exactly the files that follow their rules, packing aside, and
+-- returns the identity and events that the file's bytes carry"). The theorems are `read-exact` of proofs/Exact.antt and
+-- `accepted-exactly` of proofs/Accepted.antt. Assumes nothing.
 use mathlib.Core.Path.{_≡_}
 use Prim.Native.Nat.{ℕ}
 use mathlib.Core.List.{List}
@@ -24,12 +24,15 @@ acceptedNumbers = 12_288
 abbrev pub RecordBuffer : List ℕ → Type 0
 RecordBuffer buffer = length buffer ≡ acceptedNumbers
 
--- 01's term: accepted. "A file is accepted under a legal base day if Read, with 12,288 numbers for records, succeeds on it"
+-- 01's term: accepted. "A file is accepted under a legal base day if Read, with 12,288 numbers for records, succeeds on
+-- it"
 abbrev pub Accepted : Sizes → ℕ → List ℕ → Type 0
 Accepted sizes base file = (buffer : List ℕ) → RecordBuffer buffer → read sizes base file buffer .answer .number ≡ 0
 
--- the file is the joined bytes of some sections that keep the rules, and the records are their events at their offsets in it
-pub record FollowsRules (sizes : Sizes) (base : ℕ) (file : List ℕ) (identity : Identity) (rs : List Record) : Type 0 where
+-- the file is the joined bytes of some sections that keep the rules, and the records are their events at their offsets
+-- in it
+pub record FollowsRules (sizes : Sizes) (base : ℕ) (file : List ℕ) (identity : Identity) (rs : List Record) : Type
+    0 where
   pub sections : List Section
   pub rules : Rules sizes identity sections
   pub bytes : fileBytes base sections ≡ file

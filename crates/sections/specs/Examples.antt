@@ -12,7 +12,8 @@ use Rattle.sections.specs.Segment.{tableFirst, tableMax, segmentIndex, t
 use Rattle.sections.specs.Encode.{eventBytes, fileBytes}
 use Rattle.sections.specs.Count.{sectionsCounted, eventsCounted}
 use Rattle.sections.specs.Read.{checkFile, read}
-use Rattle.sections.specs.Files.{section, withBits, eventAt, withEvent, startAtOne, oneHour, noDescriptors, planSampleFile, rival, full}
+use Rattle.sections.specs.Files.{section, withBits, eventAt, withEvent, startAtOne, oneHour, noDescriptors}
+use Rattle.sections.specs.Files.{planSampleFile, rival, full}
 use Rattle.sections.specs.Files.{checkAnswer, acceptedWith, refusedWith}
 
 -- the table of a start, and the first section of its segment
@@ -20,13 +21,21 @@ abbrev pub tableAndSection : ℕ → ℕ × ℕ
 tableAndSection start = (tableOf (segmentIndex start), firstSection (segmentIndex start))
 
 abbrev pub identity : Identity
-identity = record { triplet = record { «service_id» = 1; «transport_stream_id» = 2; «original_network_id» = 3 }; version = 0 }
+identity =
+    record { triplet = record { «service_id» = 1; «transport_stream_id» = 2; «original_network_id» = 3 }; version = 0 }
 
 -- an event with one descriptor, off air or not, and with free_CA_mode or not; and its bytes, but for the one that
 -- says so
 abbrev pub marked : Bool → Bool → Event
 marked offAir freeCa =
-    record { id = 0x1234; start = 9_900; duration = 6_330; offAir = offAir; freeCa = freeCa; chain = 0x4D ∷ 0x01 ∷ 0x09 ∷ [] }
+    record {
+      id = 0x1234;
+      start = 9_900;
+      duration = 6_330;
+      offAir = offAir;
+      freeCa = freeCa;
+      chain = 0x4D ∷ 0x01 ∷ 0x09 ∷ [];
+    }
 
 abbrev pub markedBytes : ℕ → List ℕ
 markedBytes status =
@@ -34,17 +43,21 @@ markedBytes status =
 
 -- what Read leaves of six zeros for a file of that event
 abbrev pub markedRead : ℕ → List ℕ
-markedRead status = read broadcast 49_273 (section 0x50 0 0 0 0x50 (markedBytes status)) (0 ∷ 0 ∷ 0 ∷ 0 ∷ 0 ∷ 0 ∷ []) .buffer
+markedRead status =
+    read broadcast 49_273 (section 0x50 0 0 0 0x50 (markedBytes status)) (0 ∷ 0 ∷ 0 ∷ 0 ∷ 0 ∷ 0 ∷ []) .buffer
 
 pub record Examples : Type 0 where
   -- table and first section of the segment that a start lies in
-  pub first-sections : (tableAndSection 0 ≡ (0x50, 0)) × (tableAndSection 10_799 ≡ (0x50, 0)) × (tableAndSection 10_800 ≡ (0x50, 8))
-      × (tableAndSection 345_599 ≡ (0x50, 248)) × (tableAndSection 345_600 ≡ (0x51, 0)) × (tableAndSection 5_529_599 ≡ (0x5F, 248))
+  pub first-sections : (tableAndSection 0 ≡ (0x50, 0)) × (tableAndSection 10_799 ≡ (0x50, 0))
+      × (tableAndSection 10_800 ≡ (0x50, 8))
+      × (tableAndSection 345_599 ≡ (0x50, 248)) × (tableAndSection 345_600 ≡ (0x51, 0))
+      × (tableAndSection 5_529_599 ≡ (0x5F, 248))
   pub tables : (tableFirst ≡ 0x50) × (tableMax ≡ 0x5F)
   pub firsts : (firstOf 7 ≡ 0) × (firstOf 8 ≡ 8) × (firstOf 255 ≡ 248)
   -- running_status 5 for off air, free_CA, and both
   pub event-bytes : (eventBytes 49_273 (marked true false) ≡ markedBytes 0xA0)
-      × (eventBytes 49_273 (marked false true) ≡ markedBytes 0x10) × (eventBytes 49_273 (marked true true) ≡ markedBytes 0xB0)
+      × (eventBytes 49_273 (marked false true) ≡ markedBytes 0x10)
+      × (eventBytes 49_273 (marked true true) ≡ markedBytes 0xB0)
   -- version 5 in table 0x51 of 0x52, section 9 of segment 1, whose last is 10, and of a table whose last is 16
   pub section-bytes :
       fileBytes 49_273
@@ -56,7 +69,11 @@ pub record Examples : Type 0 where
               lastSectionNumber = 16;
               segmentLastSectionNumber = 10;
               lastTableId = 0x52;
-              triplet = record { «service_id» = 0x1122; «transport_stream_id» = 0x3344; «original_network_id» = 0x5566 };
+              triplet = record {
+                «service_id» = 0x1122;
+                «transport_stream_id» = 0x3344;
+                «original_network_id» = 0x5566;
+              };
               version = 5;
             };
         events = [];
@@ -74,7 +91,11 @@ pub record Examples : Type 0 where
       ≡ record {
         number = 0;
         value = 8;
-        identity = record { triplet = record { «service_id» = 1; «transport_stream_id» = 2; «original_network_id» = 3 }; version = 31 };
+        identity =
+            record {
+              triplet = record { «service_id» = 1; «transport_stream_id» = 2; «original_network_id» = 3 };
+              version = 31;
+            };
         count = 8;
       }
   -- marks 4 for off air, 1 for free_CA_mode, and both
@@ -87,7 +108,8 @@ pub record Examples : Type 0 where
         answer = acceptedWith 3;
         buffer = 1 ∷ 0 ∷ 1 ∷ 0 ∷ 26 ∷ 0 ∷ 2 ∷ 3_600 ∷ 1 ∷ 0 ∷ 56 ∷ 0 ∷ 3 ∷ 10_740 ∷ 1 ∷ 0 ∷ 68 ∷ 0 ∷ [];
       }
-  pub counted : (sectionsCounted 49_273 rival 0 ≡ 2) × (sectionsCounted 49_273 rival 1 ≡ 1) × (sectionsCounted 49_273 rival 2 ≡ 0)
+  pub counted : (sectionsCounted 49_273 rival 0 ≡ 2) × (sectionsCounted 49_273 rival 1 ≡ 1)
+      × (sectionsCounted 49_273 rival 2 ≡ 0)
   pub held : (eventsCounted 49_273 rival 0 1 ≡ 1) × (eventsCounted 49_273 rival 0 8 ≡ 3)
   -- Read's refusals: current_next 0; a segment left out; an event of another segment; the id of an event in an
   -- earlier section; a broken event loop that also passes the limit of events
@@ -95,7 +117,8 @@ pub record Examples : Type 0 where
   pub skipped-segment : checkAnswer (section 0x50 0 16 0 0x50 [] ++ section 0x50 16 16 16 0x50 []) ≡ refusedWith 23 18
   pub other-segment : checkAnswer (section 0x50 0 0 0 0x50 (eventAt 1 0x03 0x00)) ≡ refusedWith 24 0
   pub same-id-apart :
-      checkAnswer (section 0x50 0 8 0 0x50 (eventAt 1 0x00 0x00) ++ section 0x50 8 8 8 0x50 (eventAt 1 0x03 0x00)) ≡ refusedWith 24 30
+      checkAnswer (section 0x50 0 8 0 0x50 (eventAt 1 0x00 0x00) ++ section 0x50 8 8 8 0x50 (eventAt 1 0x03 0x00))
+      ≡ refusedWith 24 30
   pub broken-behind-limit :
       checkFile (record { «section_limit» = 4_096; «event_limit» = 1 }) 49_273
       (section 0x50 0 8 0 0x50 (eventAt 1 0x00 0x00 ++ eventAt 2 0x00 0x30 ++ eventAt 1 0x00 0x59))

@@ -1,5 +1,6 @@
--- Short files in raw bytes, for specs/Examples.antt and for the tables of crate samples_refusals. Where nothing else is said, service,
--- stream and network are 1, 2 and 3, the version is 0, and the base day is 49,273 (0xC079). Assumes nothing.
+-- Short files in raw bytes, for specs/Examples.antt and for the tables of crate samples_refusals. Where nothing else is
+-- said, service, stream and network are 1, 2 and 3, the version is 0, and the base day is 49,273 (0xC079).
+-- Assumes nothing.
 use Prim.Native.Nat.{ℕ, zero, suc, _+_}
 use mathlib.Core.List.{List, [], _∷_, _++_}
 use lib.ListN.{length}
@@ -12,7 +13,8 @@ use Rattle.sections.specs.Read.{Answer, checkFile}
 abbrev pub withCrc : List ℕ → List ℕ
 withCrc bs = bs ++ bigEndian 4 (crc32 bs)
 
--- a section with its version byte: table_id, section_number, last_section_number, segment_last_section_number, last_table_id, events
+-- a section with its version byte: table_id, section_number, last_section_number, segment_last_section_number,
+-- last_table_id, events
 abbrev pub sectionWithVersion : ℕ → ℕ → ℕ → ℕ → ℕ → ℕ → List ℕ → List ℕ
 sectionWithVersion version table number last segmentLast lastTable events =
     withCrc
@@ -21,7 +23,8 @@ sectionWithVersion version table number last segmentLast lastTable events =
     ++ events)
 
 abbrev pub section : ℕ → ℕ → ℕ → ℕ → ℕ → List ℕ → List ℕ
-section table number last segmentLast lastTable events = sectionWithVersion 0xC1 table number last segmentLast lastTable events
+section table number last segmentLast lastTable events =
+    sectionWithVersion 0xC1 table number last segmentLast lastTable events
 
 -- no events, with the bytes 1 and 5 given: the first of section_length's field, and the version's
 abbrev pub withBits : ℕ → ℕ → List ℕ
@@ -39,7 +42,8 @@ withIdentity service version stream network =
 abbrev pub eventAt : ℕ → ℕ → ℕ → List ℕ
 eventAt id hour minute = 0x00 ∷ id ∷ 0xC0 ∷ 0x79 ∷ hour ∷ minute ∷ 0x00 ∷ 0x00 ∷ 0x00 ∷ 0x01 ∷ 0x00 ∷ 0x00 ∷ []
 
--- one event, with all behind its id given: MJD and hhmmss, duration, then running_status, free_CA, chain length and chain
+-- one event, with all behind its id given: MJD and hhmmss, duration, then running_status, free_CA, chain length and
+-- chain
 abbrev pub withEvent : List ℕ → List ℕ → List ℕ → List ℕ
 withEvent start duration rest = section 0x50 0 0 0 0x50 (0x00 ∷ 0x01 ∷ [] ++ start ++ duration ++ rest)
 
@@ -53,7 +57,8 @@ oneHour = 0x01 ∷ 0x00 ∷ 0x00 ∷ []
 abbrev pub noDescriptors : List ℕ
 noDescriptors = 0x00 ∷ 0x00 ∷ []
 
--- the file of document 01's sample of `plan`: an event of 01:45:30 at 12:45, and four empty segments before it; 102 bytes
+-- the file of document 01's sample of `plan`: an event of 01:45:30 at 12:45, and four empty segments before it; 102
+-- bytes
 abbrev pub planSampleFile : List ℕ
 planSampleFile =
     section 0x50 0 32 0 0x50 []
@@ -99,7 +104,11 @@ acceptedWith events =
     record {
       number = 0;
       value = events;
-      identity = record { triplet = record { «service_id» = 1; «transport_stream_id» = 2; «original_network_id» = 3 }; version = 0 };
+      identity =
+          record {
+            triplet = record { «service_id» = 1; «transport_stream_id» = 2; «original_network_id» = 3 };
+            version = 0;
+          };
       count = events;
     }
 
@@ -109,6 +118,10 @@ refusedWith number value =
     record {
       number = number;
       value = value;
-      identity = record { triplet = record { «service_id» = 0; «transport_stream_id» = 0; «original_network_id» = 0 }; version = 0 };
+      identity =
+          record {
+            triplet = record { «service_id» = 0; «transport_stream_id» = 0; «original_network_id» = 0 };
+            version = 0;
+          };
       count = 0;
     }

@@ -1,5 +1,6 @@
--- What Read asks of a section before its events: a test for each of the refusals 20 to 23, on the section's bytes and on the header
--- before it (01, "When a call says no"). Laws: proofs/HeaderBytes.antt, proofs/SameFile.antt, proofs/Numbering.antt. Assumes nothing.
+-- What Read asks of a section before its events: a test for each of the refusals 20 to 23, on the section's bytes and
+-- on the header before it (01, "When a call says no"). Laws: proofs/HeaderBytes.antt, proofs/SameFile.antt,
+-- proofs/Numbering.antt. Assumes nothing.
 use Prim.Native.Nat.{ℕ, _+_, _/_, _%_}
 use mathlib.Core.Bool.{Bool, true, false, _&&_, _||_}
 use mathlib.Core.List.{List}

@@ -1,5 +1,5 @@
--- The records of sections that stand in a file: where each chain lies (01, "Build, Read": "marks never have 2, offsets are into the
--- file"). Laws: proofs/Offsets.antt. Assumes nothing.
+-- The records of sections that stand in a file: where each chain lies (01, "Build, Read": "marks never have 2, offsets
+-- are into the file"). Laws: proofs/Offsets.antt. Assumes nothing.
 use Prim.Native.Nat.{ℕ, _+_, _*_}
 use mathlib.Core.List.{List, [], _∷_, _++_}
 use lib.ListN.{length}
@@ -9,7 +9,8 @@ use Rattle.eit.specs.declared.Record.{Record}
 use Rattle.sections.specs.Section.{Section, eventOverhead, eventSize, headerSize, sectionSize}
 use Rattle.sections.specs.Encode.{bitOf}
 
--- the record of an event whose bytes begin at `at`; its chain, also one of no bytes, lies right behind the 12 bytes before it
+-- the record of an event whose bytes begin at `at`; its chain, also one of no bytes, lies right behind the 12 bytes
+-- before it
 abbrev pub recordAt : ℕ → Event → Record
 recordAt at e =
     record {

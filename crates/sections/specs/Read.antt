@@ -1,5 +1,5 @@
--- Read as one total function of file, base day and record buffer, and check, which has no record buffer (01, "Build, Read", "When
--- a call says no"). Laws: proofs/Read.antt, proofs/Exact.antt. Assumes nothing.
+-- Read as one total function of file, base day and record buffer, and check, which has no record buffer (01, "Build,
+-- Read", "When a call says no"). Laws: proofs/Read.antt, proofs/Exact.antt. Assumes nothing.
 use Prim.Native.Nat.{ℕ, _*_}
 use mathlib.Core.Bool.{Bool, true, false, _&&_}
 use mathlib.Core.List.{List}
@@ -28,7 +28,8 @@ abbrev pub identityOf : Option Header → Identity
 identityOf none = zeroIdentity
 identityOf (some h) = headerIdentity h
 
--- what is returned: number and value of the answer, the identity and the number of events. A refusal has identity 0 and count 0
+-- what is returned: number and value of the answer, the identity and the number of events. A refusal has identity 0 and
+-- count 0
 pub record Answer : Type 0 where
   pub number : ℕ
   pub value : ℕ
@@ -47,13 +48,21 @@ success identity count = record { number = 0; value = count; identity = identity
 abbrev pub atEnd : ℕ → Verdict → Answer
 atEnd size (refused number offset) = refusal number offset
 atEnd size (passed p) =
-    elim (isComplete (p .before)) [ true ↦ success (identityOf (p .before)) (length (p .seen)) | false ↦ refusal 25 size ]
+    elim (isComplete (p .before)) [
+      | true ↦ success (identityOf (p .before)) (length (p .seen))
+      | false ↦ refusal 25
+          size
+    ]
 
 -- Read without a record buffer: 1; per section; at the end 25. It never says 27
 unfoldable pub checkFile : Sizes → ℕ → List ℕ → Answer
 unfolding walk splitFile
 checkFile sizes base file =
-    elim (leb base baseDayMax) [ true ↦ atEnd (length file) (walk sizes base atStart (splitFile file)) | false ↦ refusal 1 0 ]
+    elim (leb base baseDayMax) [
+      | true ↦ atEnd (length file) (walk sizes base atStart (splitFile file))
+      | false ↦ refusal
+          1 0
+    ]
 
 -- what Read returns, and the record buffer after it
 pub record Reading : Type 0 where

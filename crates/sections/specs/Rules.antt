@@ -1,6 +1,7 @@
--- The rules of a file of sections, as document 01 says them ("The file of sections"): what must hold of the sections, whoever made
--- them. Soundness's words for a chain, for starts that rise and for ids that differ serve here too; all else is said in the paper's
--- own terms. Read (specs/Read.antt) has its own tests, and accepts just these files (proofs/Exact.antt). Assumes nothing.
+-- The rules of a file of sections, as document 01 says them ("The file of sections"): what must hold of the sections,
+-- whoever made them. Soundness's words for a chain, for starts that rise and for ids that differ serve here too; all
+-- else is said in the paper's own terms. Read (specs/Read.antt) has its own tests, and accepts just these files
+-- (proofs/Exact.antt). Assumes nothing.
 use mathlib.Core.Path.{_≡_}
 use mathlib.Core.Logic.{_⊎_}
 use Prim.Native.Nat.{ℕ, _+_, _^_, _≤_, _<_}
@@ -19,7 +20,8 @@ use Rattle.sections.specs.Every.{Every}
 use Rattle.sections.specs.Segment.{tableFirst, tableMax, segmentIndex, tableOf, firstSection, firstOf}
 use Rattle.sections.specs.Section.{Header, versionOf, Section, sectionSize, headersOf, sectionEvents, eventIds}
 
--- ---- numbering. Let a section have section_number S, segment_last_section_number G, last_section_number L, and s0 = S − S mod 8
+-- ---- numbering. Let a section have section_number S, segment_last_section_number G, last_section_number L, and s0 = S
+-- − S mod 8
 
 -- s0 ≤ S ≤ G ≤ L, G ≤ s0 + 7, and G = L or L ≥ s0 + 8
 pub record Numbered (h : Header) : Type 0 where
@@ -27,7 +29,8 @@ pub record Numbered (h : Header) : Type 0 where
   pub segment : h .sectionNumber ≤ h .segmentLastSectionNumber
   pub table : h .segmentLastSectionNumber ≤ h .lastSectionNumber
   pub eight : h .segmentLastSectionNumber ≤ firstOf (h .sectionNumber) + 7
-  pub whole : (h .segmentLastSectionNumber ≡ h .lastSectionNumber) ⊎ (firstOf (h .sectionNumber) + 8 ≤ h .lastSectionNumber)
+  pub whole : (h .segmentLastSectionNumber ≡ h .lastSectionNumber)
+      ⊎ (firstOf (h .sectionNumber) + 8 ≤ h .lastSectionNumber)
 
 -- the first is table 0x50, section 0
 pub record First (h : Header) : Type 0 where
@@ -43,7 +46,8 @@ pub record Within (g h : Header) : Type 0 where
 pub record Next (g h : Header) : Type 0 where
   -- if S < G the next section is S + 1 with equal G and L
   pub segment : g .sectionNumber < g .segmentLastSectionNumber
-      → Within g h × (h .sectionNumber ≡ g .sectionNumber + 1) × (h .segmentLastSectionNumber ≡ g .segmentLastSectionNumber)
+      → Within g h × (h .sectionNumber ≡ g .sectionNumber + 1)
+      × (h .segmentLastSectionNumber ≡ g .segmentLastSectionNumber)
   -- if S = G < L it is s0 + 8 with equal L
   pub table : g .sectionNumber ≡ g .segmentLastSectionNumber → g .segmentLastSectionNumber < g .lastSectionNumber
       → Within g h × (h .sectionNumber ≡ firstOf (g .sectionNumber) + 8)
@@ -77,7 +81,8 @@ pub record IdentityRules (identity : Identity) : Type 0 where
   pub tripletRules : TripletRules (identity .triplet)
   pub version : identity .version ≤ versionMax
 
--- identity and last_table_id are the same in every section; no table is past last_table_id; the numbers have a byte each
+-- identity and last_table_id are the same in every section; no table is past last_table_id; the numbers have a byte
+-- each
 pub record HeaderRules (identity : Identity) (lastTableId : ℕ) (h : Header) : Type 0 where
   pub sameTriplet : h .triplet ≡ identity .triplet
   pub sameVersion : h .version ≡ versionOf identity (h .tableId)

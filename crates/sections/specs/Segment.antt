@@ -1,5 +1,5 @@
--- Segments: three hours each, counted from midnight UTC of the base day (01, "The file of sections"). Laws: proofs/Count.antt.
--- Assumes nothing.
+-- Segments: three hours each, counted from midnight UTC of the base day (01, "The file of sections"). Laws:
+-- proofs/Count.antt. Assumes nothing.
 use Prim.Native.Nat.{ℕ, _+_, _-_, _*_, _/_, _%_}
 
 -- table_id, 0x50 to 0x5F

@@ -1,5 +1,5 @@
--- 01's term: walk. Read goes over the sections of a file, one after the other (01, "When a call says no": per section 20, 21, 22, 23,
--- 24, 26). Laws: proofs/Walk.antt, proofs/Answers.antt. Assumes nothing.
+-- 01's term: walk. Read goes over the sections of a file, one after the other (01, "When a call says no": per section
+-- 20, 21, 22, 23, 24, 26). Laws: proofs/Walk.antt, proofs/Answers.antt. Assumes nothing.
 use Prim.Native.Nat.{ℕ, _+_}
 use mathlib.Core.Bool.{Bool, true, false}
 use mathlib.Core.List.{List, [], _∷_, _++_, map, reverse}
@@ -61,4 +61,8 @@ unfoldable pub walk : Sizes → ℕ → Progress → List (List ℕ) → Verdict
 unfolding step
 walk sizes base p [] = passed p
 walk sizes base p (bs ∷ rest) =
-    elim (step sizes base p bs) [ passed next ↦ walk sizes base next rest | refused number offset ↦ refused number offset ]
+    elim (step sizes base p bs) [
+      | passed next ↦ walk sizes base next rest
+      | refused number offset ↦ refused number
+          offset
+    ]

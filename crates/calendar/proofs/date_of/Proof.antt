@@ -22,7 +22,8 @@ date-within-requires c κs = search needs
 
 returns-2 : tie.Need-returns-2
 returns-2 c =
-    ap On (c .date-within .ensures) ∙ sym (date-inside (c .before .before .before .args .mjd) (search needs) (search needs))
+    ap On (c .date-within .ensures)
+    ∙ sym (date-inside (c .before .before .before .args .mjd) (search needs) (search needs))
 
 pub date-of-spec : {M : Type 1} → statement M
 date-of-spec = tie.close (tie.spec returns date-within-requires returns-2)

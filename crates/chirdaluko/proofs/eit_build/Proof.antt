@@ -1,4 +1,5 @@
--- `eit_build` meets its contract: Build's answer, and its number and value as `number_of` and `value_of` give them. Assumes nothing.
+-- `eit_build` meets its contract: Build's answer, and its number and value as `number_of` and `value_of` give them.
+-- Assumes nothing.
 use mathlib.Core.Path.{sym, _∙_}
 use borrow.Author.Needs.{needs}
 use Rattle.chirdaluko.proofs.eit_build.Statement.{statement}

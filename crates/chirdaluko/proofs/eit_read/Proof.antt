@@ -17,7 +17,8 @@ same-length c = search needs
 returns : tie.Need-returns
 returns c =
     let done = c .before .before .before .read in
-    done .ensures ∙ ap (λ (a : Answer). record { answer = a; buffer = done .last .1 .1 .0 }) (sym (c .reading-of .ensures))
+    done .ensures
+    ∙ ap (λ (a : Answer). record { answer = a; buffer = done .last .1 .1 .0 }) (sym (c .reading-of .ensures))
 
 pub eit-read-spec : {M : Type 1} → statement M
 eit-read-spec = tie.close (tie.spec read-requires reading-of-requires same-length returns)

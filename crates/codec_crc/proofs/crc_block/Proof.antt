@@ -1,6 +1,6 @@
--- `codec_crc::crc_block` meets its contract, for any tables. The loop's invariant: what the bytes so far have chosen, with what the
--- rest of the block comes to from the rest of the register, is what the whole block comes to; a turn is `block-step`. The measure is
--- the bytes left. Assumes nothing.
+-- `codec_crc::crc_block` meets its contract, for any tables. The loop's invariant: what the bytes so far have chosen,
+-- with what the rest of the block comes to from the rest of the register, is what the whole block comes to; a turn is
+-- `block-step`. The measure is the bytes left. Assumes nothing.
 use mathlib.Core.Path.{_≡_, refl, sym, _∙_}
 use Prim.Native.Nat.{_-_, _≤_}
 use native.Mathlib.Omega.{arith}
@@ -50,7 +50,8 @@ returns : tie.Need-returns Inv-loop μ-loop
 returns c =
     let loop = c .before .loop in
     let args = c .before .before .before .args in
-    sym (loop .inv .1 ∙ block-end (args .tables .now) (loop .chosen) (loop .rest) (args .block .now) (loop .i) (omega arith))
+    sym (loop .inv .1
+    ∙ block-end (args .tables .now) (loop .chosen) (loop .rest) (args .block .now) (loop .i) (omega arith))
 
 pub crc-block-spec : {M : Type 1} → statement M
 crc-block-spec =

@@ -1,5 +1,5 @@
--- `codec_crc::crc_by` meets its contract, for any tables. The loop's invariant: the register after all the bytes is that after those
--- from `at` on, begun with `r`; a turn is `by-step`. The measure is the bytes left. Assumes nothing.
+-- `codec_crc::crc_by` meets its contract, for any tables. The loop's invariant: the register after all the bytes is
+-- that after those from `at` on, begun with `r`; a turn is `by-step`. The measure is the bytes left. Assumes nothing.
 use mathlib.Core.Path.{_≡_, refl, sym, ap, _∙_}
 use Prim.Native.Nat.{ℕ, _+_, _-_, _≤_}
 use native.Mathlib.Omega.{arith}
@@ -11,7 +11,8 @@ use Rattle.codec_crc.proofs.crc_by.Statement.{statement}
 use Rattle.codec_crc.proofs.crc_by.Tie as tie
 
 abbrev Inv-loop : tie.InvT-loop
-Inv-loop tables register bytes r₀ at₀ r at = (at ≤ length bytes) × (crcBy tables register bytes ≡ crcBy tables r (drop at bytes))
+Inv-loop tables register bytes r₀ at₀ r at =
+    (at ≤ length bytes) × (crcBy tables register bytes ≡ crcBy tables r (drop at bytes))
 
 abbrev μ-loop : tie.MeasureT-loop
 μ-loop tables register bytes r₀ at₀ r at = length bytes - at

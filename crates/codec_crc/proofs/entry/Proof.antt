@@ -1,5 +1,5 @@
--- `codec_crc::entry` meets its contract, for any tables: two bytes choose one of the 256 entries of a table (`entry-lt`).
--- Assumes nothing.
+-- `codec_crc::entry` meets its contract, for any tables: two bytes choose one of the 256 entries of a table
+-- (`entry-lt`). Assumes nothing.
 use native.Mathlib.Omega.{arith}
 use borrow.Author.Needs.{needs}
 use Rattle.codec_crc.proofs.BlockLaws.{entry-lt}

@@ -1,4 +1,5 @@
--- `codec_time::is_time` meets its contract: a test that fails decides, and the others leave it to the next. Assumes nothing.
+-- `codec_time::is_time` meets its contract: a test that fails decides, and the others leave it to the next.
+-- Assumes nothing.
 use mathlib.Core.Path.{sym, _∙_}
 use borrow.Author.Needs.{needs}
 use Rattle.codec_time.proofs.is_time.Statement.{statement}

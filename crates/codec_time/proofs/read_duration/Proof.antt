@@ -1,4 +1,5 @@
--- `codec_time::read_duration` meets its contract: the time that was read decides, or leaves it to its range. Assumes nothing.
+-- `codec_time::read_duration` meets its contract: the time that was read decides, or leaves it to its range.
+-- Assumes nothing.
 use mathlib.Core.Bool.{Bool}
 use mathlib.Core.Path.{sym, ap, _∙_}
 use denote.Ref.{now}
@@ -20,7 +21,8 @@ enum-told c = search needs
 returns : tie.Need-returns
 returns c =
     let a = c .before .before .before .before .args in
-    sym (duration-no-time (a .at) (now (a .bytes)) (sym (c .before .before .read-time .ensures) ∙ c .enum-told .given .1))
+    sym (duration-no-time (a .at) (now (a .bytes))
+    (sym (c .before .before .read-time .ensures) ∙ c .enum-told .given .1))
 
 is-duration-requires : tie.Need-is-duration-requires
 is-duration-requires c κs = search needs

@@ -1,5 +1,5 @@
--- `codec_time::read_start` meets its contract: a time of day, and then the day before it, decide or leave it to the range.
--- Assumes nothing.
+-- `codec_time::read_start` meets its contract: a time of day, and then the day before it, decide or leave it to the
+-- range. Assumes nothing.
 use Prim.Native.Nat.{_+_, _≤_}
 use mathlib.Core.Path.{_≡_, sym, _∙_}
 use native.Mathlib.Omega.{arith}
@@ -24,7 +24,8 @@ returns c =
     sym (start-truncated (a .base-day) (a .at) (now (a .bytes)) outside)
 
 -- the five bytes are there
-inside : (c : tie.Else1) → c .before .before .before .args .at + 5 ≤ length (now (c .before .before .before .args .bytes))
+inside : (c : tie.Else1)
+    → c .before .before .before .args .at + 5 ≤ length (now (c .before .before .before .args .bytes))
 inside c =
     let a = c .before .before .before .args in
     is-inside (a .at) 5 (length (now (a .bytes))) (c .before .is-within .ensures) (c .if1 .left)
@@ -99,7 +100,8 @@ returns-4 c =
     let entered = timed .before .before .before in
     let a = entered .before .before .before .args in
     let time = sym (timed .before .before .read-time .ensures) ∙ timed .time .given .1 in
-    sym (start-shown (a .base-day) (a .at) (now (a .bytes)) (inside entered) (day-is read) time (c .before .if2 .left) (c .if3 .taken))
+    sym (start-shown (a .base-day) (a .at) (now (a .bytes)) (inside entered) (day-is read) time (c .before .if2 .left)
+    (c .if3 .taken))
 
 returns-5 : tie.Need-returns-5
 returns-5 c =
@@ -108,7 +110,8 @@ returns-5 c =
     let entered = timed .before .before .before in
     let a = entered .before .before .before .args in
     let time = sym (timed .before .before .read-time .ensures) ∙ timed .time .given .1 in
-    sym (start-late (a .base-day) (a .at) (now (a .bytes)) (inside entered) (day-is read) time (c .before .if2 .left) (c .if3 .left))
+    sym (start-late (a .base-day) (a .at) (now (a .bytes)) (inside entered) (day-is read) time (c .before .if2 .left)
+    (c .if3 .left))
 
 pub read-start-spec : {M : Type 1} → statement M
 read-start-spec =

@@ -20,7 +20,8 @@ returns c =
     sym (time-truncated (a .most) (a .at) (now (a .bytes)) outside)
 
 -- the three bytes are there
-inside : (c : tie.Else1) → c .before .before .before .args .at + 3 ≤ length (now (c .before .before .before .args .bytes))
+inside : (c : tie.Else1)
+    → c .before .before .before .args .at + 3 ≤ length (now (c .before .before .before .args .bytes))
 inside c =
     let a = c .before .before .before .args in
     is-inside (a .at) 3 (length (now (a .bytes))) (c .before .is-within .ensures) (c .if1 .left)
@@ -52,7 +53,8 @@ returns-2 c =
     let entered = tested .before .before .before .before in
     let a = entered .before .before .before .args in
     let shown = c .seconds-of .ensures in
-    sym (time-if (a .most) (a .at) (now (a .bytes)) (inside entered) (tested .is-time .ensures) shown (c .before .if2 .taken))
+    sym (time-if (a .most) (a .at) (now (a .bytes)) (inside entered) (tested .is-time .ensures) shown
+    (c .before .if2 .taken))
 
 returns-3 : tie.Need-returns-3
 returns-3 c =

@@ -35,7 +35,8 @@ from-seconds-requires c κs = search needs
 small : (c : tie.After-from-seconds)
     → let time = c .from-seconds .result in
     (time .hours < 100) × (time .minutes < 100) × (time .seconds < 100)
-small c = time-small (c .before .before .before .before .args .seconds) (c .from-seconds .result) (c .from-seconds .ensures)
+small c = time-small (c .before .before .before .before .args .seconds) (c .from-seconds .result)
+    (c .from-seconds .ensures)
 
 to-bcd-requires : tie.Need-to-bcd-requires
 to-bcd-requires c κs = small c .0

@@ -1,4 +1,5 @@
--- `edit_within` meets its contract: each return by its own law of EditLaws, from the answers of the passes. Assumes nothing.
+-- `edit_within` meets its contract: each return by its own law of EditLaws, from the answers of the passes.
+-- Assumes nothing.
 use mathlib.Core.Path.{sym, _∙_}
 use denote.Ref.{now}
 use borrow.Author.Needs.{needs}
@@ -18,7 +19,8 @@ returns : tie.Need-returns
 returns c =
     let asks = c .before in
     let start = asks .before .before .before .before .before .before .args in
-    edit-12 (start .sizes) (now (start .day)) (now (start .series)) (lentList (now (start .list)) (start .count)) (now (start .script))
+    edit-12 (start .sizes) (now (start .day)) (now (start .series)) (lentList (now (start .list)) (start .count))
+    (now (start .script))
     (asks .is-sound .result) (asks .is-sound .ensures) (not-true (asks .is-sound .result) (c .if1 .taken))
 
 form-of-requires : tie.Need-form-of-requires
@@ -37,7 +39,8 @@ edit-whole-requires c κs =
     let asks = sound .before in
     let entry = asks .before .before .before .before .before .before in
     let start = entry .args in (
-      is-sound (start .sizes) (now (start .day)) (now (start .series)) (lentList (now (start .list)) (start .count)) (now (start .script))
+      is-sound (start .sizes) (now (start .day)) (now (start .series)) (lentList (now (start .list)) (start .count))
+          (now (start .script))
           (asks .is-sound .result) (asks .is-sound .ensures) (not-false (asks .is-sound .result) (sound .if1 .left)),
       sym (forms .form-of .ensures) ∙ c .before .before .k .given .1,
       entry .pre,
@@ -52,8 +55,10 @@ returns-2 c =
     let sound = forms .before in
     let asks = sound .before in
     let start = asks .before .before .before .before .before .before .args in
-    edit-3 (start .sizes) (now (start .day)) (now (start .series)) (lentList (now (start .list)) (start .count)) (now (start .script))
-    (is-sound (start .sizes) (now (start .day)) (now (start .series)) (lentList (now (start .list)) (start .count)) (now (start .script))
+    edit-3 (start .sizes) (now (start .day)) (now (start .series)) (lentList (now (start .list)) (start .count))
+    (now (start .script))
+    (is-sound (start .sizes) (now (start .day)) (now (start .series)) (lentList (now (start .list)) (start .count))
+    (now (start .script))
     (asks .is-sound .result) (asks .is-sound .ensures) (not-false (asks .is-sound .result) (sound .if1 .left)))
     _ (sym (forms .form-of .ensures) ∙ c .before .at .given .1)
 

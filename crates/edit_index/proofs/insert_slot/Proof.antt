@@ -1,5 +1,5 @@
--- `insert_slot` meets its contract: at each turn the slots from k on have moved up, and the slot is written in front of them.
--- Assumes nothing.
+-- `insert_slot` meets its contract: at each turn the slots from k on have moved up, and the slot is written in front of
+-- them. Assumes nothing.
 use mathlib.Core.Path.{_≡_, refl, sym}
 use mathlib.Core.Logic.{inl, inr}
 use Prim.Native.Nat.{_-_, _≤_}
@@ -60,7 +60,8 @@ loop-again c =
     let loop = c .before .before .loop in
     let args = c .before .before .before .before .before .args in
     let moved =
-    up-step (args .order .now) (args .count) (omega arith) (loop .order) (loop .k) (loop .k - 1) (loop .inv .2) (omega arith) (omega arith) in
+    up-step (args .order .now) (args .count) (omega arith) (loop .order) (loop .k) (loop .k - 1) (loop .inv .2)
+    (omega arith) (omega arith) in
     (omega arith, omega arith, moved, simp length-set (loop .inv .3))
 
 mul-order-3 : tie.Need-mul-order-3 Inv-loop μ-loop
@@ -76,7 +77,8 @@ returns-2 : tie.Need-returns-2 Inv-loop μ-loop
 returns-2 c =
     let loop = c .before .loop in
     let args = c .before .before .before .before .args in
-    with-ends (args .order .now) (args .count) (args .place) (args .slot) (omega arith) (omega (arith, ltb-false)) (loop .order) (loop .k)
+    with-ends (args .order .now) (args .count) (args .place) (args .slot) (omega arith) (omega (arith, ltb-false))
+    (loop .order) (loop .k)
     (omega arith) (loop .inv .2) (loop .inv .3)
 
 pub insert-slot-spec : {M : Type 1} → statement M

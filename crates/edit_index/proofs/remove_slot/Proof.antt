@@ -1,4 +1,5 @@
--- `remove_slot` meets its contract: at each turn the slots behind the one taken out have moved down as far as k. Assumes nothing.
+-- `remove_slot` meets its contract: at each turn the slots behind the one taken out have moved down as far as k.
+-- Assumes nothing.
 use mathlib.Core.Path.{_≡_, refl, sym}
 use mathlib.Core.Logic.{inl, inr}
 use Prim.Native.Nat.{_+_, _-_, _≤_}
@@ -61,7 +62,8 @@ loop-again : tie.Need-loop-again Inv-loop μ-loop
 loop-again c =
     let loop = c .before .before .loop in
     let args = c .before .before .before .before .before .args in
-    let moved = down-step (args .order .now) (args .place) (loop .order) (loop .k) (loop .inv .2) (omega arith) (omega arith) in
+    let moved =
+    down-step (args .order .now) (args .place) (loop .order) (loop .k) (loop .inv .2) (omega arith) (omega arith) in
     (omega arith, omega arith, moved, simp length-set (loop .inv .3))
 
 same-length : tie.Need-same-length Inv-loop μ-loop
@@ -71,7 +73,8 @@ returns-2 : tie.Need-returns-2 Inv-loop μ-loop
 returns-2 c =
     let loop = c .before .loop in
     let args = c .before .before .before .before .args in
-    without-ends (args .order .now) (args .count) (args .place) (omega arith) (omega (arith, leb-false)) (loop .order) (loop .k)
+    without-ends (args .order .now) (args .count) (args .place) (omega arith) (omega (arith, leb-false)) (loop .order)
+    (loop .k)
     (omega arith) (loop .inv .2)
 
 pub remove-slot-spec : {M : Type 1} → statement M

@@ -1,4 +1,5 @@
--- `is_in_range` meets its contract: where the ways of an `&&` meet, the flag is the conjunction of the tests so far. Assumes nothing.
+-- `is_in_range` meets its contract: where the ways of an `&&` meet, the flag is the conjunction of the tests so far.
+-- Assumes nothing.
 use mathlib.Core.Path.{_≡_, _∙_}
 use mathlib.Core.Logic.{⊎-elim}
 use mathlib.Core.Bool.{_&&_, and-assoc}
@@ -17,7 +18,9 @@ is-duration-requires : tie.Need-is-duration-requires
 is-duration-requires c κs = search needs
 
 -- the id and the start
-two-tests : (c : tie.Joined1) → (let event = c .before .before .args .event in c .if1 .if2 ≡ (leb (event .id) idMax && ltb (event .start) windowSeconds))
+two-tests : (c : tie.Joined1)
+    → (let event = c .before .before .args .event in
+    c .if1 .if2 ≡ (leb (event .id) idMax && ltb (event .start) windowSeconds))
 two-tests c =
     ⊎-elim
     (λ w. rw (le-leb _ _ (w .0 .taken)) (w .2 ∙ w .1 .ensures))
@@ -35,7 +38,9 @@ four-tests c =
     (c .if2 .came)
 
 -- and the marks
-all-tests : (c : tie.Joined2) → (let event = c .before .before .before .args .event in (c .if2 .if3 && leb (event .marks) marksMax) ≡ inRange event)
+all-tests : (c : tie.Joined2)
+    → (let event = c .before .before .before .args .event in
+    (c .if2 .if3 && leb (event .marks) marksMax) ≡ inRange event)
 all-tests c = rw (four-tests c, two-tests (c .before)) (simp and-assoc)
 
 returns : tie.Need-returns

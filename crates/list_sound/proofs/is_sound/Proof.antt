@@ -1,5 +1,5 @@
--- `is_sound` meets its contract: before each turn the pass stands as `Pass` says, and each way on or out is decided by the tests of the
--- record there. Assumes nothing.
+-- `is_sound` meets its contract: before each turn the pass stands as `Pass` says, and each way on or out is decided by
+-- the tests of the record there. Assumes nothing.
 use mathlib.Core.Path.{_≡_, sym, _∙_}
 use mathlib.Core.Logic.{⊎-elim}
 use mathlib.Core.Bool.{true}
@@ -58,7 +58,8 @@ cast-if5 : tie.Need-cast-if5 Inv-loop μ-loop
 cast-if5 c = search needs
 
 slice-aggregate-is-seen : tie.Need-slice-aggregate-is-seen Inv-loop μ-loop
-slice-aggregate-is-seen c = sym (c .before .before .before .before .before .before .before .before .before .loop .inv .size)
+slice-aggregate-is-seen c =
+    sym (c .before .before .before .before .before .before .before .before .before .loop .inv .size)
 
 is-seen-requires : tie.Need-is-seen-requires Inv-loop μ-loop
 is-seen-requires c κs = search needs
@@ -121,7 +122,8 @@ loop-again c =
     let chain = start .before .before .before in
     let range = chain .before in
     let read = range .before .before in
-    pass-more (read .before .before .loop .inv) (read .record-at .result) (read .before .loop-test .taken) (read .record-at .ensures)
+    pass-more (read .before .before .loop .inv) (read .record-at .result) (read .before .loop-test .taken)
+    (read .record-at .ensures)
     (rw (
       in-range range,
       sym (chain .has-chain .ensures) ∙ not-false _ (start .before .before .if4 .left),

@@ -16,8 +16,8 @@ Inv-loop buffer₀ n₀ buffer n = (n ≤ length buffer) × (length buffer ≡ l
 abbrev μ-loop : tie.MeasureT-loop
 μ-loop buffer₀ n₀ buffer n = length buffer - n
 
--- the buffer after a read of its part from n on, `part`, has the same length; what was read before stands in it, and so do the
--- bytes that are counted behind that
+-- the buffer after a read of its part from n on, `part`, has the same length; what was read before stands in it, and so
+-- do the bytes that are counted behind that
 module _ (buffer part : List ℕ) (n : ℕ) (inside : n ≤ length buffer)
     (same : length part ≡ length (midOf n (length buffer - n) buffer)) where
   abbrev next : List ℕ
@@ -86,7 +86,8 @@ loop-again c =
     let turn = reads .before .before .before .loop in
     let part = reads .read .last .1 .0 in
     let same = reads .read .kept .1 .0 in (
-      more-held (turn .buffer) part (turn .n) (turn .inv .0) same (c .before .count .result) (c .before .count .ensures .0 .0),
+      more-held (turn .buffer) part (turn .n) (turn .inv .0) same (c .before .count .result)
+          (c .before .count .ensures .0 .0),
       kept (turn .buffer) part (turn .n) (turn .inv .0) same ∙ turn .inv .1,
     )
 

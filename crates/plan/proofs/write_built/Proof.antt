@@ -1,5 +1,5 @@
--- `plan::write_built` meets its contract: Build's answer decides between a refusal and the listing of the file, which lies in the
--- output. Assumes nothing.
+-- `plan::write_built` meets its contract: Build's answer decides between a refusal and the listing of the file, which
+-- lies in the output. Assumes nothing.
 use Prim.Native.Nat.{_≤_}
 use mathlib.Core.Path.{_≡_, sym, ap, _∙_}
 use native.Mathlib.Omega.{arith}
@@ -33,7 +33,8 @@ start c = given c .before .before .before .before
 -- Build under the identity given is Build under that of zeros
 under-zeros : (c : tie.After-number-of) {built : Built}
     → (let a = start c .args in
-    build broadcast noPools (lentList (now (a .list)) (a .count)) baseDay (given c .zero-identity .result) (now (a .output)) ≡ built)
+    build broadcast noPools (lentList (now (a .list)) (a .count)) baseDay (given c .zero-identity .result)
+    (now (a .output)) ≡ built)
     → (let a = start c .args in
     build broadcast noPools (lentList (now (a .list)) (a .count)) baseDay zeroIdentity (now (a .output)) ≡ built)
 under-zeros c is =
@@ -72,7 +73,8 @@ returns c =
     let numbered = refused .before .before .before in
     let a = start numbered .args in
     written-as (now (a .text)) _
-    (list-refused (now (a .output)) (lentList (now (a .list)) (a .count)) _ (under-zeros numbered (builds numbered .build .ensures))
+    (list-refused (now (a .output)) (lentList (now (a .list)) (a .count)) _
+    (under-zeros numbered (builds numbered .build .ensures))
     (numbered .number-of .ensures) (refused .before .before .if1 .taken))
     (refused .write-refused .ensures)
     (omega (arith, refused-length (numbered .number-of .result) (omega arith)))
@@ -116,7 +118,8 @@ returns-2 c =
     let bytes = bytes-take size output (bytes-all output (λ k. numbered .before .slice-known3 .given k .fits)) in
     let length-is = length-take-le size output (omega (arith, inside valued)) in
     written-as (now (a .text)) _
-    (list-built (now (a .output)) (lentList (now (a .list)) (a .count)) _ (under-zeros numbered (builds numbered .build .ensures))
+    (list-built (now (a .output)) (lentList (now (a .list)) (a .count)) _
+    (under-zeros numbered (builds numbered .build .ensures))
     (numbered .number-of .ensures) (valued .value-of .ensures) (valued .before .if1 .left))
     (listed .write-listing .ensures)
     (omega (arith, inside valued, length-is, listing-length (take size output) bytes (omega (arith, length-is))))

@@ -1,4 +1,5 @@
--- `plan::write_within` meets its contract: the script's length, then Edit's answer, decide which text it is. Assumes nothing.
+-- `plan::write_within` meets its contract: the script's length, then Edit's answer, decide which text it is.
+-- Assumes nothing.
 use native.Mathlib.Omega.{arith}
 use denote.Ref.{now}
 use borrow.Author.Needs.{needs}

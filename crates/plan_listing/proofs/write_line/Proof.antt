@@ -1,4 +1,5 @@
--- `plan_listing::write_line` meets its contract: its three numbers, one behind the other (`line-written`). Assumes nothing.
+-- `plan_listing::write_line` meets its contract: its three numbers, one behind the other (`line-written`).
+-- Assumes nothing.
 use native.Mathlib.Omega.{arith}
 use denote.Ref.{now}
 use borrow.Author.Needs.{needs}
@@ -49,7 +50,8 @@ returns c =
     let bytes = bytes-all section (λ k. known .shared-slice-known .given k .fits) in
     let table = field-read section 0 1 bytes (omega arith) (table-read .read-field .ensures) .0 in
     let number = field-read section 6 1 bytes (omega arith) (number-read .read-field2 .ensures) .0 in
-    line-written (now (a .out)) (a .at) section table number (counted .count-events .ensures) (first .write-number .ensures)
+    line-written (now (a .out)) (a .at) section table number (counted .count-events .ensures)
+    (first .write-number .ensures)
     (second .write-number2 .ensures) (third .write-number3 .ensures)
 
 pub write-line-spec : {M : Type 1} → statement M

@@ -1,5 +1,5 @@
--- `plan_listing::write_listing` meets its contract: in each turn the lines of the sections from `offset` on are left to write, and the
--- last line behind them. Assumes nothing.
+-- `plan_listing::write_listing` meets its contract: in each turn the lines of the sections from `offset` on are left to
+-- write, and the last line behind them. Assumes nothing.
 use Prim.Native.Nat.{_-_, _≤_}
 use mathlib.Core.Path.{sym, ap, _∙_}
 use native.Mathlib.Omega.{arith}

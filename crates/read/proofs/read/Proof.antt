@@ -32,9 +32,11 @@ returns-2 c =
     let counted = c .before .before in
     let numbered = counted .before .before in
     let checked = numbered .before in
-    read-27 _ _ _ (checked .check .result) (checked .check .ensures) (numbered .number-of .ensures) (counted .before .if1 .left)
+    read-27 _ _ _ (checked .check .result) (checked .check .ensures) (numbered .number-of .ensures)
+    (counted .before .if1 .left)
     (counted .count-of .ensures) (c .before .if2 .taken)
-    ∙ sym (ap (λ (r : CheckedFile). readOutcome r (now (checked .before .before .before .args .records))) (c .refused .ensures))
+    ∙ sym (ap (λ (r : CheckedFile). readOutcome r (now (checked .before .before .before .args .records)))
+    (c .refused .ensures))
 
 fill-file-requires : tie.Need-fill-file-requires
 fill-file-requires c κs =
@@ -44,7 +46,8 @@ fill-file-requires c κs =
     let checked = numbered .before in
     let known = checked .before .before in
     let a = known .before .args in
-    let zero = accepted (a .base-day) (now (a .file)) (now (a .records)) (checked .check .result) (checked .check .ensures)
+    let zero =
+    accepted (a .base-day) (now (a .file)) (now (a .records)) (checked .check .result) (checked .check .ensures)
     (numbered .number-of .ensures) (counted .before .if1 .left) (counted .count-of .ensures) in
     let bytes = bytes-all (now (a .file)) (λ k. known .shared-slice-known .given k .fits) in (
       accepted-fills (a .base-day) (now (a .file)) bytes zero,
@@ -63,7 +66,8 @@ returns-3 c =
     let counted = room .before in
     let numbered = counted .before .before in
     let checked = numbered .before in
-    read-fills _ _ _ (checked .check .result) (checked .check .ensures) (numbered .number-of .ensures) (counted .before .if1 .left)
+    read-fills _ _ _ (checked .check .result) (checked .check .ensures) (numbered .number-of .ensures)
+    (counted .before .if1 .left)
     (counted .count-of .ensures) (room .if2 .left) (filled .fill-file .ensures)
 
 pub read-spec : {M : Type 1} → statement M

@@ -37,7 +37,8 @@ returns-3 : tie.Need-returns-3
 returns-3 c p offset words tracks =
     let same = c .before .before .before in
     let last = same .before .before .before in
-    ends-whole tracks _ (last .before2 .given .1) (rw (eq-eqb _ _ (same .if1 .left)) (not-false _ (c .before .if2 .left)))
+    ends-whole tracks _ (last .before2 .given .1)
+    (rw (eq-eqb _ _ (same .if1 .left)) (not-false _ (c .before .if2 .left)))
 
 pub at-end-spec : {M : Type 1} → statement M
 at-end-spec =

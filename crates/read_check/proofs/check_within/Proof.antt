@@ -1,5 +1,5 @@
--- `check_within` meets its contract: before each turn the walk stands as `WalkSoFar` says. The measure is what is left of
--- the file. Assumes nothing.
+-- `check_within` meets its contract: before each turn the walk stands as `WalkSoFar` says. The measure is what is left
+-- of the file. Assumes nothing.
 use mathlib.Core.Path.{sym, ap, _∙_}
 use Prim.Native.Nat.{_-_}
 use lib.ListN.{length}
@@ -52,7 +52,8 @@ returns-2 c =
     let turn = verdict .before .before .before .before .before in
     walk-stops (turn .loop .inv) (verdict .before .before .before .before .loop-test .taken)
     (verdict .before .before .before .read-section .ensures)
-    _ _ (verdict .check-section .ensures _ (turn .loop .inv .tracks)) (c .before .before .answer .given .1) (turn .before .before .if1 .left)
+    _ _ (verdict .check-section .ensures _ (turn .loop .inv .tracks)) (c .before .before .answer .given .1)
+    (turn .before .before .if1 .left)
     ∙ sym (ap outcomeOf (c .refused2 .ensures))
 
 enum-known-next : tie.Need-enum-known-next Inv-loop μ-loop

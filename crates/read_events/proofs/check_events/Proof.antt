@@ -1,5 +1,5 @@
--- `check_events` meets its contract: before each turn the pass stands as `PassSoFar` says, and each way on or out is decided by
--- the tests of the event there. The measure is what is left of the loop. Assumes nothing.
+-- `check_events` meets its contract: before each turn the pass stands as `PassSoFar` says, and each way on or out is
+-- decided by the tests of the event there. The measure is what is left of the loop. Assumes nothing.
 use mathlib.Core.Path.{_≡_, sym, ap, _∙_}
 use mathlib.Core.Logic.{⊎-elim}
 use mathlib.Core.List.{List}
@@ -14,7 +14,8 @@ use Rattle.codec_section.specs.EventRead.{eventRead}
 use Rattle.codec_section.specs.declared.event.EventRead.the-variants.{Whole}
 use Rattle.read_events.proofs.EventWalkLaws.{whole-inside}
 use Rattle.codec_section.specs.HeaderRead.{heldHeader}
-use Rattle.read_events.proofs.EventPassLaws.{PassSoFar, pass-start, pass-broken, pass-stop, pass-more, pass-end, filled-some, filled-none}
+use Rattle.read_events.proofs.EventPassLaws.{PassSoFar, pass-start, pass-broken, pass-stop, pass-more, pass-end}
+use Rattle.read_events.proofs.EventPassLaws.{filled-some, filled-none}
 use native.Mathlib.Omega.{arith}
 use borrow.Author.Needs.{needs}
 use Rattle.read_events.proofs.check_events.Statement.{statement}
@@ -63,7 +64,8 @@ module _ (c : tie.After-read-event Inv-loop μ-loop) where
   loop-bytes = now (turn .before .before .before .args .events)
 
   rest-read : c .read-event .result ≡ eventRead (turn .before .before .before .args .base-day) (drop at loop-bytes)
-  rest-read = c .read-event .ensures ∙ ap (eventRead (turn .before .before .before .args .base-day)) (rest-whole loop-bytes at)
+  rest-read =
+      c .read-event .ensures ∙ ap (eventRead (turn .before .before .before .args .base-day)) (rest-whole loop-bytes at)
 
   module _ {r : Record} (whole : c .read-event .result ≡ Whole r) where
     event-read : eventRead (turn .before .before .before .args .base-day) (drop at loop-bytes) ≡ Whole r
@@ -76,7 +78,8 @@ returns : tie.Need-returns Inv-loop μ-loop
 returns c =
     let read = c .before .before in
     let turn = read .before .before .before in
-    sym (pass-broken (turn .loop .inv) (read .before .before .loop-test .taken) (sym (rest-read read) ∙ c .enum-told .given .1))
+    sym (pass-broken (turn .loop .inv) (read .before .before .loop-test .taken)
+    (sym (rest-read read) ∙ c .enum-told .given .1))
 
 is-in-segment-requires : tie.Need-is-in-segment-requires Inv-loop μ-loop
 is-in-segment-requires c κs = search needs
@@ -108,7 +111,8 @@ least-behind-requires c κs = search needs
 
 add-n : tie.Need-add-n Inv-loop μ-loop
 add-n c =
-    let read = c .before .before .before .before .before .before .before .before .before .before .before .before .before in
+    let read =
+    c .before .before .before .before .before .before .before .before .before .before .before .before .before in
     omega (arith, turn read .loop .inv .few, read .before .before .loop-test .taken)
 
 cast-at : tie.Need-cast-at Inv-loop μ-loop
@@ -131,7 +135,8 @@ loop-again c =
     let new = added .before .before .before in
     let placed = new .before .before .before in
     let read = placed .before .before .before .before in
-    pass-more (turn read .loop .inv) (read .before .before .loop-test .taken) (event-read read (placed .before .before .event .given .1))
+    pass-more (turn read .loop .inv) (read .before .before .loop-test .taken)
+    (event-read read (placed .before .before .event .given .1))
     (rw (sym (placed .is-in-segment .ensures) ∙ not-false _ (new .before .before .if1 .left))
     (sym (new .is-new .ensures) ∙ not-false _ (added .before .before .if2 .left)))
     (added .add-seen .ensures)
@@ -146,7 +151,8 @@ same-length-3 c = search needs
 returns-3 : tie.Need-returns-3 Inv-loop μ-loop
 returns-3 c =
     sym (pass-end (c .before .before .loop .inv) (c .before .loop-test .left)
-    (filled-some (c .before .before .loop .inv) (c .before .loop-test .left) (c .if3 .taken) ∙ sym (lt-ltb _ _ (c .if3 .taken))))
+    (filled-some (c .before .before .loop .inv) (c .before .loop-test .left) (c .if3 .taken)
+    ∙ sym (lt-ltb _ _ (c .if3 .taken))))
 
 same-length-4 : tie.Need-same-length-4 Inv-loop μ-loop
 same-length-4 c = search needs
@@ -154,7 +160,8 @@ same-length-4 c = search needs
 returns-4 : tie.Need-returns-4 Inv-loop μ-loop
 returns-4 c =
     sym (pass-end (c .before .before .before .loop .inv) (c .before .before .loop-test .left)
-    (filled-none (c .before .before .before .loop .inv) (c .before .before .loop-test .left) (c .before .if3 .left) ∙ sym (c .is-alone .ensures)))
+    (filled-none (c .before .before .before .loop .inv) (c .before .before .loop-test .left) (c .before .if3 .left)
+    ∙ sym (c .is-alone .ensures)))
 
 pub check-events-spec : {M : Type 1} → statement M
 check-events-spec =

@@ -1,5 +1,5 @@
--- `event_loop` meets its contract: fourteen bytes before the events and four behind them are the eighteen around them. Assumes
--- nothing.
+-- `event_loop` meets its contract: fourteen bytes before the events and four behind them are the eighteen around them.
+-- Assumes nothing.
 use mathlib.Core.Path.{_≡_, sym, ap}
 use mathlib.Core.List.{List}
 use Prim.Native.Nat.{ℕ, _-_}

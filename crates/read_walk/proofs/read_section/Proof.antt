@@ -138,7 +138,8 @@ module _ {M : Type 1} (𝓤 : URA M) (H : Heap 𝓤) (A : Atoms 𝓤) (W : Given
     to-section d u = (((κ, tt), (q, tt), tt, (d, tt), (u ∷ [], tt)), tt)
 
     goes-section : (d : SectionReader) (u : Val)
-        → ent 𝓤 (⋆ 𝓤 H A (‵ (B (κ, tt) .own d (u ∷ [])) ∷ (‵ (flft κ q) ⊛ ‵ ftrue) ∷ [])) (Section .pre (to-section d u))
+        → ent 𝓤 (⋆ 𝓤 H A (‵ (B (κ, tt) .own d (u ∷ [])) ∷ (‵ (flft κ q) ⊛ ‵ ftrue) ∷ []))
+        (Section .pre (to-section d u))
     goes-section d u =
         qed W (‵ (B (κ, tt) .own d (u ∷ [])) ∷ (‵ (flft κ q) ⊛ ‵ ftrue) ∷ []) ∵
         nothing ! $ move ! (1 ∷ 0 ∷ []) $ fjoin ! $ move ! (1 ∷ 0 ∷ []) $ join ! $ frame ! $ done !
@@ -150,12 +151,14 @@ module _ {M : Type 1} (𝓤 : URA M) (H : Heap 𝓤) (A : Atoms 𝓤) (W : Given
     SectionEnsured d r = ensured 𝓤 H A section.ended (section.clauses 𝓤 H A mem run) (κ, tt) (d, tt) tt r
 
     section-clause : (d : SectionReader) (r : RefT (List ℕ)) → ent 𝓤 (SectionEnsured d r) (fact 𝓤 (Found d r))
-    section-clause d r = exE 𝓤 _ (λ ws. snd∗ 𝓤 (sem 𝓤 H A (lasts section.ended (κ, tt) (d, tt) ws)) (fact 𝓤 (Found d r)))
+    section-clause d r =
+        exE 𝓤 _ (λ ws. snd∗ 𝓤 (sem 𝓤 H A (lasts section.ended (κ, tt) (d, tt) ws)) (fact 𝓤 (Found d r)))
 
     -- the reader has the file and the offset, so what is found is the section at that offset
     found-here : (d : SectionReader) (r : RefT (List ℕ)) → Made d → Found d r → now r ≡ sectionAt (now file) offset
     found-here d r made found =
-        found ∙ ap (λ (x : RefT (List ℕ)). sectionAt (now x) (d .offset)) (made .0) ∙ ap (sectionAt (now file)) (made .1)
+        found ∙ ap (λ (x : RefT (List ℕ)). sectionAt (now x) (d .offset)) (made .0)
+        ∙ ap (sectionAt (now file)) (made .1)
 
     exits : (r : RefT (List ℕ)) (u : Val) → now r ≡ sectionAt (now file) offset
         → ent 𝓤 (⋆ 𝓤 H A (‵ (Slice .own r (u ∷ [])) ∷ (‵ (flft κ q) ⊛ ‵ ftrue) ∷ ‵ Own ∷ [])) (Post u)
@@ -182,22 +185,26 @@ module _ {M : Type 1} (𝓤 : URA M) (H : Heap 𝓤) (A : Atoms 𝓤) (W : Given
           (and-then ! (load ! (from ! (stop !)) (look ! 4 refl)) (no-more !))) (λ u.
           use1 W
           (later
-          (some (λ (d : SectionReader). ((‵ (flft κ q) ⊛ ‵ ftrue) ⊛ ‵ (B (κ, tt) .own d (u ∷ []))) ⊛ raw (ReaderEnsured d))))
+          (some (λ (d : SectionReader). ((‵ (flft κ q) ⊛ ‵ ftrue) ⊛ ‵ (B (κ, tt) .own d (u ∷ []))) ⊛ raw
+          (ReaderEnsured d))))
           (id⊢ 𝓤 _) $ await ! tt $ pick ! (λ d. split ! $
           move ! (1 ∷ []) $ use1 W (raw (fact 𝓤 (Made d))) (reader-clause d) $ heard ! (Made d) (λ made. split ! $
           move ! (1 ∷ []) $
           -- [what the reader owns; the token; what the file owns; room for _3; …; _2; …; _1; …; room for _0; …]
           peeks ! (B (κ, tt)) (Is (B (κ, tt))) (shows 𝓤 H A (B (κ, tt))) d (u ∷ []) (λ is-reader.
-          land ! (from ! (stop !)) (init ! 3 refl (LL.lawful (T.the-type αᵉ) (T′.the-laws αᵉ) 𝓤 H A W .typed d _ is-reader .0)) $
+          land ! (from ! (stop !))
+          (init ! 3 refl (LL.lawful (T.the-type αᵉ) (T′.the-laws αᵉ) 𝓤 H A W .typed d _ is-reader .0)) $
           -- _0 = section(_3)
           use2 W (raw (Section .pre (to-section d u))) (goes-section d u) $
           calls-at ! fm Section known-section (to-section d u)
           (and-then ! (load ! (from ! (stop !)) (look ! 2 refl)) (no-more !)) (λ u′.
           use1 W
           (later
-          (some (λ (r : RefT (List ℕ)). ((‵ (flft κ q) ⊛ ‵ ftrue) ⊛ ‵ (Slice .own r (u′ ∷ []))) ⊛ raw (SectionEnsured d r))))
+          (some (λ (r : RefT (List ℕ)). ((‵ (flft κ q) ⊛ ‵ ftrue) ⊛ ‵ (Slice .own r (u′ ∷ []))) ⊛ raw
+          (SectionEnsured d r))))
           (id⊢ 𝓤 _) $ await ! tt $ pick ! (λ r. split ! $
-          move ! (1 ∷ []) $ use1 W (raw (fact 𝓤 (Found d r))) (section-clause d r) $ heard ! (Found d r) (λ found. split ! $
+          move ! (1 ∷ []) $ use1 W (raw (fact 𝓤 (Found d r))) (section-clause d r)
+          $ heard ! (Found d r) (λ found. split ! $
           move ! (1 ∷ []) $
           -- [the result; the token; what the file owns; _3; …; _2; …; _1; …; room for _0; …]
           peeks ! Slice (Is Slice) (shows 𝓤 H A Slice) r (u′ ∷ []) (λ is-section.
@@ -206,7 +213,8 @@ module _ {M : Type 1} (𝓤 : URA M) (H : Heap 𝓤) (A : Atoms 𝓤) (W : Given
           move ! (9 ∷ 10 ∷ []) $ free1 ! $ move ! (7 ∷ 8 ∷ []) $ free1 ! $ move ! (5 ∷ 6 ∷ []) $ free1 ! $
           move ! (3 ∷ 4 ∷ []) $ free1 ! $ free0 ! $ by ! (exits r u′ (found-here d r made found))))))))))))))
 
-  walks : (C : Calls 𝓤 H) (Λ : Loops 𝓤 H) → FmC 𝓤 H (W .laws) C → Triple 𝓤 (C #reader-at) ReaderAt → Triple 𝓤 (C #section) Section
+  walks : (C : Calls 𝓤 H) (Λ : Loops 𝓤 H) → FmC 𝓤 H (W .laws) C → Triple 𝓤 (C #reader-at) ReaderAt
+      → Triple 𝓤 (C #section) Section
       → Walks 𝓤 H A read-section.ended stayed (WpFn 𝓤 H C Λ code.function) Said
   walks C Λ fm known-reader known-section =
       walked 𝓤 H A read-section.ended stayed Said (WpFn 𝓤 H C Λ code.function)
@@ -218,8 +226,10 @@ module _ {M : Type 1} (𝓤 : URA M) (H : Heap 𝓤) (A : Atoms 𝓤) (W : Given
   meets : (𝓣 : Tables 𝓤 H) → Triple 𝓤 (𝓣 .C #reader-at) ReaderAt → Triple 𝓤 (𝓣 .C #section) Section
       → Meets 𝓤 H A read-section.signature (WpFn 𝓤 H (𝓣 .C) (𝓣 .Λ) code.function) (read-section.spec 𝓤 H A mem run)
   meets 𝓣 known-reader known-section =
-      walk-meets 𝓤 H A read-section.ended stayed W
-      (goes-none-slice 𝓤 H A W 1 (0 ∷ []) tt (plain (λ _. u8)) yes, (goes-none 𝓤 H A W 1 (λ _. usize) yes (λ κs x f. refl), tt))
+      walk-meets 𝓤 H A read-section.ended stayed W (
+        goes-none-slice 𝓤 H A W 1 (0 ∷ []) tt (plain (λ _. u8)) yes,
+        (goes-none 𝓤 H A W 1 (λ _. usize) yes (λ κs x f. refl), tt),
+      )
       Said (WpFn 𝓤 H (𝓣 .C) (𝓣 .Λ) code.function) (WpFn-mono 𝓤 H (W .laws) 𝓣 code.function)
       (walks (𝓣 .C) (𝓣 .Λ) (fmOf 𝓤 H (W .laws) 𝓣) known-reader known-section)
 

@@ -1,6 +1,6 @@
--- `reader_at` meets its contract: a walk of its MIR, by hand. A reader is made of the file and the offset passed, in the result's
--- local. A `&[u8]` is Copy, so what it owns is had twice: once for the file at exit, and once inside the result, beside the facts
--- of the offset. Assumes nothing.
+-- `reader_at` meets its contract: a walk of its MIR, by hand. A reader is made of the file and the offset passed, in
+-- the result's local. A `&[u8]` is Copy, so what it owns is had twice: once for the file at exit, and once inside the
+-- result, beside the facts of the offset. Assumes nothing.
 use mathlib.Core.Path.{refl}
 use Prim.Native.Nat.{ℕ, _<_, _^_}
 use mathlib.Core.List.{List, [], _∷_}
@@ -121,8 +121,10 @@ module _ {M : Type 1} (𝓤 : URA M) (H : Heap 𝓤) (A : Atoms 𝓤) (W : Given
   meets : (𝓣 : Tables 𝓤 H)
       → Meets 𝓤 H A reader-at.signature (WpFn 𝓤 H (𝓣 .C) (𝓣 .Λ) code.function) (reader-at.spec 𝓤 H A mem run)
   meets 𝓣 =
-      walk-meets 𝓤 H A reader-at.ended stayed W
-      (goes-none-slice 𝓤 H A W 1 (0 ∷ []) tt (plain (λ _. u8)) yes, (goes-none 𝓤 H A W 1 (λ _. usize) yes (λ κs x f. refl), tt))
+      walk-meets 𝓤 H A reader-at.ended stayed W (
+        goes-none-slice 𝓤 H A W 1 (0 ∷ []) tt (plain (λ _. u8)) yes,
+        (goes-none 𝓤 H A W 1 (λ _. usize) yes (λ κs x f. refl), tt),
+      )
       Said (WpFn 𝓤 H (𝓣 .C) (𝓣 .Λ) code.function) (WpFn-mono 𝓤 H (W .laws) 𝓣 code.function) (walks (𝓣 .C) (𝓣 .Λ))
 
 pub reader-at-spec : {M : Type 1} → stated.statement M

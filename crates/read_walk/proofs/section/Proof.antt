@@ -1,7 +1,7 @@
--- `section` meets its contract: a walk of its MIR, by hand. The struct is taken apart, `section_at` is called on the file and the
--- offset, and the slice that it returns is the result. The struct is Copy: what it owns is had twice, one copy is kept whole for
--- the exit, and of the other what the file owns goes to the callee, beside the lifetime's token, which comes back.
--- Assumes nothing.
+-- `section` meets its contract: a walk of its MIR, by hand. The struct is taken apart, `section_at` is called on the
+-- file and the offset, and the slice that it returns is the result. The struct is Copy: what it owns is had twice, one
+-- copy is kept whole for the exit, and of the other what the file owns goes to the callee, beside the lifetime's token,
+-- which comes back. Assumes nothing.
 use mathlib.Core.Path.{_≡_, refl}
 use Prim.Native.Nat.{ℕ, _<_, _^_}
 use mathlib.Core.List.{List, [], _∷_}
@@ -115,7 +115,8 @@ module _ {M : Type 1} (𝓤 : URA M) (H : Heap 𝓤) (A : Atoms 𝓤) (W : Given
     abbrev to : SectionAt .Ghost
     to = (((κ, tt), (q, tt), tt, (d .file, (d .offset, tt)), arguments), tt)
 
-    asked : ent 𝓤 (onEntry 𝓤 H A section-at.signature (κ, tt) (q, tt) (d .file, (d .offset, tt)) arguments) (SectionAt .pre to)
+    asked : ent 𝓤 (onEntry 𝓤 H A section-at.signature (κ, tt) (q, tt) (d .file, (d .offset, tt)) arguments)
+        (SectionAt .pre to)
     asked =
         qed W ((‵ (flft κ q) ⊛ ‵ ftrue) ∷ ‵ (owns (Slice ∷ usize ∷ []) (d .file, (d .offset, tt)) arguments) ∷ []) ∵
         join ! $ frame ! $ done !
@@ -125,23 +126,28 @@ module _ {M : Type 1} (𝓤 : URA M) (H : Heap 𝓤) (A : Atoms 𝓤) (W : Given
     apart fits =
         qed W ((‵ (flft κ q) ⊛ ‵ ftrue) ∷ ‵ (owns (B (κ, tt) ∷ []) (d, tt) (mach ∷ [], tt)) ∷ []) ∵
         move ! (1 ∷ []) $ fsplit ! $ move ! (1 ∷ []) $ drop ! $
-        use1 W (‵ Own ⊛ ‵ Own) (LL.copy D (T′.the-copy (namedLft 1 0 tt (κ, tt))) 𝓤 H A W .twice d (mach ∷ [])) $ split ! $
+        use1 W (‵ Own ⊛ ‵ Own) (LL.copy D (T′.the-copy (namedLft 1 0 tt (κ, tt))) 𝓤 H A W .twice d (mach ∷ []))
+        $ split ! $
         use1 W (given (mach ∷ [] ≡ mach ∷ []) (‵ (all-own (D .parts) L fields))) (own-open 𝓤 H A W D L fields mach) $
         learn ! (λ _.
-        use1 W (‵ (ownAt (D .parts) L 0 (d .file)) ⊛ ‵ (rest (D .parts) L 0 fields)) (own-out 𝓤 H A W (D .parts) L 0 fields) $
+        use1 W (‵ (ownAt (D .parts) L 0 (d .file)) ⊛ ‵ (rest (D .parts) L 0 fields))
+        (own-out 𝓤 H A W (D .parts) L 0 fields) $
         split ! $
         -- [what the file owns; what the offset owns; what the struct owns; the token]
         move ! (1 ∷ []) $ drop ! $
         nothing ! $ owned ! usize (Is usize) (uint-makes 𝓤 H A W w64) (d .offset) _ (refl, fits) $ fjoin ! $
         move ! (1 ∷ 0 ∷ []) $ fjoin ! $ move ! (2 ∷ 0 ∷ []) $ use2 W (raw (SectionAt .pre to)) asked $ frame ! $ done !)
 
-    -- what the callee has ensured of its result r; and of that the clause alone, since with no `&mut` there are no last values
+    -- what the callee has ensured of its result r; and of that the clause alone, since with no `&mut` there are no last
+    -- values
     abbrev Ensured : RefT (List ℕ) → SProp 𝓤
-    Ensured r = ensured 𝓤 H A section-at.ended (section-at.clauses 𝓤 H A mem run) (κ, tt) (d .file, (d .offset, tt)) tt r
+    Ensured r =
+        ensured 𝓤 H A section-at.ended (section-at.clauses 𝓤 H A mem run) (κ, tt) (d .file, (d .offset, tt)) tt r
 
     clause : (r : RefT (List ℕ)) → ent 𝓤 (Ensured r) (fact 𝓤 (now r ≡ found))
     clause r =
-        exE 𝓤 _ (λ ws. snd∗ 𝓤 (sem 𝓤 H A (lasts section-at.ended (κ, tt) (d .file, (d .offset, tt)) ws)) (fact 𝓤 (now r ≡ found)))
+        exE 𝓤 _ (λ ws. snd∗ 𝓤 (sem 𝓤 H A (lasts section-at.ended (κ, tt) (d .file, (d .offset, tt)) ws))
+        (fact 𝓤 (now r ≡ found)))
 
     exits : (r : RefT (List ℕ)) (u : Val) → now r ≡ found
         → ent 𝓤 (⋆ 𝓤 H A (‵ (Slice .own r (u ∷ [])) ∷ (‵ (flft κ q) ⊛ ‵ ftrue) ∷ ‵ Own ∷ [])) (Post u)
@@ -150,7 +156,8 @@ module _ {M : Type 1} (𝓤 : URA M) (H : Heap 𝓤) (A : Atoms 𝓤) (W : Given
         suffices ! _ (ends-at 𝓤 H A section.ended stayed Said W here u r (tt, tt) (tt, tt)) $ says ! e $
         move ! (1 ∷ []) $ frame ! $ nothing ! $ move ! (2 ∷ 0 ∷ []) $ fjoin ! $ frame ! $ done !
 
-    module _ (C : Calls 𝓤 H) (Λ : Loops 𝓤 H) (fm : FmC 𝓤 H (W .laws) C) (known : Triple 𝓤 (C #section-at) SectionAt) where
+    module _ (C : Calls 𝓤 H) (Λ : Loops 𝓤 H) (fm : FmC 𝓤 H (W .laws) C)
+        (known : Triple 𝓤 (C #section-at) SectionAt) where
       walk : Holds (hasTy (T′.mir (named 0)) mach) × WT mach → ent 𝓤 Entry (WpFn 𝓤 H C Λ code.function (mach ∷ []) Post)
       walk wt =
           qed W (raw Entry ∷ []) ∵ enter ! C Λ code.function (mach ∷ []) _ $
@@ -166,7 +173,8 @@ module _ {M : Type 1} (𝓤 : URA M) (H : Heap 𝓤) (A : Atoms 𝓤) (W : Given
           calls-at ! fm SectionAt known to
           (and-then ! (load ! (from ! (stop !)) (look ! 4 refl))
           (and-then ! (load ! (from ! (stop !)) (look ! 2 refl)) (no-more !))) (λ u.
-          use1 W (later (some (λ (r : RefT (List ℕ)). ((‵ (flft κ q) ⊛ ‵ ftrue) ⊛ ‵ (Slice .own r (u ∷ []))) ⊛ raw (Ensured r))))
+          use1 W (later
+          (some (λ (r : RefT (List ℕ)). ((‵ (flft κ q) ⊛ ‵ ftrue) ⊛ ‵ (Slice .own r (u ∷ []))) ⊛ raw (Ensured r))))
           (id⊢ 𝓤 _) $ await ! tt $ pick ! (λ r. split ! $
           move ! (1 ∷ []) $ use1 W (raw (fact 𝓤 (now r ≡ found))) (clause r) $ heard ! (now r ≡ found) (λ e. split ! $
           move ! (1 ∷ []) $

@@ -1,5 +1,5 @@
--- `section_at` meets its contract: the bytes from the offset on are the part to the file's end, of which the code takes as many
--- as they state, or all. Assumes nothing.
+-- `section_at` meets its contract: the bytes from the offset on are the part to the file's end, of which the code takes
+-- as many as they state, or all. Assumes nothing.
 use mathlib.Core.Path.{_≡_, sym, ap, _∙_}
 use mathlib.Core.List.{List, []}
 use Prim.Native.Nat.{ℕ, _-_, _≤_}

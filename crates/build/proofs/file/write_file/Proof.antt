@@ -1,5 +1,5 @@
--- `write_file` meets its contract: before each turn the segments before it are written, and the events from `from` on are those
--- of this segment and of later ones (`FileSoFar`). Assumes nothing.
+-- `write_file` meets its contract: before each turn the segments before it are written, and the events from `from` on
+-- are those of this segment and of later ones (`FileSoFar`). Assumes nothing.
 use Prim.Native.Nat.{_-_, _/_, _<_}
 use mathlib.Core.Path.{_≡_, ap, _∙_}
 use mathlib.Core.Logic.{⊎-elim}
@@ -51,7 +51,8 @@ last-index-requires c κs = search needs
 
 -- last_table_id
 table-fits : (c : tie.After-last-index Inv-loop μ-loop) → c .last-index .result / 32 < 16
-table-fits c = omega (arith, table-small (pools (called c)) _ _ (called c .pre), c .last-index .ensures (pools (called c)))
+table-fits c =
+    omega (arith, table-small (pools (called c)) _ _ (called c .pre), c .last-index .ensures (pools (called c)))
 
 add-last-table-id : tie.Need-add-last-table-id Inv-loop μ-loop
 add-last-table-id c = omega (arith, table-fits c)
@@ -107,7 +108,11 @@ write-segment-requires c κs =
     let ps = pools (start turn) in (
       part-fits ps _ _ ready (turn .loop .inv) few some (ended .end-of .ensures ps) (c .before .room-of .ensures)
           (table-last joined) (ap tableOf (turn .before .last-index .ensures ps)) (made .ensures),
-      omega (arith, count-few ready (turn .loop .index) few, ap (λ (h : SectionHeader). h .«section_number») (made .ensures)),
+      omega (
+        arith,
+        count-few ready (turn .loop .index) few,
+        ap (λ (h : SectionHeader). h .«section_number») (made .ensures),
+      ),
       turn .before .before .tables .ensures,
     )
 
@@ -125,10 +130,12 @@ loop-again c =
     let ps = pools (start turn) in
     ⊎-elim
     (λ w.
-    let joined : tie.Joined2 Inv-loop μ-loop = record { before = record { before = c .before; if1 = w .0 }; if2 = w .1 } in
+    let joined : tie.Joined2 Inv-loop μ-loop =
+    record { before = record { before = c .before; if1 = w .0 }; if2 = w .1 } in
     file-same (w .10) (w .11) (w .12) (w .13)
     (file-more ps _ _ ready (turn .loop .inv) few (w .0 .taken) (w .2 .ensures ps) (w .5 .ensures)
-    (table-last joined) (ap tableOf (turn .before .last-index .ensures ps)) (w .3 .ensures) (w .7 .ensures .0) (w .7 .ensures .1)))
+    (table-last joined) (ap tableOf (turn .before .last-index .ensures ps)) (w .3 .ensures) (w .7 .ensures .0)
+    (w .7 .ensures .1)))
     (λ w. file-same (w .1) (w .2) (w .3) (w .4) (file-skip ps _ _ ready (turn .loop .inv) few (w .0 .left)))
     (c .if1 .came)
 
@@ -136,7 +143,8 @@ same-length : tie.Need-same-length Inv-loop μ-loop
 same-length c = c .before .loop .inv .left .size
 
 returns : tie.Need-returns Inv-loop μ-loop
-returns c = file-end (pools (start (c .before))) _ _ (start (c .before) .pre) (c .before .loop .inv) (c .loop-test .left)
+returns c =
+    file-end (pools (start (c .before))) _ _ (start (c .before) .pre) (c .before .loop .inv) (c .loop-test .left)
 
 pub write-file-spec : {M : Type 1} → statement M
 write-file-spec =

@@ -1,5 +1,5 @@
--- `write_segment` meets its contract: after k turns k sections are written, and the events from `next` on are left for the
--- others. Assumes nothing.
+-- `write_segment` meets its contract: after k turns k sections are written, and the events from `next` on are left for
+-- the others. Assumes nothing.
 use Prim.Native.Nat.{_+_, _-_, _≤_}
 use native.Mathlib.Omega.{arith}
 use borrow.Author.Needs.{needs}
@@ -72,7 +72,8 @@ loop-again : tie.Need-loop-again Inv-loop μ-loop
 loop-again c =
     let cut = c .before .before .before .before .before in
     segment-more _ _ _ _ _ _ (turn cut .loop .inv) (cut .before .before .loop-test .taken) (cut .next-cut .result)
-    (cut .next-cut .ensures) {out′ = c .before .before .write-section .last .0} (c .before .before .write-section .ensures)
+    (cut .next-cut .ensures) {out′ = c .before .before .write-section .last .0}
+    (c .before .before .write-section .ensures)
 
 same-length : tie.Need-same-length Inv-loop μ-loop
 same-length c = c .before .loop .inv .left .size

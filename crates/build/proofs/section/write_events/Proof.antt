@@ -1,5 +1,5 @@
--- `build::section::write_events` meets its contract: in each turn the events from i on are left to write, from `offset` on.
--- Assumes nothing.
+-- `build::section::write_events` meets its contract: in each turn the events from i on are left to write, from `offset`
+-- on. Assumes nothing.
 use Prim.Native.Nat.{_+_, _-_, _≤_}
 use native.Mathlib.Omega.{arith}
 use denote.Ref.{now}
@@ -52,7 +52,8 @@ start c = c .before .before .before .before .before
 room : (c : tie.After-choose Inv-loop μ-loop)
     → turn c .loop .offset + (eventOverhead + length (c .choose .result .now)) ≤ length (turn c .loop .out)
 room c =
-    next-fits _ _ _ _ _ (turn c .loop .inv) (c .before .before .loop-test .taken) (c .before .record-at .ensures) (c .choose .ensures)
+    next-fits _ _ _ _ _ (turn c .loop .inv) (c .before .before .loop-test .taken) (c .before .record-at .ensures)
+    (c .choose .ensures)
 
 add-offset : tie.Need-add-offset Inv-loop μ-loop
 add-offset c = omega (arith, room (c .before .before .before .before))
@@ -69,7 +70,8 @@ loop-less c = omega arith
 loop-again : tie.Need-loop-again Inv-loop μ-loop
 loop-again c =
     let chosen = c .before .before .before .before in
-    next-written _ _ _ _ _ (turn chosen .loop .inv) (chosen .before .before .loop-test .taken) (chosen .before .record-at .ensures)
+    next-written _ _ _ _ _ (turn chosen .loop .inv) (chosen .before .before .loop-test .taken)
+    (chosen .before .record-at .ensures)
     (chosen .choose .ensures) (c .before .before .write-event .ensures)
 
 same-length : tie.Need-same-length Inv-loop μ-loop

@@ -1,4 +1,5 @@
--- `count_segment` meets its contract: before each turn what is counted so far, with what the rest needs, is the count. Assumes nothing.
+-- `count_segment` meets its contract: before each turn what is counted so far, with what the rest needs, is the count.
+-- Assumes nothing.
 use mathlib.Core.Logic.{⊎-elim}
 use Prim.Native.Nat.{_+_, _-_, _<_}
 use native.Mathlib.Omega.{arith}
@@ -32,7 +33,8 @@ counted : (c : tie.After-struct-known Inv-loop μ-loop)
     → let a = c .before .before .before .before .before .before .before .before .before .args in
     let next = c .before .next-cut .result in
     let turn = c .before .before .before .before .loop in
-    PackedSoFar (lentPools (now (a .day)) (now (a .series))) (now (a .list)) (a .from) (a .end) (a .room) (turn .sections + 1)
+    PackedSoFar (lentPools (now (a .day)) (now (a .series))) (now (a .list)) (a .from) (a .end) (a .room)
+    (turn .sections + 1)
     (turn .bytes + (sectionOverhead + next .bytes)) (next .to)
 counted c =
     let test = c .before .before in
@@ -56,7 +58,8 @@ loop-again c = counted c
 
 -- the loop ends with eight sections, or with nothing left
 done : (c : tie.Left-loop Inv-loop μ-loop)
-    → c .before .loop .at < c .before .before .before .before .before .before .args .end → c .before .loop .sections < 8 → ⊥
+    → c .before .loop .at < c .before .before .before .before .before .before .args .end → c .before .loop .sections < 8
+    → ⊥
 done c inside few =
     let at = c .before .loop .at in
     let end = c .before .before .before .before .before .before .args .end in

@@ -116,7 +116,8 @@ loop-again c =
 returns : tie.Need-returns Inv-loop μ-loop
 returns c =
     let start = c .before .before in
-    count-end _ _ _ _ (dayBytes start) (seriesBytes start) (start .before .before .before .pre) (c .before .loop .inv) (c .loop-test .left)
+    count-end _ _ _ _ (dayBytes start) (seriesBytes start) (start .before .before .before .pre) (c .before .loop .inv)
+    (c .loop-test .left)
 
 pub count-sound-spec : {M : Type 1} → statement M
 count-sound-spec =

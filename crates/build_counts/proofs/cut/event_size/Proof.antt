@@ -25,7 +25,8 @@ returns : tie.Need-returns
 returns c =
     let a = c .before .before .before .before .before .args in
     ap (λ (chain : List ℕ). eventOverhead + length chain) (c .choose .ensures)
-    ∙ ap (λ (r : Record). eventSize (eventOf (lentPools (now (a .day)) (now (a .series))) r)) (c .before .record-at .ensures)
+    ∙ ap (λ (r : Record). eventSize (eventOf (lentPools (now (a .day)) (now (a .series))) r))
+    (c .before .record-at .ensures)
 
 pub event-size-spec : {M : Type 1} → statement M
 event-size-spec = tie.close (tie.spec record-at-requires choose-requires add-result returns)

@@ -1,5 +1,5 @@
--- `next_cut` meets its contract: before each turn what is taken so far, with what the rest of the room takes of the rest, is the cut.
--- Assumes nothing.
+-- `next_cut` meets its contract: before each turn what is taken so far, with what the rest of the room takes of the
+-- rest, is the cut. Assumes nothing.
 use Prim.Native.Nat.{_-_}
 use native.Mathlib.Omega.{arith}
 use borrow.Author.Needs.{needs}
@@ -25,7 +25,8 @@ sub-if1 c = c .before .before .loop .inv .within
 
 returns : tie.Need-returns Inv-loop μ-loop
 returns c =
-    pass-stop (c .before .before .before .loop .inv) (c .before .before .loop-test .taken) (c .before .event-size .result)
+    pass-stop (c .before .before .before .loop .inv) (c .before .before .loop-test .taken)
+    (c .before .event-size .result)
     (c .before .event-size .ensures) (c .if1 .taken)
 
 add-bytes : tie.Need-add-bytes Inv-loop μ-loop
@@ -39,7 +40,8 @@ loop-less c = omega arith
 
 loop-again : tie.Need-loop-again Inv-loop μ-loop
 loop-again c =
-    pass-more (c .before .before .before .loop .inv) (c .before .before .loop-test .taken) (c .before .event-size .result)
+    pass-more (c .before .before .before .loop .inv) (c .before .before .loop-test .taken)
+    (c .before .event-size .result)
     (c .before .event-size .ensures) (c .if1 .left)
 
 returns-2 : tie.Need-returns-2 Inv-loop μ-loop

@@ -20,7 +20,8 @@ segment-index-requires c κs = search needs
 
 returns : tie.Need-returns Inv-loop μ-loop
 returns c =
-    lead-stop (c .before .before .before .loop .inv) (c .before .before .loop-test .taken) (c .before .segment-index .result)
+    lead-stop (c .before .before .before .loop .inv) (c .before .before .loop-test .taken)
+    (c .before .segment-index .result)
     (c .before .segment-index .ensures) (c .if1 .taken)
 
 add-end : tie.Need-add-end Inv-loop μ-loop
@@ -31,7 +32,8 @@ loop-less c = omega arith
 
 loop-again : tie.Need-loop-again Inv-loop μ-loop
 loop-again c =
-    lead-more (c .before .before .before .loop .inv) (c .before .before .loop-test .taken) (c .before .segment-index .result)
+    lead-more (c .before .before .before .loop .inv) (c .before .before .loop-test .taken)
+    (c .before .segment-index .result)
     (c .before .segment-index .ensures) (c .if1 .left)
 
 returns-2 : tie.Need-returns-2 Inv-loop μ-loop

@@ -15,7 +15,8 @@ returns-2 c = inside-first _ _ _ _ (c .before .if1 .left) (c .if2 .taken)
 
 returns-3 : tie.Need-returns-3
 returns-3 c =
-    inside-table _ _ _ _ (c .before .before .if1 .left) (c .before .if2 .left) (c .segment-index .result) (c .segment-index .ensures)
+    inside-table _ _ _ _ (c .before .before .if1 .left) (c .before .if2 .left) (c .segment-index .result)
+    (c .segment-index .ensures)
 
 pub is-inside-spec : {M : Type 1} → statement M
 is-inside-spec = tie.close (tie.spec returns segment-index-requires returns-2 returns-3)

@@ -1,6 +1,5 @@
--- `codec::chain::is_chain` meets its contract. The loop's invariant: the bytes are a chain exactly if those from `at` on are; a turn
--- is `chain-more` at the descriptor that begins there. The measure is the bytes left.
--- Assumes nothing.
+-- `codec::chain::is_chain` meets its contract. The loop's invariant: the bytes are a chain exactly if those from `at`
+-- on are; a turn is `chain-more` at the descriptor that begins there. The measure is the bytes left. Assumes nothing.
 use mathlib.Core.Path.{_≡_, refl, sym, _∙_}
 use Prim.Native.Nat.{_+_, _≤_, _-_}
 use native.Mathlib.Omega.{arith}

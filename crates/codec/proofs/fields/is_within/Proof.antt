@@ -1,4 +1,5 @@
--- `codec::fields::is_within` meets its contract: what is subtracted on one side of a test is added on the other. Assumes nothing.
+-- `codec::fields::is_within` meets its contract: what is subtracted on one side of a test is added on the other.
+-- Assumes nothing.
 use Prim.Native.Nat.{_+_, _-_}
 use native.Mathlib.Omega.{arith}
 use Rattle.codec.proofs.WriteLaws.{leb-same}

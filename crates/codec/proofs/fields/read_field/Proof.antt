@@ -1,4 +1,5 @@
--- `codec::fields::read_field` meets its contract: after i bytes the value is that of the first i, to the base 256. Assumes nothing.
+-- `codec::fields::read_field` meets its contract: after i bytes the value is that of the first i, to the base 256.
+-- Assumes nothing.
 use Prim.Native.Nat.{ℕ, _-_, _≤_, _%_, _^_}
 use mathlib.Core.List.{List}
 use mathlib.Core.Logic.{⊎-elim}
@@ -74,7 +75,8 @@ returns-2 c =
     let rest : List ℕ = take (length (now (a .bytes)) - a .at) (drop (a .at) (now (a .bytes))) in
     let end = c .before .loop in
     let all : end .i ≡ c .before .before .if2 .n = omega arith in
-    end .inv .3 ∙ ap (λ (i : ℕ). valueOf (take i rest) % 2 ^ 32) all ∙ ap (λ (bs : List ℕ). valueOf bs % 2 ^ 32) (end .inv .2)
+    end .inv .3 ∙ ap (λ (i : ℕ). valueOf (take i rest) % 2 ^ 32) all
+    ∙ ap (λ (bs : List ℕ). valueOf bs % 2 ^ 32) (end .inv .2)
 
 pub read-field-spec : {M : Type 1} → statement M
 read-field-spec =

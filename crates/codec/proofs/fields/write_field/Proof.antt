@@ -1,5 +1,5 @@
--- `codec::fields::write_field` meets its contract: from the last byte on backwards, what is written is the field of the digits taken off.
--- Assumes nothing.
+-- `codec::fields::write_field` meets its contract: from the last byte on backwards, what is written is the field of the
+-- digits taken off. Assumes nothing.
 use Prim.Native.Nat.{_+_, _-_, _/_, _^_, _≤_, _<_}
 use mathlib.Core.Path.{_≡_, refl, sym}
 use native.Mathlib.Omega.{arith}
@@ -32,7 +32,8 @@ returns : tie.Need-returns Inv-loop μ-loop
 returns c =
     let a = c .before .before .before .args in
     let size : length (bigEndian (a .width) (a .value)) ≡ a .width = big-endian-length (a .width) (a .value) in
-    let outside = is-outside (a .at) (a .width) (length (now (a .out))) (c .before .is-within .ensures) (c .if1 .taken) in
+    let outside =
+    is-outside (a .at) (a .width) (length (now (a .out))) (c .before .is-within .ensures) (c .if1 .taken) in
     sym (write-short (now (a .out)) (a .at) (bigEndian (a .width) (a .value)) (omega arith))
 
 loop-holds : tie.Need-loop-holds Inv-loop μ-loop

@@ -1,4 +1,5 @@
--- `codec::pools::choose` meets its contract: what `pool` and `part` ensure of their results, put together. Assumes nothing.
+-- `codec::pools::choose` meets its contract: what `pool` and `part` ensure of their results, put together.
+-- Assumes nothing.
 use mathlib.Core.Path.{ap, _∙_}
 use mathlib.Core.List.{List}
 use Prim.Native.Nat.{ℕ}
@@ -17,7 +18,9 @@ part-requires c κs = search needs
 returns : tie.Need-returns
 returns c =
     let args = c .before .before .before .before .args in
-    rw choose-part (c .part .ensures ∙ ap (λ (chosen : List ℕ). part chosen (args .offset) (args .size)) (c .before .pool .ensures))
+    rw choose-part
+    (c .part .ensures
+    ∙ ap (λ (chosen : List ℕ). part chosen (args .offset) (args .size)) (c .before .pool .ensures))
 
 pub choose-spec : {M : Type 1} → statement M
 choose-spec = tie.close (tie.spec pool-requires part-requires returns)

@@ -30,14 +30,16 @@ inside : (c : tie.After-is-in-pool)
     ≡ c .is-in-pool .result)
 inside c =
     let event = c .before .before .before .before .args .event in
-    sym (c .is-in-pool .ensures ∙ ap (λ (p : List ℕ). inPool p (event .offset) (event .«chain_length»)) (c .before .pool .ensures))
+    sym (c .is-in-pool .ensures
+    ∙ ap (λ (p : List ℕ). inPool p (event .offset) (event .«chain_length»)) (c .before .pool .ensures))
 
 returns : tie.Need-returns
 returns c = rw (inside (c .before) ∙ not-true (c .before .is-in-pool .result) (c .if1 .taken))
 
 returns-2 : tie.Need-returns-2
 returns-2 c =
-    rw (inside (c .before .before .before) ∙ not-false (c .before .before .before .is-in-pool .result) (c .before .before .if1 .left))
+    rw (inside (c .before .before .before)
+    ∙ not-false (c .before .before .before .is-in-pool .result) (c .before .before .if1 .left))
     (c .is-chain .ensures ∙ ap isChain (c .before .choose .ensures))
 
 pub has-chain-spec : {M : Type 1} → statement M

@@ -1,4 +1,5 @@
--- `codec::pools::part` meets its contract: inside the pool by `part-inside`, outside by `part-outside`. Assumes nothing.
+-- `codec::pools::part` meets its contract: inside the pool by `part-inside`, outside by `part-outside`.
+-- Assumes nothing.
 use mathlib.Core.Path.{sym}
 use borrow.Author.Needs.{needs}
 use native.Mathlib.Nat.{add-sub-cancel-left}

@@ -1,10 +1,11 @@
--- `codec::seen::add_seen` meets its contract: a bit that is 0 is added to its word, where it has room (`with-seen-room`), and else
--- nothing changes. Assumes nothing.
+-- `codec::seen::add_seen` meets its contract: a bit that is 0 is added to its word, where it has room
+-- (`with-seen-room`), and else nothing changes. Assumes nothing.
 use mathlib.Core.Path.{_≡_, sym}
 use Prim.Native.Nat.{_/_, _%_}
 use borrow.Author.Needs.{needs}
 use lib.Pow.{pow-pos}
-use Rattle.codec.proofs.SeenLaws.{seenBit, bit-shifted, with-seen-room, with-seen-old, with-seen-new, with-seen-outside}
+use Rattle.codec.proofs.SeenLaws.{seenBit, bit-shifted, with-seen-room, with-seen-old, with-seen-new}
+use Rattle.codec.proofs.SeenLaws.{with-seen-outside}
 use Rattle.codec.proofs.seen.add_seen.Statement.{statement}
 use Rattle.codec.proofs.seen.add_seen.Tie as tie
 

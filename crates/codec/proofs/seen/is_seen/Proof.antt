@@ -1,5 +1,5 @@
--- `codec::seen::is_seen` meets its contract: the shifted bit is a power of two (`bit-shifted`), and a word that is not there holds no
--- number (`seen-outside`). Assumes nothing.
+-- `codec::seen::is_seen` meets its contract: the shifted bit is a power of two (`bit-shifted`), and a word that is not
+-- there holds no number (`seen-outside`). Assumes nothing.
 use mathlib.Core.Path.{sym}
 use Prim.Native.Nat.{_%_}
 use borrow.Author.Needs.{needs}

@@ -1,4 +1,5 @@
--- `codec_section::event::is_status` meets its contract: the first test decides, or leaves it to the second. Assumes nothing.
+-- `codec_section::event::is_status` meets its contract: the first test decides, or leaves it to the second.
+-- Assumes nothing.
 use borrow.Author.Tests.{eq-eqb, ne-eqb}
 use Rattle.codec_section.proofs.event.is_status.Statement.{statement}
 use Rattle.codec_section.proofs.event.is_status.Tie as tie

@@ -1,5 +1,5 @@
--- `codec_section::event::read_event` meets its contract: each test that fails decides, and behind them all the fields are the record.
--- Assumes nothing.
+-- `codec_section::event::read_event` meets its contract: each test that fails decides, and behind them all the fields
+-- are the record. Assumes nothing.
 use mathlib.Core.Path.{_≡_, sym, _∙_}
 use native.Mathlib.Omega.{arith}
 use denote.Ref.{now}
@@ -9,7 +9,8 @@ use Rattle.eit.specs.Fields.{Bytes}
 use Rattle.eit.proofs.Fields.{bytes-all}
 use Rattle.sections.specs.Decode.{statusField}
 use Rattle.codec.proofs.FieldLaws.{field-read}
-use Rattle.codec_section.proofs.EventReadLaws.{event-truncated, event-no-status, event-no-start, event-no-duration, event-no-chain, event-shown}
+use Rattle.codec_section.proofs.EventReadLaws.{event-truncated, event-no-status, event-no-start}
+use Rattle.codec_section.proofs.EventReadLaws.{event-no-duration, event-no-chain, event-shown}
 use Rattle.codec_section.proofs.event.read_event.Statement.{statement}
 use Rattle.codec_section.proofs.event.read_event.Tie as tie
 
@@ -104,7 +105,8 @@ returns-5 c =
     let status = not-false (stated .is-status .result) (started .before .before .before .if2 .left) in
     let word = word-is (entered .before) in
     let fails = not-true (chained .is-chain .result) (c .if3 .taken) in
-    sym (event-no-chain (a .base-day) (now (a .bytes)) word (entered .if1 .left) (stated .is-status .ensures) status start duration
+    sym (event-no-chain (a .base-day) (now (a .bytes)) word (entered .if1 .left) (stated .is-status .ensures) status
+    start duration
     (chained .is-chain .ensures) fails)
 
 read-field-requires-2 : tie.Need-read-field-requires-2
@@ -132,8 +134,10 @@ returns-6 c =
     let status = not-false (stated .is-status .result) (started .before .before .before .if2 .left) in
     let word = word-is (entered .before) in
     let holds = not-false (chained .is-chain .result) (c .before .if3 .left) in
-    let id = field-read (now (a .bytes)) 0 2 (bytes-are (entered .before .before)) (omega arith) (c .read-field2 .ensures) .0 in
-    sym (event-shown (a .base-day) (now (a .bytes)) word (entered .if1 .left) (stated .is-status .ensures) status start duration
+    let id = field-read (now (a .bytes)) 0 2 (bytes-are (entered .before .before)) (omega arith)
+    (c .read-field2 .ensures) .0 in
+    sym (event-shown (a .base-day) (now (a .bytes)) word (entered .if1 .left) (stated .is-status .ensures) status start
+    duration
     (chained .is-chain .ensures) id holds)
 
 pub read-event-spec : {M : Type 1} → statement M

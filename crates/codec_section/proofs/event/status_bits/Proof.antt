@@ -1,4 +1,5 @@
--- `codec_section::event::status_bits` meets its contract: a mark is a bit, and running_status five of it. Assumes nothing.
+-- `codec_section::event::status_bits` meets its contract: a mark is a bit, and running_status five of it.
+-- Assumes nothing.
 use Prim.Native.Nat.{_/_}
 use borrow.Author.Needs.{needs}
 use Rattle.sections.proofs.EventBytes.{bit-forth}

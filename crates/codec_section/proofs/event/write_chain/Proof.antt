@@ -26,13 +26,16 @@ is-within-requires c κs = search needs
 returns : tie.Need-returns Inv-loop μ-loop
 returns c =
     let a = c .before .before .before .before .args in
-    let outside = is-outside (a .at) (length (now (a .chain))) (length (now (a .out))) (c .before .is-within .ensures) (c .if1 .taken) in
+    let outside =
+    is-outside (a .at) (length (now (a .chain))) (length (now (a .out))) (c .before .is-within .ensures)
+    (c .if1 .taken) in
     sym (write-short (now (a .out)) (a .at) (now (a .chain)) outside)
 
 loop-holds : tie.Need-loop-holds Inv-loop μ-loop
 loop-holds c =
     let a = c .before .before .before .before .args in (
-      is-inside (a .at) (length (now (a .chain))) (length (now (a .out))) (c .before .is-within .ensures) (c .if1 .left),
+      is-inside (a .at) (length (now (a .chain))) (length (now (a .out))) (c .before .is-within .ensures)
+          (c .if1 .left),
       omega arith,
       refl,
       paste-zero (now (a .out)) (a .at) (now (a .chain)),
@@ -60,7 +63,8 @@ loop-again c =
       turn .inv .0,
       omega arith,
       simp length-set (turn .inv .2),
-      paste-more (now (a .out)) (a .at) (now (a .chain)) (turn .i) (turn .inv .0) (c .before .loop-test .taken) (turn .inv .3),
+      paste-more (now (a .out)) (a .at) (now (a .chain)) (turn .i) (turn .inv .0) (c .before .loop-test .taken)
+          (turn .inv .3),
     )
 
 same-length : tie.Need-same-length Inv-loop μ-loop

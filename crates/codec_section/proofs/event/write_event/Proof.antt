@@ -27,7 +27,8 @@ returns c =
     let size = eventOverhead + length (now (a .chain)) in
     let outside = is-outside (a .at) size (length (now (a .out))) (c .before .is-within .ensures) (c .if1 .taken) in
     let event = eventWith (a .event) (now (a .chain)) in
-    sym (write-short (now (a .out)) (a .at) (eventBytes (a .base-day) event) (omega (arith, event-length (a .base-day) event)))
+    sym (write-short (now (a .out)) (a .at) (eventBytes (a .base-day) event)
+    (omega (arith, event-length (a .base-day) event)))
 
 cast-write-field : tie.Need-cast-write-field
 cast-write-field c = search needs
@@ -41,7 +42,8 @@ inside : (c : tie.Else1)
     a .at + (eventOverhead + length (now (a .chain))) ≤ length (now (a .out))
 inside c =
     let a = c .before .before .before .before .args in
-    is-inside (a .at) (eventOverhead + length (now (a .chain))) (length (now (a .out))) (c .before .is-within .ensures) (c .if1 .left)
+    is-inside (a .at) (eventOverhead + length (now (a .chain))) (length (now (a .out))) (c .before .is-within .ensures)
+    (c .if1 .left)
 
 -- back from each write to where the test was passed
 abbrev after-id : tie.After-write-field → tie.Else1
@@ -102,7 +104,8 @@ returns-2 c =
     let entered = numbered .before .before .before in
     let a = entered .before .before .before .before .args in
     let word = ap (λ (bits : ℕ). bits + length (now (a .chain))) (stated .before .status-bits .ensures) in
-    event-written (now (a .out)) (a .at) (a .base-day) (a .event) (now (a .chain)) (inside entered) (numbered .write-field .ensures)
+    event-written (now (a .out)) (a .at) (a .base-day) (a .event) (now (a .chain)) (inside entered)
+    (numbered .write-field .ensures)
     (started .write-start .ensures) (lasted .write-duration .ensures) word (stated .write-field2 .ensures)
     (chained .write-chain .ensures)
 

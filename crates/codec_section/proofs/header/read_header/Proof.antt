@@ -1,4 +1,5 @@
--- `codec_section::header::read_header` meets its contract: where there are 14 bytes, each field is the header's. Assumes nothing.
+-- `codec_section::header::read_header` meets its contract: where there are 14 bytes, each field is the header's.
+-- Assumes nothing.
 use Prim.Native.Nat.{_/_, _%_}
 use mathlib.Core.Option.{some}
 use denote.Ref.{now}

@@ -21,12 +21,14 @@ is-within-requires c κs = search needs
 returns : tie.Need-returns
 returns c =
     let a = c .before .before .before .args in
-    let outside = is-outside (a .at) headerSize (length (now (a .out))) (c .before .is-within .ensures) (c .if1 .taken) in
+    let outside =
+    is-outside (a .at) headerSize (length (now (a .out))) (c .before .is-within .ensures) (c .if1 .taken) in
     let size = header-length (a .size) (heldHeader (a .header)) in
     sym (write-short (now (a .out)) (a .at) (headerBytes (a .size) (heldHeader (a .header))) (omega arith))
 
 -- the header has room
-inside : (c : tie.Else1) → c .before .before .before .args .at + headerSize ≤ length (now (c .before .before .before .args .out))
+inside : (c : tie.Else1)
+    → c .before .before .before .args .at + headerSize ≤ length (now (c .before .before .before .args .out))
 inside c =
     let a = c .before .before .before .args in
     is-inside (a .at) headerSize (length (now (a .out))) (c .before .is-within .ensures) (c .if1 .left)

@@ -89,8 +89,10 @@ returns c =
     let last = stream .before .before .before .before .before in
     let number = last .before .before .before .before .before in
     let entry = number .before .before .before .before .before in
-    rest-written (now (entry .args .out)) (entry .args .at) (entry .args .header) (entry .pre) (number .write-field .ensures)
-    (last .write-field2 .ensures) (stream .write-field3 .ensures) (network .write-field4 .ensures) (segment .write-field5 .ensures)
+    rest-written (now (entry .args .out)) (entry .args .at) (entry .args .header) (entry .pre)
+    (number .write-field .ensures)
+    (last .write-field2 .ensures) (stream .write-field3 .ensures) (network .write-field4 .ensures)
+    (segment .write-field5 .ensures)
     (table .write-field6 .ensures)
 
 pub write-rest-spec : {M : Type 1} → statement M

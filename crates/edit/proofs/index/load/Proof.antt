@@ -47,8 +47,10 @@ loop-again c =
     let start = reads .before .before .before .before .before .before .before in
     let added = adds .add-record .ensures in (
       omega arith,
-      load-next (now (start .args .list)) (start .args .count) (start .pre .0) (loop .i) (loop .slots) (loop .order) (loop .ids) (loop .inv .1)
-          (omega arith) (reads .record-at .result) (reads .record-at .ensures) _ _ _ (added .slotsAre) (added .orderIs) (added .idsAre),
+      load-next (now (start .args .list)) (start .args .count) (start .pre .0) (loop .i) (loop .slots) (loop .order)
+          (loop .ids) (loop .inv .1)
+          (omega arith) (reads .record-at .result) (reads .record-at .ensures) _ _ _ (added .slotsAre) (added .orderIs)
+          (added .idsAre),
     )
 
 same-length : tie.Need-same-length Inv-loop μ-loop

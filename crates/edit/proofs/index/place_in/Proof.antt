@@ -19,7 +19,8 @@ returns c =
     λ i. record {
       place = found .ensures i;
       «is_taken» =
-          taken-first (now (start .args .slots)) (now (start .args .order)) (start .args .count) (start .pre) (start .args .start)
+          taken-first (now (start .args .slots)) (now (start .args .order)) (start .args .count) (start .pre)
+          (start .args .start)
           (found .result) (found .ensures) (c .if1 .taken) i;
     }
 
@@ -31,12 +32,14 @@ start-at-requires c κs =
     let start = c .before .before .before .before in
     let found = c .before .place-of in
     let few =
-    place-few (now (start .args .slots)) (now (start .args .order)) (start .args .count) (start .pre) (start .args .start) (found .result)
+    place-few (now (start .args .slots)) (now (start .args .order)) (start .args .count) (start .pre)
+    (start .args .start) (found .result)
     (found .ensures) in
     let some = c .if1 .left in
     let within : found .result - 1 < start .args .count = omega (arith, some) in (
       omega (arith, start .pre .few),
-      slot-in (now (start .args .slots)) (now (start .args .order)) (start .args .count) (start .pre) (found .result - 1) within,
+      slot-in (now (start .args .slots)) (now (start .args .order)) (start .args .count) (start .pre)
+          (found .result - 1) within,
     )
 
 returns-2 : tie.Need-returns-2
@@ -47,7 +50,8 @@ returns-2 c =
       place = found .ensures i;
       «is_taken» =
           (ap (λ (n : ℕ). eqb n (start .args .start)) (c .start-at .ensures)
-          ∙ taken-is (now (start .args .slots)) (now (start .args .order)) (start .args .count) (start .pre) (start .args .start)
+          ∙ taken-is (now (start .args .slots)) (now (start .args .order)) (start .args .count) (start .pre)
+          (start .args .start)
           (found .result) (found .ensures) (c .before .if1 .left))
           i;
     }

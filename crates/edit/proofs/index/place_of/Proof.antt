@@ -1,4 +1,5 @@
--- `place_of` meets its contract: the place lies between the bounds (`Between`), and the loop ends where they meet. Assumes nothing.
+-- `place_of` meets its contract: the place lies between the bounds (`Between`), and the loop ends where they meet.
+-- Assumes nothing.
 use Prim.Native.Nat.{_+_, _-_, _/_}
 use native.Mathlib.Omega.{arith}
 use denote.Ref.{now}
@@ -8,15 +9,19 @@ use Rattle.edit.proofs.index.place_of.Statement.{statement}
 use Rattle.edit.proofs.index.place_of.Tie as tie
 
 abbrev Inv-loop : tie.InvT-loop
-Inv-loop slots order count start low₀ high₀ low high = (o : Ordered slots order count) × Between slots order count o start low high
+Inv-loop slots order count start low₀ high₀ low high =
+    (o : Ordered slots order count) × Between slots order count o start low high
 
 abbrev μ-loop : tie.MeasureT-loop
 μ-loop slots order count start low₀ high₀ low high = high - low
 
 loop-holds : tie.Need-loop-holds Inv-loop μ-loop
 loop-holds c =
-    let start = c .before .before in
-    (start .pre, between-all (now (start .args .slots)) (now (start .args .order)) (start .args .count) (start .pre) (start .args .start))
+    let start = c .before .before in (
+      start .pre,
+      between-all (now (start .args .slots)) (now (start .args .order)) (start .args .count) (start .pre)
+          (start .args .start),
+    )
 
 sub-middle : tie.Need-sub-middle Inv-loop μ-loop
 sub-middle c = omega arith
@@ -30,8 +35,10 @@ start-at-requires c κs =
     let args = c .before .before .before .before .args in
     let o = loop .inv .0 in
     let b = loop .inv .1 in
-    let middle = loop .low + (loop .high - loop .low) / 2 in
-    (omega (arith, b .within, o .few), slot-in (now (args .slots)) (now (args .order)) (args .count) o middle (omega (arith, b .within)))
+    let middle = loop .low + (loop .high - loop .low) / 2 in (
+      omega (arith, b .within, o .few),
+      slot-in (now (args .slots)) (now (args .order)) (args .count) o middle (omega (arith, b .within)),
+    )
 
 add-low : tie.Need-add-low Inv-loop μ-loop
 add-low c = omega arith
@@ -47,7 +54,8 @@ loop-again c =
     let middle = loop .low + (loop .high - loop .low) / 2 in
     let looked = c .before .start-at .ensures in (
       o,
-      between-upper (now (args .slots)) (now (args .order)) (args .count) o (args .start) (loop .low) (loop .high) middle (loop .inv .1)
+      between-upper (now (args .slots)) (now (args .order)) (args .count) o (args .start) (loop .low) (loop .high)
+          middle (loop .inv .1)
           (omega arith) (omega arith) (omega (arith, c .if1 .taken)),
     )
 
@@ -62,7 +70,8 @@ loop-again-2 c =
     let middle = loop .low + (loop .high - loop .low) / 2 in
     let looked = c .before .start-at .ensures in (
       o,
-      between-lower (now (args .slots)) (now (args .order)) (args .count) o (args .start) (loop .low) (loop .high) middle (loop .inv .1)
+      between-lower (now (args .slots)) (now (args .order)) (args .count) o (args .start) (loop .low) (loop .high)
+          middle (loop .inv .1)
           (omega arith) (omega arith) (omega (arith, c .if1 .left)),
     )
 
@@ -70,7 +79,8 @@ returns : tie.Need-returns Inv-loop μ-loop
 returns c =
     let loop = c .before .loop in
     let args = c .before .before .before .before .args in
-    between-none (now (args .slots)) (now (args .order)) (args .count) (loop .inv .0) (args .start) (loop .low) (loop .high) (loop .inv .1)
+    between-none (now (args .slots)) (now (args .order)) (args .count) (loop .inv .0) (args .start) (loop .low)
+    (loop .high) (loop .inv .1)
     (c .loop-test .left)
 
 pub place-of-spec : {M : Type 1} → statement M

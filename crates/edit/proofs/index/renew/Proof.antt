@@ -1,4 +1,5 @@
--- `renew` meets its contract: the index that is made from what was written back stands for the same list. Assumes nothing.
+-- `renew` meets its contract: the index that is made from what was written back stands for the same list.
+-- Assumes nothing.
 use mathlib.Core.Path.{sym, subst}
 use mathlib.Core.List.{List}
 use Prim.Native.Nat.{ℕ}

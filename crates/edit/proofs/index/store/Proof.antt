@@ -63,7 +63,8 @@ loop-again c =
       omega arith,
       store-next list slots order (loop .i) (omega arith) (omega arith) (loop .list) _ (loop .inv .1)
           (put ∙ ap (λ (r : Record). overwrite (loop .list) (loop .i * recordSize) (numbersOf r)) event),
-      ap length put ∙ over-length (loop .list) (loop .i * recordSize) (numbersOf (reads .record-at .result)) room ∙ loop .inv .2,
+      ap length put ∙ over-length (loop .list) (loop .i * recordSize) (numbersOf (reads .record-at .result)) room
+          ∙ loop .inv .2,
     )
 
 same-length : tie.Need-same-length Inv-loop μ-loop
@@ -74,7 +75,8 @@ returns c =
     let loop = c .before .loop in
     let start = c .before .before .before .before .before in
     let all : loop .i ≡ start .args .count = omega arith in
-    loop .inv .1 ∙ ap (indexedNumbers (now (start .args .list)) (now (start .args .slots)) (now (start .args .order))) all
+    loop .inv .1
+    ∙ ap (indexedNumbers (now (start .args .list)) (now (start .args .slots)) (now (start .args .order))) all
 
 pub store-spec : {M : Type 1} → statement M
 store-spec =

@@ -16,8 +16,11 @@ renew-requires c κs = search needs
 carry-out-indexed-requires : tie.Need-carry-out-indexed-requires
 carry-out-indexed-requires c κs =
     let anew = c .before .before .before .before .before .before .before .before .before .before .before .before in
-    let start = anew .before .before .before .before .before .before .before .before .before .before .before in
-    (renewed-kept _ _ _ _ _ _ (start .pre .0) _ _ _ _ _ (anew .renew .ensures), anew .renew .ensures .free, start .pre .1)
+    let start = anew .before .before .before .before .before .before .before .before .before .before .before in (
+      renewed-kept _ _ _ _ _ _ (start .pre .0) _ _ _ _ _ (anew .renew .ensures),
+      anew .renew .ensures .free,
+      start .pre .1,
+    )
 
 same-length : tie.Need-same-length
 same-length c = search needs
@@ -34,7 +37,8 @@ same-length-4 c = search needs
 returns : tie.Need-returns
 returns c =
     let done = c .before .before .before .before .before .before .before .before in
-    let anew = done .before .before .before .before .before .before .before .before .before .before .before .before .before in
+    let anew =
+    done .before .before .before .before .before .before .before .before .before .before .before .before .before in
     let start = anew .before .before .before .before .before .before .before .before .before .before .before .args in
     leaves-same
     (ap

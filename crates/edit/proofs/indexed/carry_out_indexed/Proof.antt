@@ -1,4 +1,5 @@
--- `carry_out_indexed` meets its contract: the case of the command, and what the function for it ensures. Assumes nothing.
+-- `carry_out_indexed` meets its contract: the case of the command, and what the function for it ensures.
+-- Assumes nothing.
 use denote.Ref.{now}
 use borrow.Author.Needs.{needs}
 use Rattle.eit.specs.Pools.{lentPools}
@@ -61,7 +62,8 @@ returns-2 c =
     let done = c .before .before .before .before .before .before in
     let case = done .before .before .before .before .before .before in
     let start = case .before .before .before .before .before .before .before .before .args in
-    rw (case .command2 .given .1) (done .withdraw-indexed .ensures (start .sizes) (now (start .day)) (now (start .series)))
+    rw (case .command2 .given .1)
+    (done .withdraw-indexed .ensures (start .sizes) (now (start .day)) (now (start .series)))
 
 same-length-9 : tie.Need-same-length-9
 same-length-9 c = search needs

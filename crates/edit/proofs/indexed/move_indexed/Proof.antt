@@ -1,4 +1,5 @@
--- `move_indexed` meets its contract: each return by its own law of MoveLaws, from what the callees ensure. Assumes nothing.
+-- `move_indexed` meets its contract: each return by its own law of MoveLaws, from what the callees ensure.
+-- Assumes nothing.
 use mathlib.Core.Path.{_≡_, refl, sym, _∙_}
 use mathlib.Core.Bool.{true}
 use mathlib.Core.Logic.{inl, inr}
@@ -11,7 +12,8 @@ use borrow.Author.Tests.{not-true, not-false}
 use Rattle.eit.specs.Sizes.{broadcast}
 use Rattle.eit.specs.Limits.{windowSeconds}
 use Rattle.edit.proofs.IndexedLaws.{kept-ordered, id-small, its-place, some-records}
-use Rattle.edit.proofs.MoveLaws.{move-outside, move-absent, move-taken, free-other, free-own, id-within, move-goes}
+use Rattle.edit.proofs.MoveLaws.{move-outside, move-absent, move-taken, free-other, free-own, id-within}
+use Rattle.edit.proofs.MoveLaws.{move-goes}
 use Rattle.edit.proofs.indexed.move_indexed.Statement.{statement}
 use Rattle.edit.proofs.indexed.move_indexed.Tie as tie
 
@@ -41,11 +43,13 @@ module _ (c : tie.After-place-of) where
       omega (
         arith,
         its-place broadcast [] [] _ _ _ _ _ _ (began read .pre .0) 0 _ _
-            (read .before .before .before .slot-of .ensures) (read .before .before .if2 .left) _ (read .record-at .ensures) _
+            (read .before .before .before .slot-of .ensures) (read .before .before .if2 .left) _
+            (read .record-at .ensures) _
             (c .place-of .ensures),
       )
 
-  place-within : c .place-of .result ≤ began (c .before .before .before .before .before .before .before .before) .args .count
+  place-within : c .place-of .result ≤ began
+      (c .before .before .before .before .before .before .before .before) .args .count
   place-within =
       some-records broadcast [] [] _ _ _ _ _ _ (began read .pre .0) 0 _ _
       (read .before .before .before .slot-of .ensures) (read .before .before .if2 .left) _ (read .record-at .ensures) _
@@ -70,7 +74,8 @@ returns-2 : tie.Need-returns-2
 returns-2 c = λ sizes day series.
     let within = c .before .before .before in
     let start = entry within in
-    move-absent sizes day series _ _ _ _ _ _ (start .pre .0) (start .args .at) _ _ (in-range within) _ (c .before .slot-of .ensures)
+    move-absent sizes day series _ _ _ _ _ _ (start .pre .0) (start .args .at) _ _ (in-range within) _
+    (c .before .slot-of .ensures)
     (c .if2 .taken)
 
 sub-record-at : tie.Need-sub-record-at
@@ -96,11 +101,14 @@ returns-3 c = λ sizes day series.
     let found = c .before .before .before in
     let read = found .before .before .before in
     let start = began read in
-    move-taken sizes day series _ _ _ _ _ _ (start .pre .0) (start .args .at) _ _ (in-range (passed read)) _ (read .before .before .before .slot-of .ensures)
-    (read .before .before .if2 .left) _ (read .record-at .ensures) _ (found .place-in .ensures) (c .before .if3 .taken) (c .if4 .taken)
+    move-taken sizes day series _ _ _ _ _ _ (start .pre .0) (start .args .at) _ _ (in-range (passed read)) _
+    (read .before .before .before .slot-of .ensures)
+    (read .before .before .if2 .left) _ (read .record-at .ensures) _ (found .place-in .ensures) (c .before .if3 .taken)
+    (c .if4 .taken)
 
 place-of-requires : tie.Need-place-of-requires
-place-of-requires c κs = kept-ordered _ _ _ _ _ _ (began (c .before .before .before .before .before .before .before) .pre .0)
+place-of-requires c κs =
+    kept-ordered _ _ _ _ _ _ (began (c .before .before .before .before .before .before .before) .pre .0)
 
 sub-take-out-record : tie.Need-sub-take-out-record
 sub-take-out-record c = omega (arith, place-some (c .before .before))
@@ -111,7 +119,8 @@ take-out-record-requires c κs =
     let start = began read in
     omega (
       arith,
-      id-small broadcast [] [] _ _ _ _ _ _ (start .pre .0) 0 _ _ (read .before .before .before .slot-of .ensures) (read .before .before .if2 .left),
+      id-small broadcast [] [] _ _ _ _ _ _ (start .pre .0) 0 _ _ (read .before .before .before .slot-of .ensures)
+          (read .before .before .if2 .left),
       start .pre .0 .index .idsSize,
     )
 
@@ -140,7 +149,8 @@ add-record-requires c κs =
 
 add-t23 : tie.Need-add-t23
 add-t23 c =
-    let found = c .before .before .before .before .before .before .before .before .before .before .before .before .before .before .before .before .before .before in
+    let found =
+    c .before .before .before .before .before .before .before .before .before .before .before .before .before .before .before .before .before .before in
     omega (arith, began (found .before .before .before .before .before .before .before .before) .pre .1)
 
 same-length-5 : tie.Need-same-length-5
@@ -162,14 +172,19 @@ returns-4 c = λ sizes day series.
     let tried = joined .before .before in
     let read = tried .before .before .before in
     let start = began read in
-    move-goes sizes day series _ _ _ _ _ _ (start .pre .0) (start .args .at) _ _ (in-range (passed read)) _ (read .before .before .before .slot-of .ensures)
-    (read .before .before .if2 .left) _ (read .record-at .ensures) _ (found .place-of .ensures) _ _ (out .take-out-record .ensures)
+    move-goes sizes day series _ _ _ _ _ _ (start .pre .0) (start .args .at) _ _ (in-range (passed read)) _
+    (read .before .before .before .slot-of .ensures)
+    (read .before .before .if2 .left) _ (read .record-at .ensures) _ (found .place-of .ensures) _ _
+    (out .take-out-record .ensures)
     (elim (joined .if3 .came) [
       | inl w ↦
-          free-other sizes day series _ _ _ _ _ _ (start .pre .0) (start .args .at) _ _ (in-range (passed read)) _ (read .before .before .before .slot-of .ensures)
-          (read .before .before .if2 .left) _ (read .record-at .ensures) _ (tried .place-in .ensures) (w .0 .taken) (w .1 .left)
+          free-other sizes day series _ _ _ _ _ _ (start .pre .0) (start .args .at) _ _ (in-range (passed read)) _
+          (read .before .before .before .slot-of .ensures)
+          (read .before .before .if2 .left) _ (read .record-at .ensures) _ (tried .place-in .ensures) (w .0 .taken)
+          (w .1 .left)
       | inr w ↦
-          free-own sizes day series _ _ _ _ _ _ (start .pre .0) (start .args .at) _ _ (in-range (passed read)) _ (read .before .before .before .slot-of .ensures)
+          free-own sizes day series _ _ _ _ _ _ (start .pre .0) (start .args .at) _ _ (in-range (passed read)) _
+          (read .before .before .before .slot-of .ensures)
           (read .before .before .if2 .left) _ (read .record-at .ensures) (w .left)
     ])
     (start .pre .1)

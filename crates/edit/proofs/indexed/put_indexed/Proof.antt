@@ -1,4 +1,5 @@
--- `put_indexed` meets its contract: each return by its own law of PutLaws, from what the callees ensure. Assumes nothing.
+-- `put_indexed` meets its contract: each return by its own law of PutLaws, from what the callees ensure.
+-- Assumes nothing.
 use mathlib.Core.Path.{_≡_, sym, _∙_}
 use mathlib.Core.Bool.{true}
 use mathlib.Core.Logic.{inl, inr}
@@ -23,7 +24,8 @@ module _ (c : tie.Else1) where
   in-range = sym (c .before .is-in-range .ensures) ∙ not-false (c .before .is-in-range .result) (c .if1 .left)
 
 -- and has a chain
-has-part : (c : tie.Else2) → let a = entry (c .before .before) .args in hasChain (lentPools (now (a .day)) (now (a .series))) (a .event) ≡ true
+has-part : (c : tie.Else2) → let a =
+    entry (c .before .before) .args in hasChain (lentPools (now (a .day)) (now (a .series))) (a .event) ≡ true
 has-part c = sym (c .before .has-chain .ensures) ∙ not-false (c .before .has-chain .result) (c .if2 .left)
 
 is-in-range-requires : tie.Need-is-in-range-requires
@@ -56,11 +58,13 @@ returns-3 c =
     let chained = c .before .before .before in
     let within = chained .before .before in
     let start = entry within in
-    put-present (start .args .sizes) _ _ _ _ _ _ _ _ (start .pre .0) (start .args .at) _ (in-range within) (has-part chained)
+    put-present (start .args .sizes) _ _ _ _ _ _ _ _ (start .pre .0) (start .args .at) _ (in-range within)
+    (has-part chained)
     _ (c .before .slot-of .ensures) (c .if3 .taken)
 
 place-in-requires : tie.Need-place-in-requires
-place-in-requires c κs = kept-ordered _ _ _ _ _ _ (entry (c .before .before .before .before .before .before .before) .pre .0)
+place-in-requires c κs =
+    kept-ordered _ _ _ _ _ _ (entry (c .before .before .before .before .before .before .before) .pre .0)
 
 same-length-2 : tie.Need-same-length-2
 same-length-2 c = search needs
@@ -78,7 +82,8 @@ returns-4 c =
     let chained = new .before .before .before in
     let within = chained .before .before in
     let start = entry within in
-    put-taken (start .args .sizes) _ _ _ _ _ _ _ _ (start .pre .0) (start .args .at) _ (in-range within) (has-part chained)
+    put-taken (start .args .sizes) _ _ _ _ _ _ _ _ (start .pre .0) (start .args .at) _ (in-range within)
+    (has-part chained)
     _ (new .before .slot-of .ensures) (new .if3 .left) _ (found .place-in .ensures) (c .if4 .taken)
 
 same-length-5 : tie.Need-same-length-5
@@ -97,7 +102,8 @@ returns-5 c =
     let chained = new .before .before .before in
     let within = chained .before .before in
     let start = entry within in
-    put-full (start .args .sizes) _ _ _ _ _ _ _ _ (start .pre .0) (start .args .at) _ (in-range within) (has-part chained)
+    put-full (start .args .sizes) _ _ _ _ _ _ _ _ (start .pre .0) (start .args .at) _ (in-range within)
+    (has-part chained)
     _ (new .before .slot-of .ensures) (new .if3 .left) _ (found .place-in .ensures) (c .before .before .if4 .left)
     (elim (c .if5 .came) [ inl w ↦ omega arith | inr w ↦ omega (arith, leb-true) ])
 
@@ -135,8 +141,10 @@ returns-6 c =
     let chained = new .before .before .before in
     let within = chained .before .before in
     let start = entry within in
-    put-goes-in (start .args .sizes) _ _ _ _ _ _ _ _ (start .pre .0) (start .args .at) _ (in-range within) (has-part chained)
-    _ (new .before .slot-of .ensures) (new .if3 .left) _ (found .place-in .ensures) (room .before .before .before .if4 .left)
+    put-goes-in (start .args .sizes) _ _ _ _ _ _ _ _ (start .pre .0) (start .args .at) _ (in-range within)
+    (has-part chained)
+    _ (new .before .slot-of .ensures) (new .if3 .left) _ (found .place-in .ensures)
+    (room .before .before .before .if4 .left)
     (omega arith) (omega (arith, leb-false)) (start .pre .2) (start .pre .1) _ _ _ (added .add-record .ensures)
 
 pub put-indexed-spec : {M : Type 1} → statement M

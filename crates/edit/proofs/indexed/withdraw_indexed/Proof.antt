@@ -1,10 +1,12 @@
--- `withdraw_indexed` meets its contract: each return by its own law of IndexedLaws, from what the callees ensure. Assumes nothing.
+-- `withdraw_indexed` meets its contract: each return by its own law of IndexedLaws, from what the callees ensure.
+-- Assumes nothing.
 use mathlib.Core.List.{[]}
 use Prim.Native.Nat.{_≤_, _<_}
 use native.Mathlib.Omega.{arith}
 use borrow.Author.Needs.{needs}
 use Rattle.eit.specs.Sizes.{broadcast}
-use Rattle.edit.proofs.IndexedLaws.{kept-ordered, id-small, its-place, some-records, withdraw-absent, withdraw-present}
+use Rattle.edit.proofs.IndexedLaws.{kept-ordered, id-small, its-place, some-records, withdraw-absent}
+use Rattle.edit.proofs.IndexedLaws.{withdraw-present}
 use Rattle.edit.proofs.indexed.withdraw_indexed.Statement.{statement}
 use Rattle.edit.proofs.indexed.withdraw_indexed.Tie as tie
 
@@ -18,14 +20,16 @@ module _ (c : tie.After-place-of) where
       omega (
         arith,
         its-place broadcast [] [] _ _ _ _ _ _ (entry .pre) 0 _ _
-            (c .before .before .before .before .slot-of .ensures) (c .before .before .before .if1 .left) _ (c .before .before .record-at .ensures) _
+            (c .before .before .before .before .slot-of .ensures) (c .before .before .before .if1 .left) _
+            (c .before .before .record-at .ensures) _
             (c .place-of .ensures),
       )
 
   place-within : c .place-of .result ≤ entry .args .count
   place-within =
       some-records broadcast [] [] _ _ _ _ _ _ (entry .pre) 0 _ _
-      (c .before .before .before .before .slot-of .ensures) (c .before .before .before .if1 .left) _ (c .before .before .record-at .ensures) _
+      (c .before .before .before .before .slot-of .ensures) (c .before .before .before .if1 .left) _
+      (c .before .before .record-at .ensures) _
       (c .place-of .ensures)
 
 slot-of-requires : tie.Need-slot-of-requires
@@ -37,7 +41,8 @@ same-length c = search needs
 returns : tie.Need-returns
 returns c = λ sizes day series.
     let start = c .before .before .before .before .before .before .before in
-    withdraw-absent sizes day series _ _ _ _ _ _ (start .pre) (start .args .at) _ _ (c .before .slot-of .ensures) (c .if1 .taken)
+    withdraw-absent sizes day series _ _ _ _ _ _ (start .pre) (start .args .at) _ _ (c .before .slot-of .ensures)
+    (c .if1 .taken)
 
 sub-record-at : tie.Need-sub-record-at
 sub-record-at c = search needs
@@ -46,7 +51,8 @@ record-at-requires : tie.Need-record-at-requires
 record-at-requires c κs = search needs
 
 place-of-requires : tie.Need-place-of-requires
-place-of-requires c κs = kept-ordered _ _ _ _ _ _ (c .before .before .before .before .before .before .before .before .before .pre)
+place-of-requires c κs =
+    kept-ordered _ _ _ _ _ _ (c .before .before .before .before .before .before .before .before .before .pre)
 
 sub-take-out-record : tie.Need-sub-take-out-record
 sub-take-out-record c = omega (arith, place-some (c .before .before))
@@ -89,8 +95,10 @@ returns-2 c = λ sizes day series.
     let out = c .before .before .before .before .before .before .before .before in
     let found = out .before .before .before in
     let start = entry found in
-    withdraw-present sizes day series _ _ _ _ _ _ (start .pre) (start .args .at) _ _ (found .before .before .before .before .slot-of .ensures)
-    (found .before .before .before .if1 .left) _ (found .before .before .record-at .ensures) _ (found .place-of .ensures) _ _ _
+    withdraw-present sizes day series _ _ _ _ _ _ (start .pre) (start .args .at) _ _
+    (found .before .before .before .before .slot-of .ensures)
+    (found .before .before .before .if1 .left) _ (found .before .before .record-at .ensures) _
+    (found .place-of .ensures) _ _ _
     (c .before .before .write-record .ensures)
     (out .take-out-record .ensures)
 

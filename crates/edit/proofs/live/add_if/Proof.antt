@@ -20,7 +20,10 @@ slice-read-places c = search needs
 add-places : tie.Need-add-places
 add-places c =
     let start = c .before .args in
-    record { fits = added-room (start .places .now) (start .place) (c .before .pre .1) (start .is-undo) (c .slice-known .given (start .place / 64) .fits) }
+    record {
+      fits = added-room (start .places .now) (start .place) (c .before .pre .1) (start .is-undo)
+          (c .slice-known .given (start .place / 64) .fits);
+    }
 
 slice-write-places : tie.Need-slice-write-places
 slice-write-places c = search needs
@@ -35,4 +38,5 @@ returns c =
 
 pub add-if-spec : {M : Type 1} → statement M
 add-if-spec =
-    tie.close (tie.spec cast-places shl-places mul-places slice-read-places add-places slice-write-places same-length returns)
+    tie.close (tie.spec cast-places shl-places mul-places slice-read-places add-places slice-write-places same-length
+    returns)

@@ -1,5 +1,5 @@
--- `live::live_in` meets its contract. The loop's invariant: the pass stands before `place` as `StruckFrom` says. The measure is the place.
--- Assumes nothing.
+-- `live::live_in` meets its contract. The loop's invariant: the pass stands before `place` as `StruckFrom` says. The
+-- measure is the place. Assumes nothing.
 use Prim.Native.Nat.{_≤_}
 use native.Mathlib.Omega.{arith}
 use denote.Ref.{now}
@@ -10,7 +10,8 @@ use Rattle.edit.proofs.live.live_in.Statement.{statement}
 use Rattle.edit.proofs.live.live_in.Tie as tie
 
 abbrev Inv-loop : tie.InvT-loop
-Inv-loop undo-places k undos live-places₀ pending₀ place₀ live-places pending place = StruckFrom undo-places k undos live-places₀ live-places pending place
+Inv-loop undo-places k undos live-places₀ pending₀ place₀ live-places pending place =
+    StruckFrom undo-places k undos live-places₀ live-places pending place
 
 abbrev μ-loop : tie.MeasureT-loop
 μ-loop undo-places k undos live-places₀ pending₀ place₀ live-places pending place = place
@@ -62,7 +63,8 @@ loop-again c =
     let turn = asked .before in
     let entry = turn .before .before .before .before in
     let start = entry .args in
-    struck-live (now (start .undo-places)) (start .k) (start .undos) (now (start .live-places)) (turn .before .loop .inv)
+    struck-live (now (start .undo-places)) (start .k) (start .undos) (now (start .live-places))
+    (turn .before .loop .inv)
     (turn .loop-test .taken) (asked .is-seen .result) (asked .is-seen .ensures) (unpending .if1 .taken)
     (omega (arith, turn .before .loop .inv .few, entry .pre .0)) (added .add-seen .ensures)
 
@@ -92,7 +94,8 @@ same-length c = search needs
 returns : tie.Need-returns Inv-loop μ-loop
 returns c =
     let start = c .before .before .before .before .args in
-    struck-all (now (start .undo-places)) (start .k) (start .undos) (now (start .live-places)) (c .before .loop .inv) (c .loop-test .left)
+    struck-all (now (start .undo-places)) (start .k) (start .undos) (now (start .live-places)) (c .before .loop .inv)
+    (c .loop-test .left)
 
 pub live-in-spec : {M : Type 1} → statement M
 live-in-spec =

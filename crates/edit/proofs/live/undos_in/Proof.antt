@@ -1,5 +1,5 @@
--- `live::undos_in` meets its contract. The loop's invariant: the command at `place` stands at i, and the set has the UNDOs before it.
--- The measure is how many places are left. Assumes nothing.
+-- `live::undos_in` meets its contract. The loop's invariant: the command at `place` stands at i, and the set has the
+-- UNDOs before it. The measure is how many places are left. Assumes nothing.
 use mathlib.Core.Path.{_≡_, ap}
 use mathlib.Core.List.{List}
 use Prim.Native.Nat.{ℕ, _+_, _-_, _≤_}
@@ -26,7 +26,8 @@ loop-holds c =
     let entry = c .before .before in
     let start = entry .args in (
       stands-first (now (start .script)) (start .at) (start .k) (entry .pre .0),
-      noted-none (now (start .undo-places)) (take (start .k) (commandsAt (start .at) (now (start .script)))) (entry .pre .2),
+      noted-none (now (start .undo-places)) (take (start .k) (commandsAt (start .at) (now (start .script))))
+          (entry .pre .2),
     )
 
 shared-slice-read-add-if : tie.Need-shared-slice-read-add-if Inv-loop μ-loop
@@ -35,8 +36,10 @@ shared-slice-read-add-if c = stands-here (c .before .before .before .loop .inv .
 add-if-requires : tie.Need-add-if-requires Inv-loop μ-loop
 add-if-requires c κs =
     let turn = c .before .before in
-    let noted = turn .before .loop .inv .1 in
-    (omega (arith, turn .loop-test .taken, noted .size, turn .before .before .before .before .pre .1), noted .clear (turn .before .loop .place) (omega arith))
+    let noted = turn .before .loop .inv .1 in (
+      omega (arith, turn .loop-test .taken, noted .size, turn .before .before .before .before .pre .1),
+      noted .clear (turn .before .loop .place) (omega arith),
+    )
 
 shared-slice-read-operand-bytes : tie.Need-shared-slice-read-operand-bytes Inv-loop μ-loop
 shared-slice-read-operand-bytes c =
@@ -54,7 +57,9 @@ module _ (c : tie.After-operand-bytes Inv-loop μ-loop) where
   abbrev next : ℕ
   next = turn .before .loop .i + (1 + c .operand-bytes .result)
 
-  there : next ≡ turn .before .loop .i + (1 + operandBytes (getD (now (turn .before .before .before .before .args .script)) (turn .before .loop .i) 0))
+  there : next
+      ≡ turn .before .loop .i
+      + (1 + operandBytes (getD (now (turn .before .before .before .before .args .script)) (turn .before .loop .i) 0))
   there = ap (λ (n : ℕ). turn .before .loop .i + (1 + n)) (c .operand-bytes .ensures)
 
   inside : next ≤ length (now (turn .before .before .before .before .args .script))
@@ -80,7 +85,8 @@ loop-again c =
     let cs : List Command = take (start .args .k) (commandsAt (start .args .at) (now (start .args .script))) in
     let stands = head .loop .inv .0 in (
       stands-next stands some (next c) (there c),
-      noted-next (now (start .args .undo-places)) cs (head .loop .inv .1) _ (begins-is stands some) (omega (arith, some, start .pre .1))
+      noted-next (now (start .args .undo-places)) cs (head .loop .inv .1) _ (begins-is stands some)
+          (omega (arith, some, start .pre .1))
           (c .before .before .before .before .add-if .ensures),
     )
 

@@ -1,5 +1,5 @@
--- `part::run_part` meets its contract: nothing is left to carry out, or the part is short, or there are two halves, one after the other.
--- The measure is how many commands there are. Assumes nothing.
+-- `part::run_part` meets its contract: nothing is left to carry out, or the part is short, or there are two halves, one
+-- after the other. The measure is how many commands there are. Assumes nothing.
 use mathlib.Core.Path.{sym, _∙_}
 use Prim.Native.Nat.{ℕ, _-_, _/_, _<_, _≤_}
 use native.Mathlib.Omega.{arith}
@@ -49,14 +49,20 @@ claims t = (
 run-part-returns : (t : ℕ) → run-part-lts.Need-returns (claims t) (run-part-at t) run-part.Post
 run-part-returns t c =
     let start = c .before .before .before .before .before .args in
-    part-struck (start .sizes) (now (start .day)) (now (start .series)) (lentList (now (start .list)) (start .count)) (now (start .script))
+    part-struck (start .sizes) (now (start .day)) (now (start .series)) (lentList (now (start .list)) (start .count))
+    (now (start .script))
     (start .undos) (start .k) (start .at) (c .if1 .taken)
 
 run-part-run-short-requires : (t : ℕ) → run-part-lts.Need-run-short-requires (claims t) (run-part-at t) run-part.Post
 run-part-run-short-requires t c κs =
     let short = c .before in
-    let entry = short .before .before .before .before .before .before in
-    (entry .pre .1 .0, entry .pre .1 .1, short .if2 .taken, omega (arith, short .if2 .taken, short .before .if1 .left), entry .pre .1 .2)
+    let entry = short .before .before .before .before .before .before in (
+      entry .pre .1 .0,
+      entry .pre .1 .1,
+      short .if2 .taken,
+      omega (arith, short .if2 .taken, short .before .if1 .left),
+      entry .pre .1 .2,
+    )
 
 run-part-same-length : (t : ℕ) → run-part-lts.Need-same-length (claims t) (run-part-at t) run-part.Post
 run-part-same-length t c = search needs
@@ -67,7 +73,8 @@ run-part-returns-2 t c = c .before .before .run-short .ensures
 run-part-sub-rest : (t : ℕ) → run-part-lts.Need-sub-rest (claims t) (run-part-at t) run-part.Post
 run-part-sub-rest t c = omega arith
 
-run-part-skip-commands-requires : (t : ℕ) → run-part-lts.Need-skip-commands-requires (claims t) (run-part-at t) run-part.Post
+run-part-skip-commands-requires : (t : ℕ)
+    → run-part-lts.Need-skip-commands-requires (claims t) (run-part-at t) run-part.Post
 run-part-skip-commands-requires t c κs = search needs
 
 -- the second half lies within the commands
@@ -77,10 +84,12 @@ behind : (t : ℕ) (c : run-part-lts.After-skip-commands (claims t) (run-part-at
 behind t c =
     let entry = c .before .before .before .before .before .before .before in
     let start = entry .args in
-    half-within (now (start .script)) (start .k) (start .at) (start .k / 2) (c .skip-commands .result) (omega arith) (c .skip-commands .ensures)
+    half-within (now (start .script)) (start .k) (start .at) (start .k / 2) (c .skip-commands .result) (omega arith)
+    (c .skip-commands .ensures)
     (entry .pre .1 .1)
 
-run-part-pending-before-requires : (t : ℕ) → run-part-lts.Need-pending-before-requires (claims t) (run-part-at t) run-part.Post
+run-part-pending-before-requires : (t : ℕ)
+    → run-part-lts.Need-pending-before-requires (claims t) (run-part-at t) run-part.Post
 run-part-pending-before-requires t c κs =
     let few = c .before .before in
     let entry = few .before .before .before .before .before in
@@ -91,8 +100,10 @@ run-part-run-part-requires : (t : ℕ) → run-part-lts.Need-run-part-requires (
 run-part-run-part-requires t c κs =
     let many = c .before .before .before in
     let few = many .before in
-    let entry = few .before .before .before .before .before in
-    (omega (arith, entry .pre .0, few .if1 .left, many .if2 .left), (entry .pre .1 .0, omega (arith, entry .pre .1 .1), entry .pre .1 .2))
+    let entry = few .before .before .before .before .before in (
+      omega (arith, entry .pre .0, few .if1 .left, many .if2 .left),
+      (entry .pre .1 .0, omega (arith, entry .pre .1 .1), entry .pre .1 .2),
+    )
 
 run-part-number-of-requires : (t : ℕ) → run-part-lts.Need-number-of-requires (claims t) (run-part-at t) run-part.Post
 run-part-number-of-requires t c κs = search needs
@@ -107,8 +118,10 @@ run-part-returns-3 t c =
     let skips = before .before in
     let entry = skips .before .before .before .before .before .before .before in
     let start = entry .args in
-    half-ends (start .sizes) (now (start .day)) (now (start .series)) (lentList (now (start .list)) (start .count)) (now (start .script))
-    (start .undos) (start .k) (start .at) (start .k / 2) (skips .skip-commands .result) (omega arith) (skips .skip-commands .ensures)
+    half-ends (start .sizes) (now (start .day)) (now (start .series)) (lentList (now (start .list)) (start .count))
+    (now (start .script))
+    (start .undos) (start .k) (start .at) (start .k / 2) (skips .skip-commands .result) (omega arith)
+    (skips .skip-commands .ensures)
     (before .pending-before .result) (before .pending-before .ensures) _ (half .run-part .ensures)
     (λ z. c .if3 .taken (c .before .number-of .ensures ∙ z))
 
@@ -123,7 +136,8 @@ run-part-run-part-requires-2 t c κs =
     let start = entry .args in (
       omega (arith, entry .pre .0, few .if1 .left, many .if2 .left),
       (
-        part-sound (start .sizes) (now (start .day)) (now (start .series)) (lentList (now (start .list)) (start .count)) (now (start .script))
+        part-sound (start .sizes) (now (start .day)) (now (start .series)) (lentList (now (start .list)) (start .count))
+            (now (start .script))
             (before .pending-before .result) (start .k / 2) (start .at) _ (half .run-part .ensures) (entry .pre .1 .0),
         behind t skips,
         entry .pre .1 .2,
@@ -142,8 +156,10 @@ run-part-returns-4 t c =
     let skips = before .before in
     let entry = skips .before .before .before .before .before .before .before in
     let start = entry .args in
-    half-goes-on (start .sizes) (now (start .day)) (now (start .series)) (lentList (now (start .list)) (start .count)) (now (start .script))
-    (start .undos) (start .k) (start .at) (start .k / 2) (skips .skip-commands .result) (omega arith) (skips .skip-commands .ensures)
+    half-goes-on (start .sizes) (now (start .day)) (now (start .series)) (lentList (now (start .list)) (start .count))
+    (now (start .script))
+    (start .undos) (start .k) (start .at) (start .k / 2) (skips .skip-commands .result) (omega arith)
+    (skips .skip-commands .ensures)
     (before .pending-before .result) (before .pending-before .ensures) _ (half .run-part .ensures)
     (sym (done .before .number-of .ensures) ∙ done .if3 .left)
     ∙ second .run-part2 .ensures

@@ -1,6 +1,6 @@
--- `part::pending_before` meets its contract. The loop's invariant: as many UNDOs are pending before all k commands as come from those
--- that are left with `kept` edits and `over` UNDOs before them, and each of these is one of the commands passed. The measure is how many
--- are left. Assumes nothing.
+-- `part::pending_before` meets its contract. The loop's invariant: as many UNDOs are pending before all k commands as
+-- come from those that are left with `kept` edits and `over` UNDOs before them, and each of these is one of the
+-- commands passed. The measure is how many are left. Assumes nothing.
 use mathlib.Core.Path.{_≡_, sym, ap, _∙_}
 use mathlib.Core.List.{List}
 use Prim.Native.Nat.{ℕ, _+_, _-_, _≤_, _<_}
@@ -21,7 +21,8 @@ use Rattle.edit.proofs.part.pending_before.Tie as tie
 abbrev Inv-loop : tie.InvT-loop
 Inv-loop script at k undos over₀ kept₀ i₀ left₀ over kept i left =
     (left ≤ length (commandsAt i script)) × (over + kept + left ≤ k)
-    × (pendingBefore undos (take k (commandsAt at script)) ≡ pendingAfter over kept undos (take left (commandsAt i script)))
+    × (pendingBefore undos (take k (commandsAt at script))
+    ≡ pendingAfter over kept undos (take left (commandsAt i script)))
 
 abbrev μ-loop : tie.MeasureT-loop
 μ-loop script at k undos over₀ kept₀ i₀ left₀ over kept i left = left
@@ -33,13 +34,15 @@ loop-holds c = (c .before .pre .0, omega arith, omega arith)
 abbrev bytes : tie.At-loop Inv-loop μ-loop → List ℕ
 bytes head = head .before .before .args .script .now
 
-few : (head : tie.At-loop Inv-loop μ-loop) → head .loop .over + head .loop .kept + head .loop .left ≤ length (bytes head)
+few : (head : tie.At-loop Inv-loop μ-loop)
+    → head .loop .over + head .loop .kept + head .loop .left ≤ length (bytes head)
 few head =
     let start = head .before .before in
     omega (arith, head .loop .inv .1, start .pre .0, commands-fit (bytes head) (start .args .at))
 
 whole : (c : tie.In-loop Inv-loop μ-loop) → T (isWholeAt (c .before .loop .i) (bytes (c .before)))
-whole c = part-whole (bytes (c .before)) (c .before .loop .i) (omega (arith, c .before .loop .inv .0, c .loop-test .taken))
+whole c = part-whole (bytes (c .before)) (c .before .loop .i)
+    (omega (arith, c .before .loop .inv .0, c .loop-test .taken))
 
 here : (c : tie.In-loop Inv-loop μ-loop) → c .before .loop .i < length (bytes (c .before))
 here c = whole-here (c .before .loop .i) (bytes (c .before)) (whole c)
@@ -61,7 +64,8 @@ cast-unmet : tie.Need-cast-unmet Inv-loop μ-loop
 cast-unmet c = search needs
 
 -- a turn's counts stay below the script's length
-unmet-few : (c : tie.In-loop Inv-loop μ-loop) → unmetByte (c .before .loop .kept) (getD (bytes (c .before)) (c .before .loop .i) 0) ≤ 1
+unmet-few : (c : tie.In-loop Inv-loop μ-loop)
+    → unmetByte (c .before .loop .kept) (getD (bytes (c .before)) (c .before .loop .i) 0) ≤ 1
 unmet-few c = byte-few (ltb (c .before .loop .kept) (undoByte (getD (bytes (c .before)) (c .before .loop .i) 0)))
 
 add-over : tie.Need-add-over Inv-loop μ-loop
@@ -83,7 +87,8 @@ mul-kept : tie.Need-mul-kept Inv-loop μ-loop
 mul-kept c = omega (arith, byte-few (eqb (getD (bytes (c .before .before)) (c .before .before .loop .i) 0) 0x04))
 
 sub-kept : tie.Need-sub-kept Inv-loop μ-loop
-sub-kept c = pending-room (c .before .before .loop .kept) (getD (bytes (c .before .before)) (c .before .before .loop .i) 0)
+sub-kept c =
+    pending-room (c .before .before .loop .kept) (getD (bytes (c .before .before)) (c .before .before .loop .i) 0)
 
 shared-slice-read-operand-bytes : tie.Need-shared-slice-read-operand-bytes Inv-loop μ-loop
 shared-slice-read-operand-bytes c = here (c .before .before)
@@ -115,7 +120,8 @@ loop-again c =
       omega (arith, head .loop .inv .0, some, count-next (bytes head) i next there (whole turn)),
       omega (arith, head .loop .inv .1, some, pending-few (head .loop .kept) code (head .loop .over)),
       head .loop .inv .2
-          ∙ pending-on (head .loop .over) (head .loop .kept) (head .before .before .args .undos) (head .loop .left) i (bytes head) next there
+          ∙ pending-on (head .loop .over) (head .loop .kept) (head .before .before .args .undos) (head .loop .left) i
+          (bytes head) next there
           (whole turn) some,
     )
 
@@ -123,13 +129,15 @@ loop-again c =
 ended : (c : tie.After-loop Inv-loop μ-loop)
     → let head = c .before in
     let start = head .before .before .args in
-    pendingBefore (start .undos) (take (start .k) (commandsAt (start .at) (bytes head))) ≡ head .loop .over + (start .undos - head .loop .kept)
+    pendingBefore (start .undos) (take (start .k) (commandsAt (start .at) (bytes head)))
+    ≡ head .loop .over + (start .undos - head .loop .kept)
 ended c =
     let head = c .before in
     let start = head .before .before .args in
     let none : head .loop .left ≡ 0 = omega (arith, c .loop-test .left) in
     head .loop .inv .2
-    ∙ ap (λ (k : ℕ). pendingAfter (head .loop .over) (head .loop .kept) (start .undos) (take k (commandsAt (head .loop .i) (bytes head)))) none
+    ∙ ap (λ (k : ℕ). pendingAfter (head .loop .over) (head .loop .kept) (start .undos)
+    (take k (commandsAt (head .loop .i) (bytes head)))) none
 
 returns : tie.Need-returns Inv-loop μ-loop
 returns c = omega (arith, ended (c .before), c .if1 .taken)
@@ -138,7 +146,13 @@ sub-result : tie.Need-sub-result Inv-loop μ-loop
 sub-result c = omega arith
 
 add-result : tie.Need-add-result Inv-loop μ-loop
-add-result c = omega (arith, few (c .before .before), c .before .before .before .before .pre .1, c .before .before .before .before .good)
+add-result c =
+    omega (
+      arith,
+      few (c .before .before),
+      c .before .before .before .before .pre .1,
+      c .before .before .before .before .good,
+    )
 
 returns-2 : tie.Need-returns-2 Inv-loop μ-loop
 returns-2 c = sym (ended (c .before))

@@ -1,5 +1,6 @@
--- `part::run_indexed` meets its contract. The loop's invariant: the command at `place` stands at i, the live edits before it are carried
--- out, and the index stands for the list then. The measure is how many places are left. Assumes nothing.
+-- `part::run_indexed` meets its contract. The loop's invariant: the command at `place` stands at i, the live edits
+-- before it are carried out, and the index stands for the list then. The measure is how many places are left.
+-- Assumes nothing.
 use mathlib.Core.Path.{_≡_, refl, sym, ap, _∙_}
 use mathlib.Core.Logic.{⊎-elim}
 use mathlib.Core.List.{List}
@@ -14,30 +15,40 @@ use Rattle.edit_scan.specs.Commands.{modelCommand, commandsAt}
 use Rattle.edit_index.specs.Index.{indexedList}
 use Rattle.edit.proofs.PlaceLaws.{Stands, stands-first, stands-here, stands-inside, stands-next, stands-split}
 use Rattle.edit.proofs.ForwardLaws.{carried-all, carried-ends}
-use Rattle.edit.proofs.IndexRunLaws.{Running, running-first, running-same, running-kept, running-few, running-past, running-on}
+use Rattle.edit.proofs.IndexRunLaws.{Running, running-first, running-same, running-kept, running-few}
+use Rattle.edit.proofs.IndexRunLaws.{running-past, running-on}
 use Rattle.edit.proofs.part.run_indexed.Statement.{statement}
 use Rattle.edit.proofs.part.run_indexed.Tie as tie
 
 abbrev Inv-loop : tie.InvT-loop
-Inv-loop list₀ slots₀ order₀ ids₀ count day series sizes script at k live-places held₀ used₀ i₀ place₀ list slots order ids held used i place =
+Inv-loop list₀ slots₀ order₀ ids₀ count day series sizes script at k live-places held₀ used₀ i₀ place₀ list slots order
+    ids held used i place =
     Stands script at k place i
-    × Running sizes day series (indexedList list₀ slots₀ order₀ count) live-places (take k (commandsAt at script)) (length list₀)
+    × Running sizes day series (indexedList list₀ slots₀ order₀ count) live-places (take k (commandsAt at script))
+    (length list₀)
     list slots order ids held used place
 
 abbrev μ-loop : tie.MeasureT-loop
-μ-loop list₀ slots₀ order₀ ids₀ count day series sizes script at k live-places held₀ used₀ i₀ place₀ list slots order ids held used i place = k - place
+μ-loop list₀ slots₀ order₀ ids₀ count day series sizes script at k live-places held₀ used₀ i₀ place₀ list slots order
+    ids held used i place = k - place
 
 loop-holds : tie.Need-loop-holds Inv-loop μ-loop
 loop-holds c =
     let entry = c .before .before .before .before .before .before .before .before in
     let start = entry .args in (
       stands-first (now (start .script)) (start .at) (start .k) (entry .pre .1),
-      running-first (start .sizes) (now (start .day)) (now (start .series)) (now (start .live-places)) _ _ _ _ _ _ _ (entry .pre .4)
+      running-first (start .sizes) (now (start .day)) (now (start .series)) (now (start .live-places)) _ _ _ _ _ _ _
+          (entry .pre .4)
           (entry .pre .5) (entry .pre .0),
     )
 
 cast-is-seen : tie.Need-cast-is-seen Inv-loop μ-loop
-cast-is-seen c = omega (arith, c .loop-test .taken, c .before .before .before .before .before .before .before .before .before .before .pre .2)
+cast-is-seen c =
+    omega (
+      arith,
+      c .loop-test .taken,
+      c .before .before .before .before .before .before .before .before .before .before .pre .2,
+    )
 
 is-seen-requires : tie.Need-is-seen-requires Inv-loop μ-loop
 is-seen-requires c κs = search needs
@@ -50,7 +61,8 @@ carry-out-requires c κs =
     let head = c .before .before .before .before .before .before .before .before in
     let entry = head .before .before .before .before .before .before .before .before .before in
     let start = entry .args in (
-      running-kept (start .sizes) (now (start .day)) (now (start .series)) _ (now (start .live-places)) _ (head .loop .inv .1),
+      running-kept (start .sizes) (now (start .day)) (now (start .series)) _ (now (start .live-places)) _
+          (head .loop .inv .1),
       entry .pre .3,
     )
 
@@ -66,19 +78,22 @@ same-length c =
 same-length-2 : tie.Need-same-length-2 Inv-loop μ-loop
 same-length-2 c =
     let carries = c .before .before .before .before .before .before .before .before .before .before in
-    let entry = carries .before .before .before .before .before .before .before .before .before .before .before .before .before .before .before .before .before .before in
+    let entry =
+    carries .before .before .before .before .before .before .before .before .before .before .before .before .before .before .before .before .before .before in
     carries .carry-out .ensures .index .slotsSize ∙ sym (entry .pre .4 .slotsSize)
 
 same-length-3 : tie.Need-same-length-3 Inv-loop μ-loop
 same-length-3 c =
     let carries = c .before .before .before .before .before .before .before .before .before .before in
-    let entry = carries .before .before .before .before .before .before .before .before .before .before .before .before .before .before .before .before .before .before in
+    let entry =
+    carries .before .before .before .before .before .before .before .before .before .before .before .before .before .before .before .before .before .before in
     carries .carry-out .ensures .index .orderSize ∙ sym (entry .pre .4 .orderSize)
 
 same-length-4 : tie.Need-same-length-4 Inv-loop μ-loop
 same-length-4 c =
     let carries = c .before .before .before .before .before .before .before .before .before .before in
-    let entry = carries .before .before .before .before .before .before .before .before .before .before .before .before .before .before .before .before .before .before in
+    let entry =
+    carries .before .before .before .before .before .before .before .before .before .before .before .before .before .before .before .before .before .before in
     carries .carry-out .ensures .index .idsSize ∙ sym (entry .pre .4 .idsSize)
 
 -- the place lies among the commands
@@ -88,7 +103,12 @@ among : (c : tie.In-loop Inv-loop μ-loop)
 among c =
     let entry = c .before .before .before .before .before .before .before .before .before .before in
     let start = entry .args in
-    omega (arith, c .loop-test .taken, entry .pre .1, length-take (start .k) (commandsAt (start .at) (now (start .script))))
+    omega (
+      arith,
+      c .loop-test .taken,
+      entry .pre .1,
+      length-take (start .k) (commandsAt (start .at) (now (start .script))),
+    )
 
 returns : tie.Need-returns Inv-loop μ-loop
 returns c =
@@ -100,7 +120,8 @@ returns c =
     let start = head .before .before .before .before .before .before .before .before .before .args in
     let leaves = carries .carry-out .ensures in (
       carried-ends (start .sizes) (now (start .day)) (now (start .series)) _
-          (now (start .live-places)) (take (start .k) (commandsAt (start .at) (now (start .script)))) (head .loop .inv .1 .carried) (among turn)
+          (now (start .live-places)) (take (start .k) (commandsAt (start .at) (now (start .script))))
+          (head .loop .inv .1 .carried) (among turn)
           (modelCommand (head .loop .i) (reads .command-at .result))
           (stands-split (head .loop .inv .0) (turn .loop-test .taken) _ (reads .command-at .ensures))
           (sym (asked .is-seen .ensures) ∙ reads .before .if1 .taken) _ (leaves .says)
@@ -110,7 +131,8 @@ returns c =
     )
 
 shared-slice-read-operand-bytes : tie.Need-shared-slice-read-operand-bytes Inv-loop μ-loop
-shared-slice-read-operand-bytes c = stands-here (c .before .before .before .before .loop .inv .0) (c .before .before .before .loop-test .taken)
+shared-slice-read-operand-bytes c =
+    stands-here (c .before .before .before .before .loop .inv .0) (c .before .before .before .loop-test .taken)
 
 operand-bytes-requires : tie.Need-operand-bytes-requires Inv-loop μ-loop
 operand-bytes-requires c κs = search needs
@@ -121,7 +143,8 @@ module _ (c : tie.After-operand-bytes Inv-loop μ-loop) where
   turn = c .before .before .before .before
 
   abbrev bytes : List ℕ
-  bytes = now (c .before .before .before .before .before .before .before .before .before .before .before .before .before .before .args .script)
+  bytes = now
+      (c .before .before .before .before .before .before .before .before .before .before .before .before .before .before .args .script)
 
   abbrev next : ℕ
   next = turn .before .loop .i + (1 + c .operand-bytes .result)
@@ -157,13 +180,18 @@ loop-again c =
       stands-next stands some (next c) (there c),
       ⊎-elim
           (λ w.
-          running-same (start .sizes) (now (start .day)) (now (start .series)) first places cs (w .17) (w .18) (w .19) (w .20) (w .21) (w .22)
-          (running-on (start .sizes) (now (start .day)) (now (start .series)) first places cs (head .loop .inv .1) (among (turn c))
-          (modelCommand (head .loop .i) (w .1 .result)) (stands-split stands some _ (w .1 .ensures)) (sym (asked .is-seen .ensures) ∙ w .0 .taken)
+          running-same (start .sizes) (now (start .day)) (now (start .series)) first places cs (w .17) (w .18) (w .19)
+          (w .20) (w .21) (w .22)
+          (running-on (start .sizes) (now (start .day)) (now (start .series)) first places cs (head .loop .inv .1)
+          (among (turn c))
+          (modelCommand (head .loop .i) (w .1 .result)) (stands-split stands some _ (w .1 .ensures))
+          (sym (asked .is-seen .ensures) ∙ w .0 .taken)
           _ _ _ _ _ (w .6 .ensures) (w .7 .given) (sym (w .15 .ensures) ∙ w .16 .left)))
           (λ w.
-          running-same (start .sizes) (now (start .day)) (now (start .series)) first places cs (w .1) (w .2) (w .3) (w .4) (w .5) (w .6)
-          (running-past (start .sizes) (now (start .day)) (now (start .series)) first places cs (head .loop .inv .1) (among (turn c)) _
+          running-same (start .sizes) (now (start .day)) (now (start .series)) first places cs (w .1) (w .2) (w .3)
+          (w .4) (w .5) (w .6)
+          (running-past (start .sizes) (now (start .day)) (now (start .series)) first places cs (head .loop .inv .1)
+          (among (turn c)) _
           (stands-split stands some _ refl) (sym (asked .is-seen .ensures) ∙ w .0 .left)))
           (c .before .before .if1 .came),
     )
@@ -191,7 +219,8 @@ returns-2 c =
     let loop = c .before .loop in
     let start = c .before .before .before .before .before .before .before .before .before .before .args in (
       carried-all (start .sizes) (now (start .day)) (now (start .series)) _
-          (now (start .live-places)) (take (start .k) (commandsAt (start .at) (now (start .script)))) (loop .inv .1 .carried)
+          (now (start .live-places)) (take (start .k) (commandsAt (start .at) (now (start .script))))
+          (loop .inv .1 .carried)
           (omega (arith, c .loop-test .left, length-take (start .k) (commandsAt (start .at) (now (start .script))))),
       loop .inv .1 .fits,
       running-few (start .sizes) (now (start .day)) (now (start .series)) _ (now (start .live-places)) _ (loop .inv .1),

@@ -1,5 +1,5 @@
--- `part::run_live` meets its contract: the index that is made stands for the list, and what is written back is what it stands for in the
--- end. Assumes nothing.
+-- `part::run_live` meets its contract: the index that is made stands for the list, and what is written back is what it
+-- stands for in the end. Assumes nothing.
 use mathlib.Core.Path.{_≡_, refl, sym, ap, _∙_, subst}
 use Prim.Native.Nat.{ℕ, _*_, _≤_}
 use lib.Dec.{T}
@@ -30,7 +30,8 @@ load-requires : tie.Need-load-requires
 load-requires c κs =
     let entry = c .before .before .before .before .before .before .before .before .before in
     let start = entry .args in (
-      loadable-sound (start .sizes) (now (start .day)) (now (start .series)) (now (start .list)) (start .count) (entry .pre .3) (entry .pre .0),
+      loadable-sound (start .sizes) (now (start .day)) (now (start .series)) (now (start .list)) (start .count)
+          (entry .pre .3) (entry .pre .0),
       index-zeros _ _ 65_536 (length-replicate {A = ℕ} 24_576 0) (length-replicate {A = ℕ} 2_048 0) refl,
     )
 
@@ -50,10 +51,12 @@ module _ (c : tie.After-load) where
 
   held : entry .args .count * recordSize ≤ length (now (entry .args .list))
   held =
-      sound-held (entry .args .sizes) (now (entry .args .day)) (now (entry .args .series)) (now (entry .args .list)) (entry .args .count)
+      sound-held (entry .args .sizes) (now (entry .args .day)) (now (entry .args .series)) (now (entry .args .list))
+      (entry .args .count)
       (entry .pre .0)
 
-  stands : indexedList (now (entry .args .list)) (c .load .last .1 .1 .0) (c .load .last .1 .1 .1 .0) (entry .args .count)
+  stands : indexedList (now (entry .args .list)) (c .load .last .1 .1 .0) (c .load .last .1 .1 .1 .0)
+      (entry .args .count)
       ≡ lentList (now (entry .args .list)) (entry .args .count)
   stands = loaded-stands (now (entry .args .list)) (entry .args .count) _ _ _ held (c .load .ensures)
 
@@ -90,7 +93,8 @@ returns c = λ undos are.
     let start = entry made .args in
     ap
     (λ (list : EventList).
-    runPart (start .sizes) (now (start .day)) (now (start .series)) list undos (start .k) (start .at) (now (start .script)))
+    runPart (start .sizes) (now (start .day)) (now (start .series)) list undos (start .k) (start .at)
+    (now (start .script)))
     (sym (stands made))
     ∙ runs .run-indexed .ensures .0 undos are
     ∙ ap (outcomeOf (runs .run-indexed .result)) (sym (c .before .before .store .ensures))

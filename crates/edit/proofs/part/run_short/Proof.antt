@@ -46,7 +46,8 @@ returns c =
     let start = entry .args in
     let size = length-take (start .k) (commandsAt (start .at) (now (start .script))) in
     runs .run-live .ensures (start .undos)
-    (strikes .live-in .ensures (take (start .k) (commandsAt (start .at) (now (start .script)))) (omega (arith, size, entry .pre .1))
+    (strikes .live-in .ensures (take (start .k) (commandsAt (start .at) (now (start .script))))
+    (omega (arith, size, entry .pre .1))
     (notes .undos-in .ensures) .0)
 
 pub run-short-spec : {M : Type 1} → statement M

@@ -1,4 +1,5 @@
--- `whole::edit_long` meets its contract: each return by its own law of EditLaws, from the answer of the pass over UNDOs. Assumes nothing.
+-- `whole::edit_long` meets its contract: each return by its own law of EditLaws, from the answer of the pass over
+-- UNDOs. Assumes nothing.
 use mathlib.Core.Path.{sym, _∙_}
 use native.Mathlib.Omega.{arith}
 use denote.Ref.{now}
@@ -20,7 +21,8 @@ returns c =
     let strikes = c .before .before .before in
     let entry = strikes .before .before .before .before .before in
     let start = entry .args in
-    edit-4 (start .sizes) (now (start .day)) (now (start .series)) (lentList (now (start .list)) (start .count)) (now (start .script))
+    edit-4 (start .sizes) (now (start .day)) (now (start .series)) (lentList (now (start .list)) (start .count))
+    (now (start .script))
     (entry .pre .0) (start .k) (entry .pre .1) _ (sym (strikes .strikes-in .ensures) ∙ c .before .at .given .1)
 
 enum-told : tie.Need-enum-told
@@ -28,8 +30,11 @@ enum-told c = search needs
 
 run-part-requires : tie.Need-run-part-requires
 run-part-requires c κs =
-    let entry = c .before .before .before .before .before .before .before .before in
-    (entry .pre .0, omega (arith, form-count-is (now (entry .args .script)) (entry .args .k) (entry .pre .1)), entry .pre .2)
+    let entry = c .before .before .before .before .before .before .before .before in (
+      entry .pre .0,
+      omega (arith, form-count-is (now (entry .args .script)) (entry .args .k) (entry .pre .1)),
+      entry .pre .2,
+    )
 
 same-length : tie.Need-same-length
 same-length c = search needs
@@ -41,9 +46,11 @@ returns-2 c =
     let strikes = enough .before .before in
     let entry = strikes .before .before .before .before .before in
     let start = entry .args in
-    edit-goes-on (start .sizes) (now (start .day)) (now (start .series)) (lentList (now (start .list)) (start .count)) (now (start .script))
+    edit-goes-on (start .sizes) (now (start .day)) (now (start .series)) (lentList (now (start .list)) (start .count))
+    (now (start .script))
     (entry .pre .0) (start .k) (entry .pre .1) (sym (strikes .strikes-in .ensures) ∙ enough .enum-told .given .1)
     ∙ runs .run-part .ensures
 
 pub edit-long-spec : {M : Type 1} → statement M
-edit-long-spec = tie.close (tie.spec strikes-in-requires enum-known-at returns enum-told run-part-requires same-length returns-2)
+edit-long-spec =
+    tie.close (tie.spec strikes-in-requires enum-known-at returns enum-told run-part-requires same-length returns-2)

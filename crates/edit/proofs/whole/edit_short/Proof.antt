@@ -1,5 +1,5 @@
--- `whole::edit_short` meets its contract: where no UNDO is left pending, each has something to strike (`edit-unpending`), and the places
--- that the passes find are those of the live edits. Assumes nothing.
+-- `whole::edit_short` meets its contract: where no UNDO is left pending, each has something to strike
+-- (`edit-unpending`), and the places that the passes find are those of the live edits. Assumes nothing.
 use mathlib.Core.Path.{_≡_, _∙_}
 use Prim.Native.Nat.{ℕ}
 use native.Mathlib.Omega.{arith}
@@ -48,7 +48,8 @@ slice-aggregate-run-live c = search needs
 
 run-live-requires : tie.Need-run-live-requires
 run-live-requires c κs =
-    let entry = c .before .before .before .before .before .before .before .before .before .before .before .before .before .before in
+    let entry =
+    c .before .before .before .before .before .before .before .before .before .before .before .before .before .before in
     let all = form-count-is (now (entry .args .script)) (entry .args .k) (entry .pre .1) in
     (entry .pre .0, omega (arith, all), entry .pre .3, entry .pre .2)
 

@@ -1,5 +1,5 @@
--- `whole::edit_whole` meets its contract: of no command nothing is carried out (`edit-none`); the others by their own functions.
--- Assumes nothing.
+-- `whole::edit_whole` meets its contract: of no command nothing is carried out (`edit-none`); the others by their own
+-- functions. Assumes nothing.
 use denote.Ref.{now}
 use borrow.Author.Needs.{needs}
 use Rattle.eit.specs.Records.{lentList}
@@ -11,7 +11,8 @@ returns : tie.Need-returns
 returns c =
     let entry = c .before .before .before .before .before in
     let start = entry .args in
-    edit-none (start .sizes) (now (start .day)) (now (start .series)) (lentList (now (start .list)) (start .count)) (now (start .script))
+    edit-none (start .sizes) (now (start .day)) (now (start .series)) (lentList (now (start .list)) (start .count))
+    (now (start .script))
     (entry .pre .0) (start .k) (entry .pre .1) (c .if1 .taken)
 
 edit-short-requires : tie.Need-edit-short-requires

@@ -1,5 +1,5 @@
--- `command::command_at` meets its contract: each return is the case of `commandOf` that the tests before it chose, with the operands
--- that stand behind the byte. Assumes nothing.
+-- `command::command_at` meets its contract: each return is the case of `commandOf` that the tests before it chose, with
+-- the operands that stand behind the byte. Assumes nothing.
 use mathlib.Core.Path.{sym}
 use Prim.Native.Nat.{suc}
 use lib.ListN.{getD, drop}
@@ -36,7 +36,8 @@ returns-2 c =
     let known = c .before .before .before .before .before in
     let args = known .before .args in
     let script = args .script .now in
-    read-put script (bytes-all script (λ k. known .shared-slice-known .given k .fits)) (args .at) (c .put-record .result) (c .before .if2 .taken)
+    read-put script (bytes-all script (λ k. known .shared-slice-known .given k .fits)) (args .at)
+    (c .put-record .result) (c .before .if2 .taken)
     (c .put-record .ensures)
 
 read-field-requires : tie.Need-read-field-requires
@@ -47,7 +48,8 @@ returns-3 c =
     let known = c .before .before .before .before .before .before in
     let args = known .before .args in
     let script = args .script .now in
-    read-withdraw script (bytes-all script (λ k. known .shared-slice-known .given k .fits)) (args .at) (c .read-field .result)
+    read-withdraw script (bytes-all script (λ k. known .shared-slice-known .given k .fits)) (args .at)
+    (c .read-field .result)
     (c .before .if3 .taken) (c .read-field .ensures)
 
 read-field-requires-2 : tie.Need-read-field-requires-2
@@ -61,7 +63,8 @@ returns-4 c =
     let known = c .before .before .before .before .before .before .before .before in
     let args = known .before .args in
     let script = args .script .now in
-    read-move script (bytes-all script (λ k. known .shared-slice-known .given k .fits)) (args .at) (c .before .read-field2 .result)
+    read-move script (bytes-all script (λ k. known .shared-slice-known .given k .fits)) (args .at)
+    (c .before .read-field2 .result)
     (c .read-field3 .result) (c .before .before .if4 .taken) (c .before .read-field2 .ensures) (c .read-field3 .ensures)
 
 returns-5 : tie.Need-returns-5
@@ -69,7 +72,8 @@ returns-5 c =
     let args = c .before .before .before .before .before .before .before .args in
     let script = args .script .now in
     let at = args .at in
-    sym (other-command (getD script at 0) (c .before .before .if2 .left) (c .before .if3 .left) (c .if4 .left) at (drop (suc at) script))
+    sym (other-command (getD script at 0) (c .before .before .if2 .left) (c .before .if3 .left) (c .if4 .left) at
+    (drop (suc at) script))
 
 pub command-at-spec : {M : Type 1} → statement M
 command-at-spec =

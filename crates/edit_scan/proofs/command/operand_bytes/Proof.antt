@@ -1,5 +1,5 @@
--- `command::operand_bytes` meets its contract: a code above UNDO's has no operands, and the others are the bytes of one number.
--- Assumes nothing.
+-- `command::operand_bytes` meets its contract: a code above UNDO's has no operands, and the others are the bytes of one
+-- number. Assumes nothing.
 use mathlib.Core.Path.{sym}
 use native.Mathlib.Omega.{arith}
 use borrow.Author.Needs.{needs}
@@ -10,7 +10,8 @@ use Rattle.edit_scan.proofs.command.operand_bytes.Tie as tie
 returns : tie.Need-returns
 returns c =
     let code = c .before .args .code in
-    sym (other-operands code (λ e. omega (arith, c .if1 .taken)) (λ e. omega (arith, c .if1 .taken)) (λ e. omega (arith, c .if1 .taken)))
+    sym (other-operands code (λ e. omega (arith, c .if1 .taken)) (λ e. omega (arith, c .if1 .taken))
+    (λ e. omega (arith, c .if1 .taken)))
 
 mul-result : tie.Need-mul-result
 mul-result c = search needs

@@ -32,8 +32,10 @@ returns c =
     let id = start .before in
     let entry = id .before in
     let operands = entry .before .args .operands .now in
-    read-record operands (bytes-all operands (λ k. entry .shared-slice-known .given k .fits)) _ (id .read-field .ensures)
-    (start .read-field2 .ensures) (duration .read-field3 .ensures) (marks .read-field4 .ensures) (offset .read-field5 .ensures)
+    read-record operands (bytes-all operands (λ k. entry .shared-slice-known .given k .fits)) _
+    (id .read-field .ensures)
+    (start .read-field2 .ensures) (duration .read-field3 .ensures) (marks .read-field4 .ensures)
+    (offset .read-field5 .ensures)
     (c .read-field6 .ensures)
 
 pub put-record-spec : {M : Type 1} → statement M

@@ -1,5 +1,6 @@
--- `scan::form_of` meets its contract. The loop's invariant: the script has the form that it has from `at` on with those counted in
--- front, and each that is counted has a byte before `at`. The measure is what is left of the length. Assumes nothing.
+-- `scan::form_of` meets its contract. The loop's invariant: the script has the form that it has from `at` on with those
+-- counted in front, and each that is counted has a byte before `at`. The measure is what is left of the length.
+-- Assumes nothing.
 use mathlib.Core.Path.{_≡_, sym, ap, _∙_}
 use mathlib.Core.List.{List}
 use Prim.Native.Nat.{ℕ, _+_, _-_, _≤_}
@@ -17,7 +18,8 @@ use Rattle.edit_scan.proofs.scan.form_of.Statement.{statement}
 use Rattle.edit_scan.proofs.scan.form_of.Tie as tie
 
 abbrev Inv-loop : tie.InvT-loop
-Inv-loop script count₀ at₀ count at = (count ≤ at) × (formFound (formOf script) ≡ formAfter count (formFrom 0 at (drop at script)))
+Inv-loop script count₀ at₀ count at =
+    (count ≤ at) × (formFound (formOf script) ≡ formAfter count (formFrom 0 at (drop at script)))
 
 abbrev μ-loop : tie.MeasureT-loop
 μ-loop script count₀ at₀ count at = length script - at
@@ -36,10 +38,12 @@ bytes head = head .before .before .args .script .now
 whole : (c : tie.Then1 Inv-loop μ-loop) → T (isWholeAt (c .before .before .loop .at) (bytes (c .before .before)))
 whole c =
     let head = c .before .before in
-    whole-holds (head .loop .at) (bytes head) (c .before .is-whole-at .result) (c .before .is-whole-at .ensures) (c .if1 .taken)
+    whole-holds (head .loop .at) (bytes head) (c .before .is-whole-at .result) (c .before .is-whole-at .ensures)
+    (c .if1 .taken)
 
 inside : (c : tie.After-operand-bytes Inv-loop μ-loop)
-    → c .before .before .before .before .loop .at + (1 + c .operand-bytes .result) ≤ length (bytes (c .before .before .before .before))
+    → c .before .before .before .before .loop .at + (1 + c .operand-bytes .result) ≤ length
+    (bytes (c .before .before .before .before))
 inside c =
     let head = c .before .before .before .before in
     omega (arith, whole-inside (head .loop .at) (bytes head) (whole (c .before .before)), c .operand-bytes .ensures)
@@ -50,7 +54,12 @@ shared-slice-read-operand-bytes c =
     whole-here (head .loop .at) (bytes head) (whole (c .before))
 
 add-count : tie.Need-add-count Inv-loop μ-loop
-add-count c = omega (arith, c .before .before .loop .inv .0, whole-here (c .before .before .loop .at) (bytes (c .before .before)) (whole c))
+add-count c =
+    omega (
+      arith,
+      c .before .before .loop .inv .0,
+      whole-here (c .before .before .loop .at) (bytes (c .before .before)) (whole c),
+    )
 
 operand-bytes-requires : tie.Need-operand-bytes-requires Inv-loop μ-loop
 operand-bytes-requires c κs = search needs
@@ -71,7 +80,8 @@ loop-again c =
     let next = ap (λ (n : ℕ). at + (1 + n)) (c .operand-bytes .ensures) in (
       omega (arith, head .loop .inv .0),
       head .loop .inv .1
-          ∙ form-next at (bytes head) (at + (1 + c .operand-bytes .result)) next (whole (c .before .before)) (head .loop .count),
+          ∙ form-next at (bytes head) (at + (1 + c .operand-bytes .result)) next (whole (c .before .before))
+          (head .loop .count),
     )
 
 returns : tie.Need-returns Inv-loop μ-loop
@@ -79,12 +89,14 @@ returns c =
     let asked = c .before .before .is-whole-at in
     let head = c .before .before .before in
     let truncated = whole-fails (head .loop .at) (bytes head) (asked .result) (asked .ensures) (c .before .if1 .left) in
-    sym (head .loop .inv .1 ∙ ap (formAfter (head .loop .count)) (form-stop (head .loop .at) (bytes head) (c .if2 .taken) truncated))
+    sym (head .loop .inv .1
+    ∙ ap (formAfter (head .loop .count)) (form-stop (head .loop .at) (bytes head) (c .if2 .taken) truncated))
 
 returns-2 : tie.Need-returns-2 Inv-loop μ-loop
 returns-2 c =
     let head = c .before .before .before in
-    sym (head .loop .inv .1 ∙ ap (formAfter (head .loop .count)) (form-all (head .loop .at) (bytes head) (c .if2 .left)) ∙ ap Whole (add-zero (head .loop .count)))
+    sym (head .loop .inv .1 ∙ ap (formAfter (head .loop .count)) (form-all (head .loop .at) (bytes head) (c .if2 .left))
+    ∙ ap Whole (add-zero (head .loop .count)))
 
 pub form-of-spec : {M : Type 1} → statement M
 form-of-spec =

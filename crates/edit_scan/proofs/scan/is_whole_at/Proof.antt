@@ -1,4 +1,5 @@
--- `scan::is_whole_at` meets its contract: each return is what `isWholeAt` says after the tests before it. Assumes nothing.
+-- `scan::is_whole_at` meets its contract: each return is what `isWholeAt` says after the tests before it.
+-- Assumes nothing.
 use mathlib.Core.Path.{sym, ap, _∙_}
 use Prim.Native.Nat.{ℕ, _-_}
 use lib.Dec.{leb}
@@ -32,14 +33,17 @@ returns-2 c =
     let inside = tested .before .before in
     let args = inside .before .before .args in
     ap (λ (n : ℕ). leb n (length (args .script .now) - args .at - 1)) (c .operand-bytes .ensures)
-    ∙ sym (whole-known (args .at) (args .script .now) (inside .if1 .left) (sym (tested .is-command .ensures) ∙ c .before .if2 .taken))
+    ∙ sym (whole-known (args .at) (args .script .now) (inside .if1 .left)
+    (sym (tested .is-command .ensures) ∙ c .before .if2 .taken))
 
 returns-3 : tie.Need-returns-3
 returns-3 c =
     let inside = c .before .before .before in
     let args = inside .before .before .args in
     let unknown = c .if2 .left in
-    unknown ∙ sym (whole-unknown (args .at) (args .script .now) (inside .if1 .left) (sym (c .before .is-command .ensures) ∙ unknown))
+    unknown ∙ sym
+    (whole-unknown (args .at) (args .script .now) (inside .if1 .left)
+    (sym (c .before .is-command .ensures) ∙ unknown))
 
 pub is-whole-at-spec : {M : Type 1} → statement M
 is-whole-at-spec =

@@ -1,5 +1,5 @@
--- `scan::skip_commands` meets its contract. The loop's invariant: what is behind k commands from `at` on is behind those that are left
--- from `i` on. The measure is how many are left. Assumes nothing.
+-- `scan::skip_commands` meets its contract. The loop's invariant: what is behind k commands from `at` on is behind
+-- those that are left from `i` on. The measure is how many are left. Assumes nothing.
 use mathlib.Core.Path.{_≡_, refl, sym, ap, _∙_}
 use mathlib.Core.List.{List}
 use Prim.Native.Nat.{ℕ, _+_, _≤_}
@@ -35,10 +35,13 @@ returns : tie.Need-returns Inv-loop μ-loop
 returns c =
     let asked = c .before .is-whole-at in
     let head = c .before .before .before in
-    let truncated = whole-fails (head .loop .i) (bytes head) (asked .result) (asked .ensures) (not-true (asked .result) (c .if1 .taken)) in
+    let truncated =
+    whole-fails (head .loop .i) (bytes head) (asked .result) (asked .ensures)
+    (not-true (asked .result) (c .if1 .taken)) in
     sym (head .loop .inv ∙ behind-stop (bytes head) (head .loop .left) (head .loop .i) truncated)
 
-whole : (c : tie.Else1 Inv-loop μ-loop) → T (isWholeAt (c .before .before .before .loop .i) (bytes (c .before .before .before)))
+whole : (c : tie.Else1 Inv-loop μ-loop)
+    → T (isWholeAt (c .before .before .before .loop .i) (bytes (c .before .before .before)))
 whole c =
     let asked = c .before .is-whole-at in
     let head = c .before .before .before in
@@ -76,15 +79,18 @@ loop-again c =
     let head = c .before .before .before .before .before in
     let i : ℕ = head .loop .i in
     let next : ℕ = i + (1 + c .operand-bytes .result) in
-    let there : next ≡ i + (1 + operandBytes (getD (bytes head) i 0)) = ap (λ (n : ℕ). i + (1 + n)) (c .operand-bytes .ensures) in
+    let there : next ≡ i + (1 + operandBytes (getD (bytes head) i 0)) =
+    ap (λ (n : ℕ). i + (1 + n)) (c .operand-bytes .ensures) in
     head .loop .inv
-    ∙ behind-next (bytes head) i next there (whole (c .before .before)) (head .loop .left) (c .before .before .before .before .loop-test .taken)
+    ∙ behind-next (bytes head) i next there (whole (c .before .before)) (head .loop .left)
+    (c .before .before .before .before .loop-test .taken)
 
 returns-2 : tie.Need-returns-2 Inv-loop μ-loop
 returns-2 c =
     let head = c .before in
     let none : head .loop .left ≡ 0 = omega arith in
-    sym (head .loop .inv ∙ ap (λ (k : ℕ). offsetBehind k (head .loop .i) (bytes head)) none ∙ behind-none (bytes head) (head .loop .i))
+    sym (head .loop .inv ∙ ap (λ (k : ℕ). offsetBehind k (head .loop .i) (bytes head)) none
+    ∙ behind-none (bytes head) (head .loop .i))
 
 pub skip-commands-spec : {M : Type 1} → statement M
 skip-commands-spec =

@@ -12,7 +12,8 @@ use Rattle.script.specs.Form.{operandBytes}
 use Rattle.script.specs.Struck.{unstruckIn}
 use Rattle.edit_scan.specs.Commands.{strikesFound, isWholeAt, commandsAt}
 use Rattle.edit_scan.proofs.CommandLaws.{whole-holds, whole-fails, whole-here, whole-inside}
-use Rattle.edit_scan.proofs.StrikeLaws.{strikesAfter, strikes-all, strikes-nothing, strikes-on, strikes-stop, byte-few}
+use Rattle.edit_scan.proofs.StrikeLaws.{strikesAfter, strikes-all, strikes-nothing, strikes-on, strikes-stop}
+use Rattle.edit_scan.proofs.StrikeLaws.{byte-few}
 use Rattle.edit_scan.proofs.scan.strikes_in.Statement.{statement}
 use Rattle.edit_scan.proofs.scan.strikes_in.Tie as tie
 
@@ -36,7 +37,8 @@ bytes head = head .before .before .args .script .now
 whole : (c : tie.Then1 Inv-loop μ-loop) → T (isWholeAt (c .before .before .loop .at) (bytes (c .before .before)))
 whole c =
     let head = c .before .before in
-    whole-holds (head .loop .at) (bytes head) (c .before .is-whole-at .result) (c .before .is-whole-at .ensures) (c .if1 .taken)
+    whole-holds (head .loop .at) (bytes head) (c .before .is-whole-at .result) (c .before .is-whole-at .ensures)
+    (c .if1 .taken)
 
 here : (c : tie.Then1 Inv-loop μ-loop) → c .before .before .loop .at < length (bytes (c .before .before))
 here c = whole-here (c .before .before .loop .at) (bytes (c .before .before)) (whole c)
@@ -46,7 +48,11 @@ inside : (c : tie.After-operand-bytes Inv-loop μ-loop)
     head .loop .at + (1 + c .operand-bytes .result) ≤ length (bytes head)
 inside c =
     let head = c .before .before .before .before .before .before in
-    omega (arith, whole-inside (head .loop .at) (bytes head) (whole (c .before .before .before .before)), c .operand-bytes .ensures)
+    omega (
+      arith,
+      whole-inside (head .loop .at) (bytes head) (whole (c .before .before .before .before)),
+      c .operand-bytes .ensures,
+    )
 
 shared-slice-read-undo : tie.Need-shared-slice-read-undo Inv-loop μ-loop
 shared-slice-read-undo c = here (c .before)
@@ -66,7 +72,8 @@ returns c =
 few : (c : tie.Else2 Inv-loop μ-loop)
     → let head = c .before .before .before .before in
     boolByte (eqb (getD (bytes head) (head .loop .at) 0) 0x04) ≤ 1
-few c = byte-few (eqb (getD (bytes (c .before .before .before .before)) (c .before .before .before .before .loop .at) 0) 0x04)
+few c = byte-few
+    (eqb (getD (bytes (c .before .before .before .before)) (c .before .before .before .before .loop .at) 0) 0x04)
 
 add-kept : tie.Need-add-kept Inv-loop μ-loop
 add-kept c = omega (arith, c .before .before .before .before .loop .inv .0, here (c .before .before))
@@ -99,7 +106,8 @@ loop-again c =
     let head = turn .before .before in
     let at : ℕ = head .loop .at in
     let next : ℕ = at + (1 + c .operand-bytes .result) in
-    let there : next ≡ at + (1 + operandBytes (getD (bytes head) at 0)) = ap (λ (n : ℕ). at + (1 + n)) (c .operand-bytes .ensures) in (
+    let there : next ≡ at + (1 + operandBytes (getD (bytes head) at 0)) =
+    ap (λ (n : ℕ). at + (1 + n)) (c .operand-bytes .ensures) in (
       omega (arith, head .loop .inv .0),
       head .loop .inv .1 ∙ strikes-on (head .loop .kept) at (bytes head) next there (whole turn) (enough .if2 .left),
     )

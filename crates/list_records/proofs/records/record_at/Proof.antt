@@ -1,5 +1,5 @@
--- `record_at` meets its contract: what is left of the buffer at the record's place, nothing where the buffer ends before it, is read
--- number by number. Assumes nothing.
+-- `record_at` meets its contract: what is left of the buffer at the record's place, nothing where the buffer ends
+-- before it, is read number by number. Assumes nothing.
 use mathlib.Core.Path.{_≡_, sym, ap, _∙_}
 use mathlib.Core.Logic.{inl, inr}
 use mathlib.Core.List.{List}

@@ -75,7 +75,8 @@ returns-2 : tie.Need-returns-2
 returns-2 c =
     let args = c .before .args in
     let room : args .i * recordSize + recordSize ≤ length (args .list .now) = omega arith in
-    record-sets (args .list .now) (args .i * recordSize) (args .event) room ∙ sym (written-is (args .list .now) (args .i) (args .event) room)
+    record-sets (args .list .now) (args .i * recordSize) (args .event) room
+    ∙ sym (written-is (args .list .now) (args .i) (args .event) room)
 
 pub write-record-spec : {M : Type 1} → statement M
 write-record-spec =

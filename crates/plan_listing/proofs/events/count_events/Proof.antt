@@ -1,5 +1,5 @@
--- `plan_listing::events::count_events` meets its contract: the events counted so far, and those in the rest of the loop, are all
--- (`count-next`). Assumes nothing.
+-- `plan_listing::events::count_events` meets its contract: the events counted so far, and those in the rest of the
+-- loop, are all (`count-next`). Assumes nothing.
 use Prim.Native.Nat.{_+_, _-_, _≤_}
 use mathlib.Core.Path.{_≡_, ap, _∙_}
 use native.Mathlib.Omega.{arith}

@@ -1,5 +1,5 @@
--- `plan_listing::text::write_number` meets its contract: the kit's digits are the number in decimal (`decimal-is`), and the byte that
--- comes after goes behind them. Assumes nothing.
+-- `plan_listing::text::write_number` meets its contract: the kit's digits are the number in decimal (`decimal-is`), and
+-- the byte that comes after goes behind them. Assumes nothing.
 use mathlib.Core.Path.{_∙_}
 use mathlib.Core.List.{[], _∷_}
 use denote.Ref.{now}

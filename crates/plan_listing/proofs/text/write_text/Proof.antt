@@ -8,7 +8,8 @@ use borrow.Author.Needs.{needs}
 use borrow.Author.Tests.{ltb-true, ltb-false}
 use lib.ListN.{length, drop, getD, drop-of-length-le}
 use lib.Seq.{drop-cons}
-use Rattle.plan_listing.proofs.FillLaws.{Unwritten, unwritten-all, unwritten-more, unwritten-none, unwritten-full, filled-byte}
+use Rattle.plan_listing.proofs.FillLaws.{Unwritten, unwritten-all, unwritten-more, unwritten-none}
+use Rattle.plan_listing.proofs.FillLaws.{unwritten-full, filled-byte}
 use Rattle.plan_listing.proofs.text.write_text.Statement.{statement}
 use Rattle.plan_listing.proofs.text.write_text.Tie as tie
 
@@ -46,7 +47,8 @@ loop-again : tie.Need-loop-again Inv-loop μ-loop
 loop-again c =
     let turn = c .before .before .before .loop in
     let text = c .before .before .before .before .args .text .now in
-    unwritten-more (turn .inv) (getD text (turn .i) 0 ∷ []) (drop (turn .i + 1) text) (next-byte text (turn .i) (omega arith))
+    unwritten-more (turn .inv) (getD text (turn .i) 0 ∷ []) (drop (turn .i + 1) text)
+    (next-byte text (turn .i) (omega arith))
     (filled-byte (turn .out) (turn .to) (getD text (turn .i) 0) (ltb-true _ _ (c .before .if1 .taken)))
 
 same-length : tie.Need-same-length Inv-loop μ-loop

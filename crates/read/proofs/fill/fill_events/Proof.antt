@@ -1,5 +1,5 @@
--- `fill::fill_events` meets its contract: before each turn the records are filled in as `FillSoFar` says. The measure is what is
--- left of the loop. Assumes nothing.
+-- `fill::fill_events` meets its contract: before each turn the records are filled in as `FillSoFar` says. The measure
+-- is what is left of the loop. Assumes nothing.
 use mathlib.Core.Path.{_≡_, refl, sym, ap, _∙_}
 use denote.Ref.{now}
 use Rattle.eit.specs.Records.{recordSize}
@@ -9,14 +9,16 @@ use Rattle.codec_section.specs.EventRead.{eventRead}
 use Rattle.codec_section.specs.declared.event.EventRead.the-variants.{Whole}
 use Prim.Native.Nat.{_+_, _-_, _*_, _^_, _≤_, _<_}
 use lib.ListN.{length, drop}
-use Rattle.read.proofs.FillLaws.{FillSoFar, fill-start, never-broken, fill-inside, fill-room, fill-more, fill-end}
+use Rattle.read.proofs.FillLaws.{FillSoFar, fill-start, never-broken, fill-inside, fill-room, fill-more}
+use Rattle.read.proofs.FillLaws.{fill-end}
 use native.Mathlib.Omega.{arith}
 use borrow.Author.Needs.{needs}
 use Rattle.read.proofs.fill.fill_events.Statement.{statement}
 use Rattle.read.proofs.fill.fill_events.Tie as tie
 
 abbrev Inv-loop : tie.InvT-loop
-Inv-loop records₀ place events from base-day n₀ at₀ records n at = FillSoFar base-day from place events records₀ records n at
+Inv-loop records₀ place events from base-day n₀ at₀ records n at =
+    FillSoFar base-day from place events records₀ records n at
 
 abbrev μ-loop : tie.MeasureT-loop
 μ-loop records₀ place events from base-day n₀ at₀ records n at = length events - at
@@ -53,8 +55,11 @@ module _ (c : tie.After-read-event Inv-loop μ-loop) where
   abbrev start : tie.Start Inv-loop μ-loop
   start = turn .before .before .before
 
-  rest-read : c .read-event .result ≡ eventRead (start .args .base-day) (drop (turn .loop .at) (now (start .args .events)))
-  rest-read = c .read-event .ensures ∙ ap (eventRead (start .args .base-day)) (rest-whole (now (start .args .events)) (turn .loop .at))
+  rest-read : c .read-event .result
+      ≡ eventRead (start .args .base-day) (drop (turn .loop .at) (now (start .args .events)))
+  rest-read =
+      c .read-event .ensures
+      ∙ ap (eventRead (start .args .base-day)) (rest-whole (now (start .args .events)) (turn .loop .at))
 
 module _ (c : tie.After-shown Inv-loop μ-loop) where
   abbrev read : tie.After-read-event Inv-loop μ-loop
@@ -64,7 +69,8 @@ module _ (c : tie.After-shown Inv-loop μ-loop) where
       ≡ Whole (c .shown .given .0 .0)
   event-read = sym (rest-read read) ∙ c .shown .given .1
 
-  turn-inside : turn read .loop .at + (eventOverhead + c .shown .given .0 .0 .«chain_length») ≤ length (now (start read .args .events))
+  turn-inside : turn read .loop .at + (eventOverhead + c .shown .given .0 .0 .«chain_length») ≤ length
+      (now (start read .args .events))
   turn-inside = fill-inside (turn read .loop .inv) (read .before .before .loop-test .taken) event-read
 
   turn-room : turn read .loop .n * recordSize + recordSize ≤ length (turn read .loop .records)
@@ -76,7 +82,8 @@ module _ (c : tie.After-shown Inv-loop μ-loop) where
 returns : tie.Need-returns Inv-loop μ-loop
 returns c =
     let read = c .before .before in
-    absurd (never-broken (turn read .loop .inv) (read .before .before .loop-test .taken) (sym (rest-read read) ∙ c .enum-told .given .1))
+    absurd (never-broken (turn read .loop .inv) (read .before .before .loop-test .taken)
+    (sym (rest-read read) ∙ c .enum-told .given .1))
 
 add-t10 : tie.Need-add-t10 Inv-loop μ-loop
 add-t10 c = let whole = c .before in omega (arith, turn-inside whole, turn-below whole)
@@ -112,7 +119,8 @@ loop-again c =
     let put = c .before .before .before in
     let whole = put .before .before .before in
     let read = whole .before .before in
-    fill-more (turn read .loop .inv) (read .before .before .loop-test .taken) (event-read whole) refl (put .write-record .ensures)
+    fill-more (turn read .loop .inv) (read .before .before .loop-test .taken) (event-read whole) refl
+    (put .write-record .ensures)
 
 same-length-2 : tie.Need-same-length-2 Inv-loop μ-loop
 same-length-2 c = search needs

@@ -1,5 +1,5 @@
--- `fill::fill_file` meets its contract: before each turn the records are filled in as `FileSoFar` says. The measure is what is
--- left of the file. Assumes nothing.
+-- `fill::fill_file` meets its contract: before each turn the records are filled in as `FileSoFar` says. The measure is
+-- what is left of the file. Assumes nothing.
 use Prim.Native.Nat.{_-_}
 use lib.ListN.{length}
 use Rattle.read_walk.proofs.SectionAtLaws.{end-past}

@@ -15,7 +15,8 @@ use Rattle.codec_section.specs.HeaderRead.{heldHeader}
 use Rattle.read_checks.specs.HeaderBefore.{headerBefore, checkedHeader}
 use Rattle.read_events.specs.EventPass.{checkedEvents, passOf}
 use Rattle.read_checks.specs.declared.header.HeaderBefore.the-variants.{Header as Behind}
-use Rattle.read_check.proofs.StepLaws.{refuses-20, refuses-21, refuses-22, refuses-23, refuses-24, refuses-26, goes-on}
+use Rattle.read_check.proofs.StepLaws.{refuses-20, refuses-21, refuses-22, refuses-23, refuses-24, refuses-26}
+use Rattle.read_check.proofs.StepLaws.{goes-on}
 use native.Mathlib.Omega.{arith}
 use borrow.Author.Needs.{needs}
 use Rattle.read_check.proofs.section.check_section.Statement.{statement}
@@ -26,7 +27,9 @@ is-framed-requires c κs = search needs
 
 module _ (c : tie.After-is-framed) where
   section-bytes : Bytes (now (c .before .before .before .args .section))
-  section-bytes = bytes-all (now (c .before .before .before .args .section)) (λ k. c .before .before .shared-slice-known .given k .fits)
+  section-bytes =
+      bytes-all (now (c .before .before .before .args .section))
+      (λ k. c .before .before .shared-slice-known .given k .fits)
 
   lent-tables : now (c .before .before .before .args .crc-tables) ≡ crcTables
   lent-tables = c .before .before .before .pre
@@ -41,7 +44,9 @@ module _ (c : tie.After-has-right-numbering) where
 
   header-passes : headerBefore (Behind (c .before .before .shown .given .0 .0))
       ≡ checkedHeader (headerBefore (entry .args .state .before)) (now (entry .args .section))
-  header-passes = sym (ap headerBefore (c .before .before .shown .given .1)) ∙ c .before .before .before .before .check-header .ensures
+  header-passes =
+      sym (ap headerBefore (c .before .before .shown .given .1))
+      ∙ c .before .before .before .before .check-header .ensures
 
 -- and whose events were looked at
 events-checked : (c : tie.After-check-events)
@@ -70,7 +75,8 @@ has-right-crc-requires c κs = search needs
 returns-2 : tie.Need-returns-2
 returns-2 c p tracks =
     let framed = c .before .before .before in (
-      refuses-21 tracks _ _ _ (section-bytes framed) (framed .is-framed .ensures) (not-false _ (c .before .before .if1 .left))
+      refuses-21 tracks _ _ _ (section-bytes framed) (framed .is-framed .ensures)
+          (not-false _ (c .before .before .if1 .left))
           (lent-tables framed) (c .before .has-right-crc .ensures) (not-true _ (c .if2 .taken)),
       refl,
     )
@@ -89,7 +95,8 @@ returns-3 c p tracks =
     let kept = c .before .before in
     let crc-right = kept .before .before in
     let framed = crc-right .before .before in (
-      refuses-22 tracks _ _ _ (section-bytes framed) (framed .is-framed .ensures) (not-false _ (crc-right .before .if1 .left)) (lent-tables framed)
+      refuses-22 tracks _ _ _ (section-bytes framed) (framed .is-framed .ensures)
+          (not-false _ (crc-right .before .if1 .left)) (lent-tables framed)
           (crc-right .has-right-crc .ensures) (not-false _ (kept .before .if2 .left))
           (sym (ap headerBefore (c .enum-told .given .1)) ∙ kept .check-header .ensures),
       refl,
@@ -104,7 +111,8 @@ returns-4 c p tracks =
     let kept = numbered .before .before .before .before in
     let crc-right = kept .before .before in
     let framed = crc-right .before .before in (
-      refuses-23 tracks _ _ _ (section-bytes framed) (framed .is-framed .ensures) (not-false _ (crc-right .before .if1 .left)) (lent-tables framed)
+      refuses-23 tracks _ _ _ (section-bytes framed) (framed .is-framed .ensures)
+          (not-false _ (crc-right .before .if1 .left)) (lent-tables framed)
           (crc-right .has-right-crc .ensures) (not-false _ (kept .before .if2 .left)) (header-passes numbered)
           (numbered .has-right-numbering .ensures) (not-true _ (c .if3 .taken)),
       refl,
@@ -127,7 +135,8 @@ returns-5 c p tracks =
     let kept = numbered .before .before .before .before in
     let crc-right = kept .before .before in
     let framed = crc-right .before .before in (
-      refuses-24 tracks _ _ _ (section-bytes framed) (framed .is-framed .ensures) (not-false _ (crc-right .before .if1 .left)) (lent-tables framed)
+      refuses-24 tracks _ _ _ (section-bytes framed) (framed .is-framed .ensures)
+          (not-false _ (crc-right .before .if1 .left)) (lent-tables framed)
           (crc-right .has-right-crc .ensures) (not-false _ (kept .before .if2 .left)) (header-passes numbered)
           (numbered .has-right-numbering .ensures) (not-false _ (looped .before .if3 .left)) (events-checked checked)
           (not-true _ (c .if4 .taken)),
@@ -149,9 +158,14 @@ returns-6 c p tracks =
     let a = entry numbered .args in
     let many : a .sizes .«event_limit» < checked .check-events .result .events + a .state .count =
     ⊎-elim (λ w. omega (arith, w .taken))
-    (λ w. omega (arith, w .0 .left, ltb-true (a .sizes .«event_limit» - checked .check-events .result .events) (a .state .count) (w .3 .taken)))
+    (λ w. omega (
+      arith,
+      w .0 .left,
+      ltb-true (a .sizes .«event_limit» - checked .check-events .result .events) (a .state .count) (w .3 .taken),
+    ))
     (c .if5 .came) in (
-      refuses-26 tracks _ _ _ (section-bytes framed) (framed .is-framed .ensures) (not-false _ (crc-right .before .if1 .left)) (lent-tables framed)
+      refuses-26 tracks _ _ _ (section-bytes framed) (framed .is-framed .ensures)
+          (not-false _ (crc-right .before .if1 .left)) (lent-tables framed)
           (crc-right .has-right-crc .ensures) (not-false _ (kept .before .if2 .left)) (header-passes numbered)
           (numbered .has-right-numbering .ensures) (not-false _ (looped .before .if3 .left)) (events-checked checked)
           (not-false _ (whole .if4 .left)) many,
@@ -186,7 +200,8 @@ returns-7 c p tracks =
     let crc-right = kept .before .before in
     let framed = crc-right .before .before in
     let a = entry numbered .args in
-    goes-on tracks _ _ _ (section-bytes framed) (framed .is-framed .ensures) (not-false _ (crc-right .before .if1 .left)) (lent-tables framed)
+    goes-on tracks _ _ _ (section-bytes framed) (framed .is-framed .ensures)
+    (not-false _ (crc-right .before .if1 .left)) (lent-tables framed)
     (crc-right .has-right-crc .ensures) (not-false _ (kept .before .if2 .left)) (header-passes numbered)
     (numbered .has-right-numbering .ensures) (not-false _ (looped .before .if3 .left)) (events-checked checked)
     (not-false _ (whole .if4 .left))

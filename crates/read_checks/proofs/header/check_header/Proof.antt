@@ -11,7 +11,8 @@ use Rattle.sections.specs.HeaderTests.{isTable, hasFixedBits}
 use Rattle.codec_section.specs.HeaderRead.{heldHeader, headerOrNone}
 use Rattle.codec_section.proofs.HeaderLaws.{header-only, short-only}
 use Rattle.read_checks.specs.HeaderBefore.{headerBefore}
-use Rattle.read_checks.proofs.HeaderCheckLaws.{header-short, header-unfixed, header-no-table, header-other, header-passes}
+use Rattle.read_checks.proofs.HeaderCheckLaws.{header-short, header-unfixed, header-no-table, header-other}
+use Rattle.read_checks.proofs.HeaderCheckLaws.{header-passes}
 use Rattle.read_checks.proofs.header.check_header.Statement.{statement}
 use Rattle.read_checks.proofs.header.check_header.Tie as tie
 
@@ -83,7 +84,8 @@ returns-3 c =
     let shown = fixed .before .before .before in
     let a = shown .before .before .before .before .args in
     let other = sym (c .before .is-same-file .ensures) ∙ not-true _ (c .if3 .taken) in
-    sym (header-other (headerBefore (a .before)) (now (a .section)) (fixed-is fixed) (shown-is shown) (table-is tabled) other)
+    sym (header-other (headerBefore (a .before)) (now (a .section)) (fixed-is fixed) (shown-is shown) (table-is tabled)
+    other)
 
 returns-4 : tie.Need-returns-4
 returns-4 c =
@@ -92,7 +94,8 @@ returns-4 c =
     let shown = fixed .before .before .before in
     let a = shown .before .before .before .before .args in
     let same = sym (c .before .is-same-file .ensures) ∙ not-false _ (c .if3 .left) in
-    sym (header-passes (headerBefore (a .before)) (now (a .section)) (fixed-is fixed) (shown-is shown) (table-is tabled) same)
+    sym (header-passes (headerBefore (a .before)) (now (a .section)) (fixed-is fixed) (shown-is shown) (table-is tabled)
+    same)
 
 pub check-header-spec : {M : Type 1} → statement M
 check-header-spec =

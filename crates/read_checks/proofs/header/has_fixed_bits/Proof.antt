@@ -23,7 +23,8 @@ read-field-requires-2 c κs = search needs
 
 -- bits 1111, and bits 11
 two-tests : (c : tie.Joined1)
-    → c .if1 .if2 ≡ (eqb (c .before .read-field2 .result / 0x1000) 0xF && eqb (c .before .before .read-field .result / 64) 3)
+    → c .if1 .if2
+    ≡ (eqb (c .before .read-field2 .result / 0x1000) 0xF && eqb (c .before .before .read-field .result / 64) 3)
 two-tests c =
     ⊎-elim
     (λ w. rw (eq-eqb _ _ (w .0 .taken)) (w .1))

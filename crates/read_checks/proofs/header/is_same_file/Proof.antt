@@ -41,10 +41,12 @@ two-tests : (c : tie.Joined1)
     → c .if1 .if2 ≡ (isTriplet (last c .triplet) (shown c .triplet) && eqb (shown c .version) (last c .version))
 two-tests c =
     let outcomeOf = sym (c .before .is-triplet .ensures) in
-    ⊎-elim (λ w. rw (outcomeOf ∙ w .0 .taken) (w .3)) (λ w. rw (outcomeOf ∙ w .0 .left) (w .1 ∙ w .0 .left)) (c .if1 .came)
+    ⊎-elim (λ w. rw (outcomeOf ∙ w .0 .taken) (w .3)) (λ w. rw (outcomeOf ∙ w .0 .left) (w .1 ∙ w .0 .left))
+    (c .if1 .came)
 
 -- and last_table_id
-three-tests : (g h : SectionHeader) {two : Bool} → two ≡ (isTriplet (g .triplet) (h .triplet) && eqb (h .version) (g .version))
+three-tests : (g h : SectionHeader) {two : Bool}
+    → two ≡ (isTriplet (g .triplet) (h .triplet) && eqb (h .version) (g .version))
     → (two && eqb (h .«last_table_id») (g .«last_table_id»)) ≡ isSameFile (some (heldHeader g)) (heldHeader h)
 three-tests g h is = rw is (simp and-assoc)
 

@@ -24,7 +24,8 @@ two-tests c =
 -- and original_network_id
 all-tests : (c : tie.Joined1)
     → (let a = c .before .before .before .args in
-    (c .if1 .if2 && eqb (a .shown .«original_network_id») (a .triplet .«original_network_id»)) ≡ isTriplet (a .triplet) (a .shown))
+    (c .if1 .if2 && eqb (a .shown .«original_network_id») (a .triplet .«original_network_id»))
+    ≡ isTriplet (a .triplet) (a .shown))
 all-tests c = rw (two-tests c) (simp and-assoc)
 
 returns : tie.Need-returns

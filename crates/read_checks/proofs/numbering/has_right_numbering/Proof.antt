@@ -1,5 +1,5 @@
--- `has_right_numbering` meets its contract: where the ways of an `&&` meet, the flag is the conjunction of the tests so far.
--- Assumes nothing.
+-- `has_right_numbering` meets its contract: where the ways of an `&&` meet, the flag is the conjunction of the tests so
+-- far. Assumes nothing.
 use mathlib.Core.Bool.{_&&_, and-assoc}
 use mathlib.Core.Logic.{⊎-elim}
 use mathlib.Core.Path.{_≡_, sym, _∙_}

@@ -1,4 +1,5 @@
--- `is_at` meets its contract: where the ways of an `&&` meet, the flag is the conjunction of the tests so far. Assumes nothing.
+-- `is_at` meets its contract: where the ways of an `&&` meet, the flag is the conjunction of the tests so far.
+-- Assumes nothing.
 use mathlib.Core.Bool.{_&&_, and-assoc}
 use mathlib.Core.Logic.{⊎-elim}
 use mathlib.Core.Path.{_≡_, _∙_}

@@ -1,5 +1,5 @@
--- `is_behind` meets its contract: the numbers of the section before choose the numbers that must follow; the tests of these decide.
--- Assumes nothing.
+-- `is_behind` meets its contract: the numbers of the section before choose the numbers that must follow; the tests of
+-- these decide. Assumes nothing.
 use Prim.Native.Nat.{_+_}
 use mathlib.Core.Path.{sym, _∙_}
 use borrow.Author.Needs.{needs}

@@ -1,5 +1,5 @@
--- `is_next` meets its contract: with no section before, the table decides or leaves it to section_number, else `is_behind` tells.
--- Assumes nothing.
+-- `is_next` meets its contract: with no section before, the table decides or leaves it to section_number, else
+-- `is_behind` tells. Assumes nothing.
 use borrow.Author.Needs.{needs}
 use borrow.Author.Tests.{eq-eqb, ne-eqb}
 use Rattle.sections.specs.Segment.{tableFirst}

@@ -34,7 +34,8 @@ add-result c = search needs
 two-tests : (c : tie.Joined1)
     → (let h = heldHeader (c .before .before .before .before .before .args .header) in
     c .if1 .if2
-    ≡ (leb (h .sectionNumber) (h .segmentLastSectionNumber) && leb (h .segmentLastSectionNumber) (h .lastSectionNumber)))
+    ≡ (leb (h .sectionNumber) (h .segmentLastSectionNumber)
+    && leb (h .segmentLastSectionNumber) (h .lastSectionNumber)))
 two-tests c =
     ⊎-elim
     (λ w. rw (le-leb _ _ (w .0 .taken)) (w .1))
@@ -57,10 +58,12 @@ all-tests : (c : tie.Joined2)
     → (let first = c .before .before .before .before .before in
     let h = heldHeader (first .before .args .header) in
     (c .if2 .if3
-    && (eqb (h .segmentLastSectionNumber) (h .lastSectionNumber) || leb (first .first-of .result + 8) (h .lastSectionNumber)))
+    && (eqb (h .segmentLastSectionNumber) (h .lastSectionNumber)
+    || leb (first .first-of .result + 8) (h .lastSectionNumber)))
     ≡ isNumbered h)
 all-tests c =
-    rw (three-tests c, two-tests (c .before), c .before .before .before .before .before .first-of .ensures) (simp and-assoc)
+    rw (three-tests c, two-tests (c .before), c .before .before .before .before .before .first-of .ensures)
+    (simp and-assoc)
 
 returns : tie.Need-returns
 returns c =

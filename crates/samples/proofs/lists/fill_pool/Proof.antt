@@ -1,4 +1,5 @@
--- `samples::lists::fill_pool` meets its contract: each turn goes on by two bytes at least, within the pool. Assumes nothing.
+-- `samples::lists::fill_pool` meets its contract: each turn goes on by two bytes at least, within the pool.
+-- Assumes nothing.
 use Prim.Native.Nat.{_≤_, _-_}
 use mathlib.Core.Path.{_≡_}
 use native.Mathlib.Omega.{arith}

@@ -1,4 +1,5 @@
--- `samples::lists::write_row` meets its contract: each turn writes one PUT more, and the script keeps its length. Assumes nothing.
+-- `samples::lists::write_row` meets its contract: each turn writes one PUT more, and the script keeps its length.
+-- Assumes nothing.
 use Prim.Native.Nat.{_≤_, _-_}
 use mathlib.Core.Path.{_≡_}
 use borrow.Author.Needs.{needs}

@@ -1,4 +1,5 @@
--- `samples_report::lines::print_counts` meets its contract: each turn prints one count more, of 32 at most. Assumes nothing.
+-- `samples_report::lines::print_counts` meets its contract: each turn prints one count more, of 32 at most.
+-- Assumes nothing.
 use Prim.Native.Nat.{_≤_, _-_}
 use borrow.Author.Needs.{needs}
 use Rattle.samples_report.proofs.lines.print_counts.Statement.{statement}

@@ -1,5 +1,5 @@
--- `samples_report::lines::print_cuts` meets its contract: each turn goes on to an offset in the file, behind its own. Assumes
--- nothing.
+-- `samples_report::lines::print_cuts` meets its contract: each turn goes on to an offset in the file, behind its own.
+-- Assumes nothing.
 use Prim.Native.Nat.{_-_, _≤_}
 use native.Mathlib.Omega.{arith}
 use borrow.Author.Needs.{needs}

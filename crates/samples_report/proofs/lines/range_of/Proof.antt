@@ -1,4 +1,5 @@
--- `samples_report::lines::range_of` meets its contract: the counts up to `n` are left, and are 32 at most. Assumes nothing.
+-- `samples_report::lines::range_of` meets its contract: the counts up to `n` are left, and are 32 at most.
+-- Assumes nothing.
 use Prim.Native.Nat.{_≤_}
 use borrow.Author.Needs.{needs}
 use Rattle.samples_report.proofs.lines.range_of.Statement.{statement}

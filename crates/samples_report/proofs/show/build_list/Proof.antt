@@ -28,7 +28,8 @@ returns c success =
     omega (
       arith,
       builds .build .kept,
-      built-inside broadcast (lentPools (now (a .day)) (now (a .series))) (lentList (now (a .list)) (a .count)) 49_273 (a .identity)
+      built-inside broadcast (lentPools (now (a .day)) (now (a .series))) (lentList (now (a .list)) (a .count)) 49_273
+          (a .identity)
           (now (a .file)) _ (builds .build .ensures) (c .before .number-of .ensures) (c .value-of .ensures) success,
     )
 
