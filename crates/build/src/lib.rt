@@ -19,7 +19,7 @@ mod section;
 // The most that a version may be.
 const VERSION_MAX: u8 = 31;
 
-// The counts of all segments, 254 each if the list is unsound.
+// Plan under any sizes: the counts of all segments, 254 each if the list is unsound.
 fn plan_within<'a>(
     list: &[u32],
     count: usize,
@@ -43,7 +43,7 @@ pub fn plan<'a>(list: &[u32], count: usize, day: &'a [u8], series: &'a [u8]) -> 
     plan_within(list, count, day, series, Sizes::BROADCAST)
 }
 
-// Build: each refusal is excluded before anything is written.
+// Build under any sizes. Its refusals in their order, 1, 2, 12, 10, 11, come before anything is written.
 fn build_within<'a>(
     list: &[u32],
     count: usize,

@@ -1,5 +1,5 @@
-// The face for C and Rust: numbers and slices only (include/chirdaluko.h). Each call turns an answer into document 01's
-// numbers, and has the same equation as the call behind it.
+// The face for C and Rust (include/chirdaluko.h, bindings/rust): numbers and slices only. Each call turns an answer
+// into document 01's numbers, and has the same equation as the call behind it.
 use eit::Identity;
 use eit::Triplet;
 use read_answer::CheckedFile;

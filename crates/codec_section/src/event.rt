@@ -18,7 +18,7 @@ ghost use Rattle.codec_section.specs.EventRead.{eventRead};
 pub enum EventRead {
     // An event that keeps the rules, its segment aside; the chain's offset is from the event's first byte.
     Whole(Record),
-    // Bytes that are cut, or that break a rule.
+    // Bytes that are truncated, or that break a rule.
     Broken,
 }
 

@@ -1,5 +1,5 @@
 // Starts and durations as bytes, and back (01, "The file of sections": MJD and BCD digits). Every public function is
-// total: a read says where bytes are cut or broken, and a write that does not fit leaves all as it was.
+// total: a read says where bytes are truncated or broken, and a write that does not fit leaves all as it was.
 use codec::fields;
 use eit::Time;
 ghost use mathlib.Core.Path.{_≡_};
@@ -13,7 +13,7 @@ ghost use Rattle.codec_time.specs.TimeRead.{timeAt, durationAt, startAt}
 // What the bytes of a time show.
 pub enum TimeRead {
     Seconds(u32),
-    // Bytes that are cut, or that break a rule of what is read.
+    // Bytes that are truncated, or that break a rule of what is read.
     Broken,
 }
 

@@ -1,4 +1,5 @@
-// Edit (01, "Edit"): the script's form, UNDO, and the plain machine on the lent list.
+// Edit (01, "Edit"). Its refusals in their order: 12 and 3 here, 4 in `whole`, and for each edit 5, 9, 6, 7, 8 in
+// `indexed`. `live` finds the edits that no UNDO strikes, `part` runs them in parts, `index` is the list meanwhile.
 use edit_answer::EditAnswer;
 use edit_answer::Edited;
 use edit_scan::scan;
@@ -19,7 +20,7 @@ mod live;
 mod part;
 mod whole;
 
-// Edit with another limit of events than broadcast's, at most as many as an index has room for.
+// Edit under any sizes with at most as many events as an index has room for.
 fn edit_within<'a>(
     list: &mut [u32],
     count: usize,
@@ -42,7 +43,7 @@ fn edit_within<'a>(
     }
     match scan::form_of(script) {
         Form::Broken(at) => Edited {
-            answer: EditAnswer::Broken(at),
+            answer: EditAnswer::BrokenScript(at),
             count,
         },
         Form::Whole(k) => whole::edit_whole(list, count, day, series, script, sizes, k),

@@ -43,7 +43,7 @@ fn edit_long<'a>(
 {
     if let Strikes::NothingAt(at) = scan::strikes_in(script) {
         return Edited {
-            answer: EditAnswer::NothingToStrike(at),
+            answer: EditAnswer::NothingToUndo(at),
             count,
         };
     }

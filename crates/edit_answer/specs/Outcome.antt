@@ -4,7 +4,8 @@ use mathlib.Core.List.{List}
 use Rattle.eit.specs.Records.{lentList}
 use Rattle.script.specs.Edit as model
 use Rattle.edit_answer.specs.declared.EditAnswer.{EditAnswer}
-use Rattle.edit_answer.specs.declared.EditAnswer.the-variants.{Done, Unsound, Broken, NothingToStrike, OutOfRange}
+use Rattle.edit_answer.specs.declared.EditAnswer.the-variants.{Done, Unsound, BrokenScript, NothingToUndo}
+use Rattle.edit_answer.specs.declared.EditAnswer.the-variants.{OutOfRange}
 use Rattle.edit_answer.specs.declared.EditAnswer.the-variants.{WrongId, StartTaken, ListFull, NoChain}
 use Rattle.edit_answer.specs.declared.Edited.{Edited}
 
@@ -12,8 +13,8 @@ use Rattle.edit_answer.specs.declared.Edited.{Edited}
 abbrev pub answerNumber : EditAnswer → ℕ
 answerNumber Done = 0
 answerNumber Unsound = 12
-answerNumber (Broken at) = 3
-answerNumber (NothingToStrike at) = 4
+answerNumber (BrokenScript at) = 3
+answerNumber (NothingToUndo at) = 4
 answerNumber (OutOfRange at) = 5
 answerNumber (WrongId at) = 6
 answerNumber (StartTaken at) = 7
@@ -24,8 +25,8 @@ answerNumber (NoChain at) = 9
 abbrev pub answerValue : ℕ → EditAnswer → ℕ
 answerValue count Done = count
 answerValue count Unsound = 0
-answerValue count (Broken at) = at
-answerValue count (NothingToStrike at) = at
+answerValue count (BrokenScript at) = at
+answerValue count (NothingToUndo at) = at
 answerValue count (OutOfRange at) = at
 answerValue count (WrongId at) = at
 answerValue count (StartTaken at) = at

@@ -8,10 +8,10 @@ pub enum EditAnswer {
     Done,
     // 12: the list is unsound.
     Unsound,
-    // 3: an unknown command or a cut operand.
-    Broken(usize),
+    // 3: an unknown command or a truncated operand.
+    BrokenScript(usize),
     // 4: an UNDO with nothing to strike.
-    NothingToStrike(usize),
+    NothingToUndo(usize),
     // 5: a value out of range.
     OutOfRange(usize),
     // 6: the id is present (PUT), or absent (WITHDRAW, MOVE).
@@ -37,8 +37,8 @@ pub fn number_of(answer: EditAnswer) -> u32
     match answer {
         EditAnswer::Done => 0,
         EditAnswer::Unsound => 12,
-        EditAnswer::Broken(_) => 3,
-        EditAnswer::NothingToStrike(_) => 4,
+        EditAnswer::BrokenScript(_) => 3,
+        EditAnswer::NothingToUndo(_) => 4,
         EditAnswer::OutOfRange(_) => 5,
         EditAnswer::WrongId(_) => 6,
         EditAnswer::StartTaken(_) => 7,
@@ -54,8 +54,8 @@ pub fn value_of(answer: EditAnswer, count: usize) -> usize
     match answer {
         EditAnswer::Done => count,
         EditAnswer::Unsound => 0,
-        EditAnswer::Broken(at) => at,
-        EditAnswer::NothingToStrike(at) => at,
+        EditAnswer::BrokenScript(at) => at,
+        EditAnswer::NothingToUndo(at) => at,
         EditAnswer::OutOfRange(at) => at,
         EditAnswer::WrongId(at) => at,
         EditAnswer::StartTaken(at) => at,

@@ -1,4 +1,4 @@
-// One command of a script (01, "Edit").
+// One command of a script, decoded from its bytes (01, "Edit").
 use codec::fields;
 use eit::Record;
 ghost use mathlib.Core.Path.{_≡_};
@@ -60,7 +60,7 @@ pub fn put_record(operands: &[u8]) -> Record
 }
 
 // The command whose byte stands at `at`; any other byte than those of the edits, and none, counts as UNDO, and operands
-// that are cut as far as there are bytes.
+// that are truncated as far as there are bytes.
 pub fn command_at(script: &[u8], at: usize) -> Command
     ensures { λ r.
         ⌜ modelCommand at r ≡ commandOf (getD (now (script .entry)) at 0) at (drop (suc at) (now (script .entry))) ⌝ }

@@ -1,5 +1,5 @@
-// Read (01, "Build, Read"): check looks at the whole file and writes nothing; then the records are filled in, which
-// cannot fail.
+// Read (01, "Build, Read"): check looks at the whole file and writes nothing; then, if the buffer is long enough (27),
+// the records are filled in, which cannot fail.
 use list_records::records::RECORD_SIZE;
 use read_answer::CheckedFile;
 use read_answer::ReadAnswer;

@@ -9,7 +9,7 @@ pub enum ReadAnswer {
     Done(usize),
     // 1: the base day is above 65,472.
     BaseDay,
-    // 20: a section is cut, or its table_id or length is out of range; the section's offset.
+    // 20: a section is truncated, or its table_id or length is out of range; the section's offset.
     Frame(usize),
     // 21: CRC_32; the section's offset.
     Crc(usize),

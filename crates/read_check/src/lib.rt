@@ -20,7 +20,7 @@ ghost use Rattle.read_check.specs.Tracks.{Tracks};
 
 mod section;
 
-// At the end of a file of `size` bytes: it ends after last_table_id, or early.
+// At the end of a file of `size` bytes: it ends after last_table_id, or early (25).
 fn at_end(state: WalkState, size: usize) -> CheckedFile
     ensures { λ r. ⌜
         ((p : Progress) (offset : ℕ) (words : List ℕ) → Tracks offset state words p
@@ -44,7 +44,7 @@ fn at_end(state: WalkState, size: usize) -> CheckedFile
     }
 }
 
-// Section after section, until one is refused or the file ends.
+// Check under any sizes: 1, then section after section, until one is refused or the file ends.
 fn check_within(file: &[u8], base_day: u32, sizes: Sizes) -> CheckedFile
     ensures { λ r. ⌜ checkFile sizes «base_day» (now (file .entry)) ≡ outcomeOf r ⌝ }
 {

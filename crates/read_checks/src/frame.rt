@@ -19,7 +19,7 @@ pub fn is_table(table_id: u32) -> bool
     TABLE_FIRST <= table_id && table_id <= TABLE_MAX
 }
 
-// 20: the section is not cut, and its table_id and its length are in range.
+// 20: the section is not truncated, and its table_id and its length are in range.
 pub fn is_framed(section: &[u8], sizes: Sizes) -> bool
     ensures { λ r. ⌜ r ≡ isFramed sizes (now (section .entry)) ⌝ }
 {
