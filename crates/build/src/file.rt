@@ -3,12 +3,14 @@ use crate::section;
 use build_counts::count;
 use build_counts::cut;
 use build_counts::segment;
-use build_counts::segment::SEGMENTS;
-use build_counts::segment::TABLE_SEGMENTS;
 use codec_section::header::SectionHeader;
+use codec_section::segment::first_section;
+use codec_section::segment::table_of;
 use eit::Identity;
 use eit::Sizes;
 use eit::limits::SECTION_OVERHEAD;
+use eit::limits::SEGMENTS;
+use eit::limits::TABLE_SEGMENTS;
 ghost use mathlib.Core.Path.{_≡_};
 ghost use Prim.Native.Nat.{_+_, _≤_, _<_};
 ghost use lib.ListN.{length, drop};
@@ -25,11 +27,6 @@ ghost use Rattle.schedule.specs.SectionsOf.{sectionsOf};
 ghost use Rattle.build.specs.Sections.{firstHeader, sectionsFrom};
 ghost use Rattle.build.specs.Rows.{IsRow, rowLast};
 ghost use Rattle.build.specs.Writing.{Writable};
-
-// table_id of the first table, and the section numbers of a segment.
-const TABLE_FIRST: usize = 0x50;
-
-const SEGMENT_SECTIONS: usize = 8;
 
 // The sections of a segment, as many as `sections` says, with the events from `from` to `end`: each takes as many of
 // the next events as fit, and is numbered from the first header's section_number on. Returns the offset behind them.
@@ -104,7 +101,8 @@ fn last_section(counts: &[u8], first: usize) -> u8
     while 0 < segment && counts[first + segment] == 0 {
         segment -= 1;
     }
-    (SEGMENT_SECTIONS * segment) as u8 + (counts[first + segment] - 1)
+    // In every table a segment begins at the same section as in the first, where the segment is its own index.
+    first_section(segment) as u8 + (counts[first + segment] - 1)
 }
 
 // The header of the first of a segment's sections, as many as `sections` says.
@@ -118,10 +116,10 @@ fn first_header(
     requires { ⌜ (index < 512) × (0 < sections) × (sections ≤ 8) ⌝ }
     ensures { λ r. ⌜ r ≡ firstHeader index sections last «last_table_id» identity ⌝ }
 {
-    let number = (SEGMENT_SECTIONS * (index % TABLE_SEGMENTS)) as u8;
+    let number = first_section(index) as u8;
     let triplet = identity.triplet;
     SectionHeader {
-        table_id: (TABLE_FIRST + index / TABLE_SEGMENTS) as u8,
+        table_id: table_of(index) as u8,
         section_number: number,
         last_section_number: last,
         segment_last_section_number: number + (sections - 1),
@@ -154,7 +152,7 @@ pub fn write_file<'a>(
         (eventsIn (lentPools (now (day .entry)) (now (series .entry))) (recordsIn count (now (list .entry)))))) ⌝ }
 {
     let crc_tables = codec_crc::tables();
-    let last_table_id = (TABLE_FIRST + segment::last_index(list, count) / TABLE_SEGMENTS) as u8;
+    let last_table_id = table_of(segment::last_index(list, count)) as u8;
     let mut last: u8 = 0;
     let mut at = 0;
     let mut from = 0;

@@ -1,10 +1,13 @@
 // Plan and Build (01, "Build, Read").
 use build_answer::BuildAnswer;
 use build_counts::count;
-use build_counts::segment::SEGMENTS;
 use eit::Identity;
 use eit::Sizes;
 use eit::limits::BASE_DAY_MAX;
+use eit::limits::SEGMENTS;
+use eit::limits::TABLE_SEGMENTS;
+use eit::limits::TABLES;
+use eit::limits::VERSION_MAX;
 ghost use mathlib.Core.Path.{_≡_};
 ghost use Rattle.eit.specs.Sizes.{broadcast};
 ghost use Rattle.eit.specs.Pools.{lentPools};
@@ -16,9 +19,6 @@ ghost use Rattle.build_answer.specs.Outcome.{outcomeOf};
 mod file;
 mod section;
 
-// The most that a version may be.
-const VERSION_MAX: u8 = 31;
-
 // Plan under any sizes: the counts of all segments, 254 each if the list is unsound.
 fn plan_within<'a>(
     list: &[u32],
@@ -26,7 +26,7 @@ fn plan_within<'a>(
     day: &'a [u8],
     series: &'a [u8],
     sizes: Sizes,
-) -> [[u8; 32]; 16]
+) -> [[u8; TABLE_SEGMENTS]; TABLES]
     ensures { λ r. ⌜
         r ≡ plan sizes (lentPools (now (day .entry)) (now (series .entry))) (lentList (now (list .entry)) count) ⌝ }
 {
@@ -36,7 +36,12 @@ fn plan_within<'a>(
 }
 
 // 01's Plan: sixteen tables of thirty-two section counts, each that of the definition.
-pub fn plan<'a>(list: &[u32], count: usize, day: &'a [u8], series: &'a [u8]) -> [[u8; 32]; 16]
+pub fn plan<'a>(
+    list: &[u32],
+    count: usize,
+    day: &'a [u8],
+    series: &'a [u8],
+) -> [[u8; TABLE_SEGMENTS]; TABLES]
     ensures { λ r. ⌜
         r ≡ plan broadcast (lentPools (now (day .entry)) (now (series .entry))) (lentList (now (list .entry)) count) ⌝ }
 {

@@ -1,9 +1,10 @@
 // The sections of each segment, counted in one pass (01, "Build, Read").
 use crate::cut;
 use crate::segment;
-use crate::segment::SEGMENTS;
 use eit::Sizes;
 use eit::limits::SECTION_OVERHEAD;
+use eit::limits::SEGMENT_SECTIONS_MAX;
+use eit::limits::SEGMENTS;
 ghost use mathlib.Core.Path.{_≡_};
 ghost use lib.Dec.{T};
 ghost use Rattle.eit.specs.Sizes.{room};
@@ -23,13 +24,10 @@ pub struct Packed {
 // that is unpackable, 512 if none is; and the bytes that the file needs, which mean nothing if one is.
 pub struct Counted {
     pub is_sound: bool,
-    pub counts: [u8; 512],
+    pub counts: [u8; SEGMENTS],
     pub lowest: usize,
     pub need: usize,
 }
-
-// The most sections of a segment.
-const SEGMENT_SECTIONS_MAX: u8 = 8;
 
 // Plan's entries for an unpackable segment and for an unsound list.
 const UNPACKABLE: u8 = 255;
@@ -68,7 +66,7 @@ fn count_segment<'a>(
     let mut sections: u8 = 0;
     let mut bytes = 0;
     let mut at = from;
-    while sections < SEGMENT_SECTIONS_MAX && at < end {
+    while sections < SEGMENT_SECTIONS_MAX as u8 && at < end {
         let next = cut::next_cut(list, at, end, day, series, room as usize);
         bytes += SECTION_OVERHEAD + next.bytes;
         at = next.to;
@@ -93,7 +91,7 @@ fn count_sound<'a>(
         r
         ≡ countedOf sizes (lentPools (now (day .entry)) (now (series .entry))) (lentList (now (list .entry)) count) ⌝ }
 {
-    let mut counts = [0u8; 512];
+    let mut counts = [0u8; SEGMENTS];
     let mut lowest = SEGMENTS;
     let mut need = 0;
     let mut from = 0;
@@ -134,7 +132,7 @@ pub fn count_sections<'a>(
     if !list_sound::is_sound(list, count, day, series, sizes) {
         return Counted {
             is_sound: false,
-            counts: [UNSOUND; 512],
+            counts: [UNSOUND; SEGMENTS],
             lowest: SEGMENTS,
             need: 0,
         };

@@ -1,5 +1,6 @@
 // The segments of a list's events (01, "The file of sections": start ÷ 10,800, rounded down, is the segment index).
-use eit::limits::SEGMENT_SECONDS;
+use codec_section::segment;
+use eit::limits::TABLE_SEGMENTS;
 use list_records::records;
 ghost use mathlib.Core.Path.{_≡_};
 ghost use Prim.Native.Nat.{_+_, _*_};
@@ -11,17 +12,12 @@ ghost use Rattle.sections.specs.Segment.{segmentIndex};
 ghost use Rattle.schedule.specs.Extent.{lastIndex};
 ghost use Rattle.build_counts.specs.Between.{eventsBetween, leading, isNextInside};
 
-// Segments in all, and those of a table.
-pub const SEGMENTS: usize = 512;
-
-pub const TABLE_SEGMENTS: usize = 32;
-
 // The segment index of record i.
 fn segment_index(list: &[u32], i: usize) -> usize
     ensures { λ r. ⌜ r ≡ segmentIndex (frontRecord (drop (i * recordSize) (now (list .entry))) .start) ⌝ }
 {
     let r = records::record_at(list, i);
-    (r.start / SEGMENT_SECONDS) as usize
+    segment::segment_index(r.start)
 }
 
 // The place behind the events from `from` on that start in the segment. The pools do not matter: only starts are looked

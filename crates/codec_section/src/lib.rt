@@ -1,4 +1,6 @@
-// What a section is made of, as bytes and back: one event, one header. Every function is total: a read says where bytes
-// are truncated or broken, and a write that does not fit leaves all as it was.
+// What a section is made of, as bytes and back: one event, one header; and the arithmetic of its segment. Every
+// function is total: a read says where bytes are truncated or broken, and a write that does not fit leaves all as it
+// was.
 pub mod event;
 pub mod header;
+pub mod segment;

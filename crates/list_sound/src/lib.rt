@@ -4,18 +4,15 @@ use codec::seen;
 use eit::Record;
 use eit::Sizes;
 use eit::Time;
+use eit::limits::ID_MAX;
 use eit::limits::ID_WORDS;
+use eit::limits::MARKS_MAX;
 use list_records::records;
 use list_records::records::RECORD_SIZE;
 ghost use mathlib.Core.Path.{_≡_};
 ghost use Rattle.eit.specs.Pools.{lentPools};
 ghost use Rattle.eit.specs.Records.{lentList};
 ghost use Rattle.eit.specs.Sound.{inRange, sound};
-
-// The most that an id and marks may be.
-const ID_MAX: u32 = 65_535;
-
-const MARKS_MAX: u32 = 7;
 
 // Values are in range.
 pub fn is_in_range(event: Record) -> bool

@@ -3,20 +3,17 @@ use codec::fields;
 use codec_crc::CRC_FIRST;
 use eit::Sizes;
 use eit::limits::SECTION_OVERHEAD;
+use eit::limits::TABLE_FIRST;
+use eit::limits::TABLE_MAX;
 ghost use mathlib.Core.Path.{_≡_};
 ghost use Rattle.sections.specs.HeaderTests.{isTable, isFramed};
 ghost use Rattle.read_checks.specs.RightCrc.{hasRightCrcBy};
-
-// table_id, 0x50 to 0x5F.
-pub const TABLE_FIRST: u32 = 0x50;
-
-const TABLE_MAX: u32 = 0x5F;
 
 // Whether a number is a table_id of an EIT schedule of this work.
 pub fn is_table(table_id: u32) -> bool
     ensures { λ r. ⌜ r ≡ isTable «table_id» ⌝ }
 {
-    TABLE_FIRST <= table_id && table_id <= TABLE_MAX
+    TABLE_FIRST as u32 <= table_id && table_id <= TABLE_MAX as u32
 }
 
 // 20: the section is not truncated, and its table_id and its length are in range.

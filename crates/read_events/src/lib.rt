@@ -3,11 +3,9 @@ use codec::seen;
 use codec_section::event;
 use codec_section::event::EventRead;
 use codec_section::header::SectionHeader;
+use codec_section::segment;
 use eit::Record;
 use eit::limits::EVENT_OVERHEAD;
-use eit::limits::SEGMENT_SECONDS;
-use read_checks::frame::TABLE_FIRST;
-use read_checks::numbering;
 ghost use mathlib.Core.Path.{_≡_};
 ghost use mathlib.Core.Bool.{_&&_, not};
 ghost use mathlib.Core.List.{[]};
@@ -32,17 +30,17 @@ pub struct EventCheck {
 fn is_in_segment(header: SectionHeader, start: u32) -> bool
     ensures { λ r. ⌜ r ≡ isInSegment (heldHeader header) start ⌝ }
 {
-    let index = start / SEGMENT_SECONDS;
-    TABLE_FIRST + index / 32 == header.table_id as u32
-        && 8 * (index % 32) == numbering::first_of(header.section_number)
+    let index = segment::segment_index(start);
+    segment::table_of(index) == header.table_id as usize
+        && segment::first_section(index) == segment::first_of(header.section_number)
 }
 
 // A section without events is alone in its segment: S = G = s0.
 fn is_alone(header: SectionHeader) -> bool
     ensures { λ r. ⌜ r ≡ isFilledOrAlone (heldHeader header) [] ⌝ }
 {
-    let first = numbering::first_of(header.section_number);
-    header.section_number as u32 == first && header.segment_last_section_number as u32 == first
+    let first = segment::first_of(header.section_number);
+    header.section_number as usize == first && header.segment_last_section_number as usize == first
 }
 
 // An event that does not start before `least`, and whose id is not in the set.

@@ -1,6 +1,7 @@
 // The lines on standard output.
 use calendar::Dated;
 use codec::fields;
+use eit::limits::TABLE_SEGMENTS;
 use libc::STDOUT_FILENO;
 use plan_listing::events;
 ghost use Prim.Native.Nat.{_≤_};
@@ -87,10 +88,10 @@ pub fn print_cuts(file: &[u8]) {
 }
 
 // How many counts there are up to the last that is not 0.
-fn range_of(counts: &[u8; 32]) -> usize
+fn range_of(counts: &[u8; TABLE_SEGMENTS]) -> usize
     ensures { λ r. ⌜ r ≤ 32 ⌝ }
 {
-    let mut n = 32;
+    let mut n = TABLE_SEGMENTS;
     while 0 < n && counts[n - 1] == 0 {
         n -= 1;
     }
@@ -103,7 +104,7 @@ fn print_count(count: u8) {
 }
 
 // Plan's line of a table, where it has sections.
-pub fn print_counts(table_id: usize, counts: &[u8; 32]) {
+pub fn print_counts(table_id: usize, counts: &[u8; TABLE_SEGMENTS]) {
     let n = range_of(counts);
     if n == 0 {
         return;

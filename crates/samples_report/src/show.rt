@@ -2,6 +2,8 @@
 use crate::lines;
 use eit::Identity;
 use eit::Triplet;
+use eit::limits::TABLE_FIRST;
+use eit::limits::TABLES;
 ghost use mathlib.Core.Path.{_≡_};
 ghost use Prim.Native.Nat.{_≤_};
 ghost use lib.ListN.{length};
@@ -89,9 +91,9 @@ fn show_file(file: &[u8]) {
 fn show_plan<'a>(list: &[u32], count: usize, day: &'a [u8], series: &'a [u8]) {
     let tables = build::plan(list, count, day, series);
     let mut i = 0;
-    while i < 16 {
+    while i < TABLES {
         let counts = tables[i];
-        lines::print_counts(0x50 + i, &counts);
+        lines::print_counts(TABLE_FIRST + i, &counts);
         i += 1;
     }
 }

@@ -1,6 +1,6 @@
 -- `last_section` meets its contract: behind the segment that is looked at none of the table has sections. Assumes
 -- nothing.
-use Prim.Native.Nat.{_+_}
+use Prim.Native.Nat.{_+_, _*_}
 use mathlib.Core.Path.{_≡_}
 use mathlib.Core.Logic.{_⊎_, inl, inr}
 use native.Mathlib.Omega.{arith}
@@ -22,10 +22,10 @@ sub-segment : tie.Need-sub-segment Inv-loop μ-loop
 sub-segment c = search needs
 
 loop-holds : tie.Need-loop-holds Inv-loop μ-loop
-loop-holds c = last-start _ _ (c .pre)
+loop-holds c = last-start _ _ (c .before .pre)
 
 add-if1 : tie.Need-add-if1 Inv-loop μ-loop
-add-if1 c = omega (arith, c .before .before .good, last-within (c .before .loop .inv))
+add-if1 c = omega (arith, c .before .before .before .good, last-within (c .before .loop .inv))
 
 shared-slice-read-if1 : tie.Need-shared-slice-read-if1 Inv-loop μ-loop
 shared-slice-read-if1 c = last-within (c .before .before .loop .inv)
@@ -44,7 +44,7 @@ loop-again c =
 -- why the loop stopped
 stops : (c : tie.Left-loop Inv-loop μ-loop)
     → let segment = c .before .loop .segment in
-    let a = c .before .before .args in
+    let a = c .before .before .before .args in
     (segment ≡ 0) ⊎ (getD (now (a .counts)) (a .first + segment) 0 ≡ 0 → ⊥)
 stops c =
     elim (c .loop-test .came) [
@@ -52,27 +52,34 @@ stops c =
       | inr none ↦ inl (omega (arith, none .left))
     ]
 
-mul-result : tie.Need-mul-result Inv-loop μ-loop
-mul-result c = omega (arith, c .before .loop .inv .few)
+first-section-requires : tie.Need-first-section-requires Inv-loop μ-loop
+first-section-requires c κs = search needs
+
+-- the segment is one of the table's 32, so it is its own index mod 32
+first-number : (c : tie.After-first-section Inv-loop μ-loop)
+    → c .first-section .result ≡ 8 * c .before .before .loop .segment
+first-number c = omega (arith, c .first-section .ensures, c .before .before .loop .inv .few)
 
 cast-result : tie.Need-cast-result Inv-loop μ-loop
-cast-result c = omega (arith, c .before .loop .inv .few)
+cast-result c = omega (arith, first-number c, c .before .before .loop .inv .few)
 
 add-result : tie.Need-add-result Inv-loop μ-loop
-add-result c = omega (arith, c .before .before .good, last-within (c .before .loop .inv))
+add-result c = omega (arith, c .before .before .before .before .good, last-within (c .before .before .loop .inv))
 
 shared-slice-read-result : tie.Need-shared-slice-read-result Inv-loop μ-loop
-shared-slice-read-result c = last-within (c .before .before .loop .inv)
+shared-slice-read-result c = last-within (c .before .before .before .loop .inv)
 
 sub-result : tie.Need-sub-result Inv-loop μ-loop
-sub-result c = last-some (c .before .before .loop .inv) (stops (c .before))
+sub-result c = last-some (c .before .before .before .loop .inv) (stops (c .before .before))
 
 add-result-2 : tie.Need-add-result-2 Inv-loop μ-loop
 add-result-2 c =
-    omega (arith, c .before .before .loop .inv .few, last-few (c .before .before .loop .inv) (stops (c .before)))
+    let so-far = c .before .before .before .loop .inv in
+    omega (arith, first-number (c .before), so-far .few, last-few so-far (stops (c .before .before)))
 
 returns : tie.Need-returns Inv-loop μ-loop
-returns c = last-found (c .before .before .loop .inv) (stops (c .before))
+returns c =
+    rw (first-number (c .before)) (last-found (c .before .before .before .loop .inv) (stops (c .before .before)))
 
 pub last-section-spec : {M : Type 1} → statement M
 last-section-spec =
@@ -87,7 +94,7 @@ last-section-spec =
     sub-segment-2
     loop-less
     loop-again
-    mul-result
+    first-section-requires
     cast-result
     add-result
     shared-slice-read-result

@@ -1,6 +1,6 @@
 -- `write_file` meets its contract: before each turn the segments before it are written, and the events from `from` on
 -- are those of this segment and of later ones (`FileSoFar`). Assumes nothing.
-use Prim.Native.Nat.{_-_, _/_, _<_}
+use Prim.Native.Nat.{_-_, _/_}
 use mathlib.Core.Path.{_≡_, ap, _∙_}
 use mathlib.Core.Logic.{⊎-elim}
 use mathlib.Core.List.{List}
@@ -12,6 +12,7 @@ use Rattle.eit.specs.Events.{Event}
 use Rattle.sections.specs.Segment.{tableOf}
 use Rattle.codec_section.specs.declared.header.SectionHeader.{SectionHeader}
 use Rattle.build_counts.proofs.WalkLaws.{heldEvents}
+use Rattle.schedule.specs.Extent.{lastIndex}
 use Rattle.schedule.specs.SectionsOf.{tableLast}
 use Rattle.build.proofs.CountsLaws.{counts-length, count-few, row-is, row-last}
 use Rattle.build.proofs.FileLaws.{FileSoFar, file-same, table-small, file-start, file-end}
@@ -30,8 +31,8 @@ abbrev μ-loop : tie.MeasureT-loop
     512 - index
 
 -- back from the calls before the loop, and from a turn, to the call
-abbrev called : tie.After-last-index Inv-loop μ-loop → tie.Start Inv-loop μ-loop
-called c = c .before .before .before .before .before .before .before
+abbrev called : tie.After-table-of Inv-loop μ-loop → tie.Start Inv-loop μ-loop
+called c = c .before .before .before .before .before .before .before .before
 
 abbrev start : tie.At-loop Inv-loop μ-loop → tie.Start Inv-loop μ-loop
 start c = called (c .before)
@@ -49,16 +50,16 @@ tables-requires c κs = search needs
 last-index-requires : tie.Need-last-index-requires Inv-loop μ-loop
 last-index-requires c κs = search needs
 
--- last_table_id
-table-fits : (c : tie.After-last-index Inv-loop μ-loop) → c .last-index .result / 32 < 16
-table-fits c =
-    omega (arith, table-small (pools (called c)) _ _ (called c .pre), c .last-index .ensures (pools (called c)))
+table-of-requires : tie.Need-table-of-requires Inv-loop μ-loop
+table-of-requires c κs = search needs
 
-add-last-table-id : tie.Need-add-last-table-id Inv-loop μ-loop
-add-last-table-id c = omega (arith, table-fits c)
+-- last_table_id
+last-table : (c : tie.After-table-of Inv-loop μ-loop)
+    → c .table-of .result ≡ tableOf (lastIndex 0 (events (called c)))
+last-table c = c .table-of .ensures ∙ ap tableOf (c .before .last-index .ensures (pools (called c)))
 
 cast-last-table-id : tie.Need-cast-last-table-id Inv-loop μ-loop
-cast-last-table-id c = omega (arith, table-fits c)
+cast-last-table-id c = omega (arith, table-small (pools (called c)) _ _ (called c .pre), last-table c)
 
 loop-holds : tie.Need-loop-holds Inv-loop μ-loop
 loop-holds c = file-start (pools (called c)) _ _ (called c .pre) _ _
@@ -107,13 +108,13 @@ write-segment-requires c κs =
     let ready = start turn .pre in
     let ps = pools (start turn) in (
       part-fits ps _ _ ready (turn .loop .inv) few some (ended .end-of .ensures ps) (c .before .room-of .ensures)
-          (table-last joined) (ap tableOf (turn .before .last-index .ensures ps)) (made .ensures),
+          (table-last joined) (last-table (turn .before)) (made .ensures),
       omega (
         arith,
         count-few ready (turn .loop .index) few,
         ap (λ (h : SectionHeader). h .«section_number») (made .ensures),
       ),
-      turn .before .before .tables .ensures,
+      turn .before .before .before .tables .ensures,
     )
 
 add-index : tie.Need-add-index Inv-loop μ-loop
@@ -134,7 +135,7 @@ loop-again c =
     record { before = record { before = c .before; if1 = w .0 }; if2 = w .1 } in
     file-same (w .10) (w .11) (w .12) (w .13)
     (file-more ps _ _ ready (turn .loop .inv) few (w .0 .taken) (w .2 .ensures ps) (w .5 .ensures)
-    (table-last joined) (ap tableOf (turn .before .last-index .ensures ps)) (w .3 .ensures) (w .7 .ensures .0)
+    (table-last joined) (last-table (turn .before)) (w .3 .ensures) (w .7 .ensures .0)
     (w .7 .ensures .1)))
     (λ w. file-same (w .1) (w .2) (w .3) (w .4) (file-skip ps _ _ ready (turn .loop .inv) few (w .0 .left)))
     (c .if1 .came)
@@ -154,7 +155,7 @@ write-file-spec =
     μ-loop
     tables-requires
     last-index-requires
-    add-last-table-id
+    table-of-requires
     cast-last-table-id
     loop-holds
     shared-slice-read-sections

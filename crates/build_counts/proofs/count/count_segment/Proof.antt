@@ -25,6 +25,9 @@ returns c = pack-none _ _ _ _ _ (c .if1 .taken)
 loop-holds : tie.Need-loop-holds Inv-loop μ-loop
 loop-holds c = pack-start _ _ _ _ _ (c .if1 .left) (omega (arith, c .before .before .before .before .fits .room))
 
+cast-loop : tie.Need-cast-loop Inv-loop μ-loop
+cast-loop c = search needs
+
 next-cut-requires : tie.Need-next-cut-requires Inv-loop μ-loop
 next-cut-requires c κs = search needs
 
@@ -79,6 +82,7 @@ count-segment-spec =
     μ-loop
     returns
     loop-holds
+    cast-loop
     next-cut-requires
     add-bytes
     add-bytes-2

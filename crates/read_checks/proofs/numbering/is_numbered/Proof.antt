@@ -24,6 +24,9 @@ cast-segment-last c = search needs
 cast-if1 : tie.Need-cast-if1
 cast-if1 c = search needs
 
+sub-if3 : tie.Need-sub-if3
+sub-if3 c = search needs
+
 add-if3 : tie.Need-add-if3
 add-if3 c = search needs
 
@@ -86,6 +89,7 @@ is-numbered-spec =
     cast-last
     cast-segment-last
     cast-if1
+    sub-if3
     add-if3
     add-result
     returns
