@@ -70,9 +70,10 @@ module _ {sizes : Sizes} {pools : Pools} {numbers : List ℕ} {count base : ℕ}
     es = eventsOf pools list
 
     holds : T (sound sizes pools list)
-    holds = subst T
-        (sym (sym (counted-sound sizes pools list) ∙ sym (ap (λ (c : Counted). c .«is_sound») (asked .is-counted)) ∙ is))
-        tt
+    holds =
+        let told : counted .«is_sound» ≡ sound sizes pools list =
+        ap (λ (c : Counted). c .«is_sound») (asked .is-counted) ∙ counted-sound sizes pools list in
+        subst T (sym (sym told ∙ is)) tt
 
     found : counted
         ≡ soundWith (flatten (plan sizes pools list)) (indexOr512 (lowestUnpackable sizes es)) (needOf sizes es)

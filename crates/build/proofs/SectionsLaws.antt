@@ -152,7 +152,7 @@ module _ {pools : Pools} {numbers : List ℕ} {room : ℕ} {first : SectionHeade
             let later : Header → List Event → List Section = λ g fs. sectionsFrom room g others fs in
             let one : sections - k ≡ suc others = omega arith in
             let after : suc number ≡ first .«section_number» + (k + 1) = omega arith in
-            let others-from : drop n es ≡ eventsBetween pools numbers (taken .to) end =
+            let after-them : drop n es ≡ eventsBetween pools numbers (taken .to) end =
             between-drop pools numbers next end n
             ∙ ap (λ (c : Cut). eventsBetween pools numbers (c .to) end) (sym cut) in
             ap (fileBytes base)
@@ -160,15 +160,17 @@ module _ {pools : Pools} {numbers : List ℕ} {room : ℕ} {first : SectionHeade
             ∙ first-section room h others es
             ∙ ap₂ (λ (g : SectionHeader) (fs : List Event). sectionOf g fs ∷ later (nextHeader h) (drop n es))
             (sym (so-far .others number)) (sym next-events)
-            ∙ ap₂ (λ (m : ℕ) (fs : List Event). nextSection ∷ later (heldHeader (numbered first m)) fs) after others-from)
+            ∙ ap₂ (λ (m : ℕ) (fs : List Event). nextSection ∷ later (heldHeader (numbered first m))
+            fs)
+            after after-them)
             ∙ file-cons base nextSection (rest (k + 1) (taken .to))
 
         pub segment-fits : offset + (sectionOverhead + taken .bytes) ≤ length out
         segment-fits = omega (arith, left-fits (so-far .left) sectionNow behind parts, next-size)
 
         pub segment-more : {out′ : List ℕ} → out′ ≡ overwrite out offset (sectionBytes base nextSection)
-            → SegmentSoFar pools numbers room first sections end base d at from out′ (numbered header number) (offset + (sectionOverhead + taken .bytes))
-            (taken .to) (k + 1)
+            → SegmentSoFar pools numbers room first sections end base d at from out′ (numbered header number)
+            (offset + (sectionOverhead + taken .bytes)) (taken .to) (k + 1)
         segment-more written =
             record {
               left = left-more (so-far .left) sectionNow behind parts written (ap (λ (n : ℕ). offset + n) next-size);

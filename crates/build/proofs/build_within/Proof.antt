@@ -62,8 +62,8 @@ returns-2 c =
     let legal = c .before .before in
     let start = call (legal .before) in
     let a = start .args in
-    build-version (a .sizes) (poolsOf start) (listOf start) (a .base-day) (a .identity) (now (a .out)) (legal .if1 .left)
-    (c .if2 .taken)
+    build-version (a .sizes) (poolsOf start) (listOf start) (a .base-day) (a .identity) (now (a .out))
+    (legal .if1 .left) (c .if2 .taken)
 
 count-sections-requires : tie.Need-count-sections-requires
 count-sections-requires c κs = search needs

@@ -61,7 +61,8 @@ slice-aggregate-result : tie.Need-slice-aggregate-result
 slice-aggregate-result c =
     let sized = c .before .before in
     let a = start sized .args in
-    sym (length-take-le (sized .stated-size .result) (rest (now (a .file)) (a .offset)) (omega (arith, c .before .if2 .left)))
+    let size = sized .stated-size .result in
+    sym (length-take-le size (rest (now (a .file)) (a .offset)) (omega (arith, c .before .if2 .left)))
 
 returns-2 : tie.Need-returns-2
 returns-2 c =

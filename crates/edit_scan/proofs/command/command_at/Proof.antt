@@ -20,7 +20,9 @@ start c = c .before .before .before .before
 
 -- the script is bytes
 script-bytes : (c : tie.After-operands) → Bytes (start c .args .script .now)
-script-bytes c = bytes-all (start c .args .script .now) (λ k. c .before .before .before .shared-slice-known .given k .fits)
+script-bytes c =
+    let known = c .before .before .before in
+    bytes-all (start c .args .script .now) (λ k. known .shared-slice-known .given k .fits)
 
 returns : tie.Need-returns
 returns c = read-beyond (c .before .before .args .script .now) (c .before .before .args .at) (c .if1 .taken)
