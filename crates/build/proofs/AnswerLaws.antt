@@ -42,9 +42,16 @@ index-found : (o : Option ℕ) {n : ℕ} → n ≡ indexOr512 o → n < 512 → 
 index-found none is few = absurd (omega arith)
 index-found (some index) is few = ap some (sym is)
 
-module _ (sizes : Sizes) (pools : Pools) (numbers : List ℕ) (count : ℕ) (counted : Counted)
-    (is-counted : counted ≡ countedOf sizes pools (lentList numbers count)) (base : ℕ) (identity : Identity)
-    (output : List ℕ) (legalBase : base ≤ baseDayMax) (legalVersion : identity .version ≤ versionMax) where
+-- a call with a legal base day and version, and what it counted of the list
+pub record Asked (sizes : Sizes) (pools : Pools) (numbers : List ℕ) (count base : ℕ) (identity : Identity)
+    (output : List ℕ) (counted : Counted)
+    : Type 0 where
+  pub is-counted : counted ≡ countedOf sizes pools (lentList numbers count)
+  pub legal-base : base ≤ baseDayMax
+  pub legal-version : identity .version ≤ versionMax
+
+module _ {sizes : Sizes} {pools : Pools} {numbers : List ℕ} {count base : ℕ} {identity : Identity} {output : List ℕ}
+    {counted : Counted} (asked : Asked sizes pools numbers count base identity output counted) where
   abbrev list : EventList
   list = lentList numbers count
 
@@ -54,8 +61,8 @@ module _ (sizes : Sizes) (pools : Pools) (numbers : List ℕ) (count : ℕ) (cou
   pub answer-unsound : counted .«is_sound» ≡ false → answer ≡ record { number = 12; value = 0; output = output }
   answer-unsound fails =
       let unsound : sound sizes pools list ≡ false =
-      sym (counted-sound sizes pools list) ∙ sym (ap (λ (c : Counted). c .«is_sound») is-counted) ∙ fails in
-      build-unsound sizes pools list base identity output legalBase legalVersion
+      sym (counted-sound sizes pools list) ∙ sym (ap (λ (c : Counted). c .«is_sound») (asked .is-counted)) ∙ fails in
+      build-unsound sizes pools list base identity output (asked .legal-base) (asked .legal-version)
       (subst (λ (b : Bool). T (not b)) (sym unsound) tt)
 
   module _ (is : counted .«is_sound» ≡ true) where
@@ -63,12 +70,14 @@ module _ (sizes : Sizes) (pools : Pools) (numbers : List ℕ) (count : ℕ) (cou
     es = eventsOf pools list
 
     holds : T (sound sizes pools list)
-    holds = subst T
-        (sym (sym (counted-sound sizes pools list) ∙ sym (ap (λ (c : Counted). c .«is_sound») is-counted) ∙ is)) tt
+    holds =
+        let told : counted .«is_sound» ≡ sound sizes pools list =
+        ap (λ (c : Counted). c .«is_sound») (asked .is-counted) ∙ counted-sound sizes pools list in
+        subst T (sym (sym told ∙ is)) tt
 
     found : counted
         ≡ soundWith (flatten (plan sizes pools list)) (indexOr512 (lowestUnpackable sizes es)) (needOf sizes es)
-    found = is-counted ∙ sound-is sizes pools list holds
+    found = asked .is-counted ∙ sound-is sizes pools list holds
 
     lowest-found : counted .lowest ≡ indexOr512 (lowestUnpackable sizes es)
     lowest-found = ap (λ (c : Counted). c .lowest) found
@@ -77,7 +86,7 @@ module _ (sizes : Sizes) (pools : Pools) (numbers : List ℕ) (count : ℕ) (cou
     need-found = ap (λ (c : Counted). c .need) found ∙ sym (need-is sizes es identity)
 
     built-events : answer ≡ buildEvents sizes base identity es output
-    built-events = build-sound sizes pools list base identity output legalBase legalVersion holds
+    built-events = build-sound sizes pools list base identity output (asked .legal-base) (asked .legal-version) holds
 
     pub answer-unpackable : counted .lowest < 512
         → answer ≡ record { number = 10; value = counted .lowest; output = output }

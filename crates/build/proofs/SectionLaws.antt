@@ -18,24 +18,40 @@ use Rattle.sections.specs.Section.{Section, headerSize, eventOverhead, eventSiz
 use Rattle.sections.specs.Encode.{eventBytes, headerBytes, eventLoopBytes, coveredBytes, sectionBytes}
 use Rattle.sections.proofs.RowBytes.{loop-none, loop-more}
 use Rattle.sections.proofs.SectionBack.{section-is, covered-is}
-use Rattle.sections.proofs.Lengths.{event-length, header-length, covered-length}
+use Rattle.sections.proofs.Lengths.{event-length, loop-length, header-length, covered-length}
 use Rattle.codec.specs.Write.{writeAt}
 use Rattle.codec_crc.specs.CrcTables.{crcTables, crcBy}
 use Rattle.codec.proofs.WriteLaws.{write-fits}
-use Rattle.codec.proofs.LeftLaws.{Left, left-fits, left-more, left-end}
+use Rattle.codec.proofs.LeftLaws.{Left, left-all, left-fits, left-more, left-end}
 use Rattle.codec_crc.proofs.BlockLaws.{crc32-by-tables}
 use Rattle.build_counts.specs.Between.{eventsBetween}
 use Rattle.build_counts.proofs.BetweenLaws.{between-more, between-end}
 
 -- ---- the events
 
--- the events from `at` on are to be written, and those from place i on are left
-module _ (base : ℕ) (pools : Pools) (numbers : List ℕ) (i end : ℕ) {d : List ℕ} {at : ℕ} {all out : List ℕ} {offset : ℕ}
-    (left : Left d at all out offset (eventLoopBytes base (eventsBetween pools numbers i end)))
+-- the events between two places are to be written from `at` on, and those from place i on are left
+pub record EventLoopSoFar (base : ℕ) (pools : Pools) (numbers : List ℕ) (from end : ℕ) (d : List ℕ) (at : ℕ)
+    (out : List ℕ) (offset i : ℕ)
+    : Type 0 where
+  pub left : Left d at (eventLoopBytes base (eventsBetween pools numbers from end)) out offset
+      (eventLoopBytes base (eventsBetween pools numbers i end))
+
+pub events-start : {base : ℕ} {pools : Pools} {numbers : List ℕ} {from end : ℕ} {d : List ℕ} {at : ℕ}
+    → at + eventSizes (eventsBetween pools numbers from end) ≤ length d
+    → EventLoopSoFar base pools numbers from end d at d at from
+events-start {base} {pools} {numbers} {from} {end} {d} {at} fits =
+    let all : List Event = eventsBetween pools numbers from end in
+    record { left = left-all d at (eventLoopBytes base all) (omega (arith, loop-length base all)) }
+
+module _ {base : ℕ} {pools : Pools} {numbers : List ℕ} {from end : ℕ} {d : List ℕ} {at : ℕ} {out : List ℕ}
+    {offset i : ℕ} (so-far : EventLoopSoFar base pools numbers from end d at out offset i)
   where
+    abbrev all : List ℕ
+    all = eventLoopBytes base (eventsBetween pools numbers from end)
+
     pub events-written : end ≤ i → (out ≡ overwrite d at all) × (offset ≡ at + length all)
     events-written behind =
-        left-end left (ap (eventLoopBytes base) (between-end pools numbers i end behind) ∙ loop-none base)
+        left-end (so-far .left) (ap (eventLoopBytes base) (between-end pools numbers i end behind) ∙ loop-none base)
 
     -- the next one, with its record and its chain as the code has them
     module _ {r : Record} {chain : List ℕ} (within : i < end) (found : r ≡ frontRecord (drop (i * recordSize) numbers))
@@ -58,14 +74,17 @@ module _ (base : ℕ) (pools : Pools) (numbers : List ℕ) (i end : ℕ) {d : Li
             ∙ loop-more base (eventWith r chain) (eventsBetween pools numbers (i + 1) end)
 
         pub next-fits : offset + (eventOverhead + length chain) ≤ length out
-        next-fits = omega (arith, left-fits left next behind parts, event-length base (eventWith r chain))
+        next-fits = omega (arith, left-fits (so-far .left) next behind parts, event-length base (eventWith r chain))
 
         pub next-written : {out′ : List ℕ} → out′ ≡ writeAt out offset next
-            → Left d at all out′ (offset + (eventOverhead + length chain)) behind
+            → EventLoopSoFar base pools numbers from end d at out′ (offset + (eventOverhead + length chain)) (i + 1)
         next-written written =
-            left-more left next behind parts
-            (written ∙ write-fits out offset next (left-fits left next behind parts))
-            (omega (arith, event-length base (eventWith r chain)))
+            record {
+              left =
+                  left-more (so-far .left) next behind parts
+                  (written ∙ write-fits out offset next (left-fits (so-far .left) next behind parts))
+                  (omega (arith, event-length base (eventWith r chain)));
+            }
 
 -- ---- the section
 

@@ -68,100 +68,112 @@ module _ (pools : Pools) (numbers : List ℕ) (room : ℕ) (first : SectionHeade
     pub few : k ≤ sections
     pub others : (n : ℕ) → numbered header n ≡ numbered first n
 
-  pub segment-start : (base : ℕ) (d : List ℕ) (at from : ℕ) → at + sectionSizes (allSections from) ≤ length d
-      → SegmentSoFar base d at from d first at from 0
-  segment-start base d at from fits =
-      let all : List ℕ = fileBytes base (allSections from) in
-      let zeroth : first .«section_number» ≡ first .«section_number» + 0 = omega arith in
-      let every : sections ≡ sections - 0 = omega arith in
-      record {
-        left =
-            subst (Left d at all d at)
-            (ap₂ (λ (n m : ℕ). fileBytes base
-            (sectionsFrom room (heldHeader (numbered first n)) m (eventsBetween pools numbers from end)))
-            zeroth every)
-            (left-all d at all (omega (arith, file-length base (allSections from))));
-        few = omega arith;
-        others = λ n. refl;
-      }
+pub segment-start : {pools : Pools} {numbers : List ℕ} {room : ℕ} {first : SectionHeader} {sections end base : ℕ}
+    {d : List ℕ} {at from : ℕ}
+    → at + sectionSizes (allSections pools numbers room first sections end from) ≤ length d
+    → SegmentSoFar pools numbers room first sections end base d at from d first at from 0
+segment-start {pools} {numbers} {room} {first} {sections} {end} {base} {d} {at} {from} fits =
+    let sections-all : List Section = allSections pools numbers room first sections end from in
+    let all : List ℕ = fileBytes base sections-all in
+    let zeroth : first .«section_number» ≡ first .«section_number» + 0 = omega arith in
+    let every : sections ≡ sections - 0 = omega arith in
+    record {
+      left =
+          subst (Left d at all d at)
+          (ap₂ (λ (n m : ℕ). fileBytes base
+          (sectionsFrom room (heldHeader (numbered first n)) m (eventsBetween pools numbers from end)))
+          zeroth every)
+          (left-all d at all (omega (arith, file-length base sections-all)));
+      few = omega arith;
+      others = λ n. refl;
+    }
 
-  module _ {base : ℕ} {d : List ℕ} {at from : ℕ} {out : List ℕ} {header : SectionHeader} {offset next k : ℕ}
-      (so-far : SegmentSoFar base d at from out header offset next k)
-    where
-      pub segment-end : sections ≤ k
-          → (out ≡ overwrite d at (fileBytes base (allSections from))) × (offset ≡ at + sectionSizes (allSections from))
-      segment-end ended =
-          let h : Header = heldHeader (numbered first (first .«section_number» + k)) in
-          let es : List Event = eventsBetween pools numbers next end in
-          let none : sections - k ≡ 0 = omega arith in
-          let (written, ends) =
-          left-end (so-far .left)
-          (ap (λ (n : ℕ). fileBytes base (sectionsFrom room h n es)) none ∙ ap (fileBytes base) (no-sections room h es)
-          ∙ file-none base) in
-          (written, omega (arith, ends, file-length base (allSections from)))
+module _ {pools : Pools} {numbers : List ℕ} {room : ℕ} {first : SectionHeader} {sections end base : ℕ} {d : List ℕ}
+    {at from : ℕ} {out : List ℕ} {header : SectionHeader} {offset next k : ℕ}
+    (so-far : SegmentSoFar pools numbers room first sections end base d at from out header offset next k)
+  where
+    abbrev all : List Section
+    all = allSections pools numbers room first sections end from
 
-      -- the next section takes as many of the next events as fit
-      module _ (more : k < sections) (taken : Cut)
-          (cut : taken ≡ cutOf next room (eventsBetween pools numbers next end))
-        where
-          abbrev number : ℕ
-          number = first .«section_number» + k
+    abbrev rest : ℕ → ℕ → List Section
+    rest = sectionsBehind pools numbers room first sections end
 
-          abbrev nextSection : Section
-          nextSection = sectionOf (numbered header number) (eventsBetween pools numbers next (taken .to))
+    pub segment-end : sections ≤ k
+        → (out ≡ overwrite d at (fileBytes base all)) × (offset ≡ at + sectionSizes all)
+    segment-end ended =
+        let h : Header = heldHeader (numbered first (first .«section_number» + k)) in
+        let es : List Event = eventsBetween pools numbers next end in
+        let none : sections - k ≡ 0 = omega arith in
+        let (written, ends) =
+        left-end (so-far .left)
+        (ap (λ (n : ℕ). fileBytes base (sectionsFrom room h n es)) none ∙ ap (fileBytes base) (no-sections room h es)
+        ∙ file-none base) in
+        (written, omega (arith, ends, file-length base all))
 
-          next-events : let es = eventsBetween pools numbers next end in
-              eventsBetween pools numbers next (taken .to) ≡ take (fit eventSize room es) es
-          next-events =
-              let es : List Event = eventsBetween pools numbers next end in
-              ap (λ (c : Cut). eventsBetween pools numbers next (c .to)) cut
-              ∙ between-front pools numbers next end (fit eventSize room es) (fit-length eventSize room es)
+    -- the next section takes as many of the next events as fit
+    module _ (more : k < sections) (taken : Cut)
+        (cut : taken ≡ cutOf next room (eventsBetween pools numbers next end))
+      where
+        abbrev number : ℕ
+        number = first .«section_number» + k
 
-          pub segment-size : sectionOverhead + taken .bytes
-              ≡ sectionSizeOf (eventsBetween pools numbers next (taken .to))
-          segment-size =
-              ap (λ (c : Cut). sectionOverhead + c .bytes) cut
-              ∙ ap (λ (es : List Event). sectionOverhead + eventSizes es) (sym next-events)
+        abbrev nextSection : Section
+        nextSection = sectionOf (numbered header number) (eventsBetween pools numbers next (taken .to))
 
-          -- its bytes, and those of the sections behind it
-          abbrev sectionNow : List ℕ
-          sectionNow = sectionBytes base nextSection
+        next-events : let es = eventsBetween pools numbers next end in
+            eventsBetween pools numbers next (taken .to) ≡ take (fit eventSize room es) es
+        next-events =
+            let es : List Event = eventsBetween pools numbers next end in
+            ap (λ (c : Cut). eventsBetween pools numbers next (c .to)) cut
+            ∙ between-front pools numbers next end (fit eventSize room es) (fit-length eventSize room es)
 
-          abbrev behind : List ℕ
-          behind = fileBytes base (sectionsBehind (k + 1) (taken .to))
+        pub segment-size : sectionOverhead + taken .bytes
+            ≡ sectionSizeOf (eventsBetween pools numbers next (taken .to))
+        segment-size =
+            ap (λ (c : Cut). sectionOverhead + c .bytes) cut
+            ∙ ap (λ (es : List Event). sectionOverhead + eventSizes es) (sym next-events)
 
-          next-size : sectionOverhead + taken .bytes ≡ length sectionNow
-          next-size = segment-size ∙ sym (section-length base nextSection)
+        -- its bytes, and those of the sections behind it
+        abbrev sectionNow : List ℕ
+        sectionNow = sectionBytes base nextSection
 
-          parts : fileBytes base (sectionsBehind k next) ≡ sectionNow ++ behind
-          parts =
-              let h : Header = heldHeader (numbered first number) in
-              let es : List Event = eventsBetween pools numbers next end in
-              let n : ℕ = fit eventSize room es in
-              let others : ℕ = sections - (k + 1) in
-              let later : Header → List Event → List Section = λ g fs. sectionsFrom room g others fs in
-              let one : sections - k ≡ suc others = omega arith in
-              let after : suc number ≡ first .«section_number» + (k + 1) = omega arith in
-              let rest : drop n es ≡ eventsBetween pools numbers (taken .to) end =
-              between-drop pools numbers next end n
-              ∙ ap (λ (c : Cut). eventsBetween pools numbers (c .to) end) (sym cut) in
-              ap (fileBytes base)
-              (ap (λ (m : ℕ). sectionsFrom room h m es) one
-              ∙ first-section room h others es
-              ∙ ap₂ (λ (g : SectionHeader) (fs : List Event). sectionOf g fs ∷ later (nextHeader h) (drop n es))
-              (sym (so-far .others number)) (sym next-events)
-              ∙ ap₂ (λ (m : ℕ) (fs : List Event). nextSection ∷ later (heldHeader (numbered first m)) fs) after rest)
-              ∙ file-cons base nextSection (sectionsBehind (k + 1) (taken .to))
+        abbrev behind : List ℕ
+        behind = fileBytes base (rest (k + 1) (taken .to))
 
-          pub segment-fits : offset + (sectionOverhead + taken .bytes) ≤ length out
-          segment-fits = omega (arith, left-fits (so-far .left) sectionNow behind parts, next-size)
+        next-size : sectionOverhead + taken .bytes ≡ length sectionNow
+        next-size = segment-size ∙ sym (section-length base nextSection)
 
-          pub segment-more : {out′ : List ℕ} → out′ ≡ overwrite out offset (sectionBytes base nextSection)
-              → SegmentSoFar base d at from out′ (numbered header number) (offset + (sectionOverhead + taken .bytes))
-              (taken .to) (k + 1)
-          segment-more written =
-              record {
-                left = left-more (so-far .left) sectionNow behind parts written (ap (λ (n : ℕ). offset + n) next-size);
-                few = omega arith;
-                others = λ n. so-far .others n;
-              }
+        parts : fileBytes base (rest k next) ≡ sectionNow ++ behind
+        parts =
+            let h : Header = heldHeader (numbered first number) in
+            let es : List Event = eventsBetween pools numbers next end in
+            let n : ℕ = fit eventSize room es in
+            let others : ℕ = sections - (k + 1) in
+            let later : Header → List Event → List Section = λ g fs. sectionsFrom room g others fs in
+            let one : sections - k ≡ suc others = omega arith in
+            let after : suc number ≡ first .«section_number» + (k + 1) = omega arith in
+            let after-them : drop n es ≡ eventsBetween pools numbers (taken .to) end =
+            between-drop pools numbers next end n
+            ∙ ap (λ (c : Cut). eventsBetween pools numbers (c .to) end) (sym cut) in
+            ap (fileBytes base)
+            (ap (λ (m : ℕ). sectionsFrom room h m es) one
+            ∙ first-section room h others es
+            ∙ ap₂ (λ (g : SectionHeader) (fs : List Event). sectionOf g fs ∷ later (nextHeader h) (drop n es))
+            (sym (so-far .others number)) (sym next-events)
+            ∙ ap₂ (λ (m : ℕ) (fs : List Event). nextSection ∷ later (heldHeader (numbered first m))
+            fs)
+            after after-them)
+            ∙ file-cons base nextSection (rest (k + 1) (taken .to))
+
+        pub segment-fits : offset + (sectionOverhead + taken .bytes) ≤ length out
+        segment-fits = omega (arith, left-fits (so-far .left) sectionNow behind parts, next-size)
+
+        pub segment-more : {out′ : List ℕ} → out′ ≡ overwrite out offset (sectionBytes base nextSection)
+            → SegmentSoFar pools numbers room first sections end base d at from out′ (numbered header number)
+            (offset + (sectionOverhead + taken .bytes)) (taken .to) (k + 1)
+        segment-more written =
+            record {
+              left = left-more (so-far .left) sectionNow behind parts written (ap (λ (n : ℕ). offset + n) next-size);
+              few = omega arith;
+              others = λ n. so-far .others n;
+            }

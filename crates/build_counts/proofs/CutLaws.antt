@@ -49,8 +49,8 @@ pub record CutSoFar (pools : Pools) (numbers : List ℕ) (from end room to bytes
   pub same : cutOf from room (eventsBetween pools numbers from end)
       ≡ added bytes (cutOf to (room - bytes) (eventsBetween pools numbers to end))
 
-pub pass-start : (pools : Pools) (numbers : List ℕ) (from end room : ℕ) → CutSoFar pools numbers from end room from 0
-pass-start pools numbers from end room =
+pub pass-start : {pools : Pools} {numbers : List ℕ} {from end room : ℕ} → CutSoFar pools numbers from end room from 0
+pass-start {pools} {numbers} {from} {end} {room} =
     record { within = omega arith; same = cut-start from room (eventsBetween pools numbers from end) }
 
 module _ {pools : Pools} {numbers : List ℕ} {from end room to bytes : ℕ}

@@ -47,9 +47,9 @@ pub record PackedSoFar (pools : Pools) (numbers : List ℕ) (from end room n byt
   pub reached : from + reach eventSize room 8 (eventsBetween pools numbers from end)
       ≡ at + reach eventSize room (8 - n) (eventsBetween pools numbers at end)
 
-pub pack-start : (pools : Pools) (numbers : List ℕ) (from end room : ℕ) → from < end → room < 0x1_0000
+pub pack-start : {pools : Pools} {numbers : List ℕ} {from end room : ℕ} → from < end → room < 0x1_0000
     → PackedSoFar pools numbers from end room 0 0 from
-pack-start pools numbers from end room some narrow =
+pack-start some narrow =
     record {
       some = some;
       few = omega arith;
@@ -149,7 +149,7 @@ module _ {pools : Pools} {numbers : List ℕ} {from end room n bytes at : ℕ}
         rw (packedOf, none-left) (ap₂ packedAs (sym count-is) (sym sizes-are))
 
 -- a segment without events is one section
-pub pack-none : (pools : Pools) (numbers : List ℕ) (from end room : ℕ) → end ≤ from
+pub pack-none : (pools : Pools) (numbers : List ℕ) {from end : ℕ} (room : ℕ) → end ≤ from
     → record { sections = 1; bytes = sectionOverhead } ≡ packedOf room (eventsBetween pools numbers from end)
 unfolding packed reach
-pack-none pools numbers from end room behind = sym (ap (packedOf room) (between-end pools numbers from end behind))
+pack-none pools numbers {from} {end} room behind = sym (ap (packedOf room) (between-end pools numbers from end behind))

@@ -45,11 +45,11 @@ pub record FillSoFar (base from place : ℕ) (events d out : List ℕ) (n at : �
   pub are : AreEvents base (splitBy statedEventSize (drop at events))
   pub inside : at ≤ length events
 
-pub fill-start : (base from place : ℕ) (events d : List ℕ)
+pub fill-start : {base from place : ℕ} {events d : List ℕ}
     → AreEvents base (splitBy statedEventSize events)
     → (place + length (splitBy statedEventSize events)) * recordSize ≤ length d
     → FillSoFar base from place events d d place 0
-fill-start base from place events d are room =
+fill-start {base} {from} {place} {events} {d} are room =
     let all : List (List ℕ) = splitBy statedEventSize events in
     let start : from + 0 ≡ from = omega arith in
     record {

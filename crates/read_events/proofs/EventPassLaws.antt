@@ -57,9 +57,9 @@ pub record PassSoFar (base : ℕ) (h : Header) (events : List ℕ) (least : ℕ)
   pub inside : at ≤ length events
   pub size : length words ≡ length words₀
 
-pub pass-start : (base : ℕ) (h : Header) (events : List ℕ) (least : ℕ) (words : List ℕ)
+pub pass-start : {base : ℕ} {h : Header} {events : List ℕ} {least : ℕ} {words : List ℕ}
     → PassSoFar base h events least words words 0 least 0
-pass-start base h events least words =
+pass-start =
     record { pass = refl; few = omega arith; none = λ e. e; inside = omega arith; size = refl }
 
 module _ {base : ℕ} {h : Header} {events : List ℕ} {least : ℕ} {words₀ words : List ℕ} {n next at : ℕ}

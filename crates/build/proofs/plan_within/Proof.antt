@@ -11,6 +11,10 @@ use Rattle.build.proofs.PlanLaws.{plan-of-counts}
 use Rattle.build.proofs.plan_within.Statement.{statement}
 use Rattle.build.proofs.plan_within.Tie as tie
 
+-- the call, before the list was counted
+abbrev start : tie.After-count-sections → tie.Start
+start c = c .before .before .before .before
+
 count-sections-requires : tie.Need-count-sections-requires
 count-sections-requires c κs = search needs
 
@@ -20,7 +24,7 @@ tables-of-requires c κs = search needs
 returns : tie.Need-returns
 returns c =
     let counted = c .before .before .before .count-sections in
-    let a = c .before .before .before .before .before .before .before .args in
+    let a = start (c .before .before .before) .args in
     let sizes : Sizes = a .sizes in
     let pools : Pools = lentPools (now (a .day)) (now (a .series)) in
     let list : EventList = lentList (now (a .list)) (a .count) in

@@ -7,12 +7,25 @@ use denote.Ref.{now}
 use borrow.Author.Needs.{needs}
 use lib.ListN.{length}
 use Rattle.eit.specs.Fields.{field}
+use Rattle.eit.specs.Limits.{startHoursMax}
 use Rattle.eit.proofs.Fields.{bytes-all}
 use Rattle.codec.proofs.FieldLaws.{field-read}
 use Rattle.codec.proofs.WriteLaws.{is-inside, is-outside}
+use Rattle.codec_time.specs.TimeRead.{timeAt}
+use Rattle.codec_time.specs.declared.TimeRead.the-variants.{Seconds}
 use Rattle.codec_time.proofs.TimeReadLaws.{start-truncated, start-no-time, start-early, start-late, start-shown}
 use Rattle.codec_time.proofs.read_start.Statement.{statement}
 use Rattle.codec_time.proofs.read_start.Tie as tie
+
+-- back from the day that was read to the time, to the room tested, and to the call
+abbrev timed : tie.After-read-field → tie.After-time
+timed c = c .before .before
+
+abbrev tested : tie.After-time → tie.Else1
+tested c = c .before .before .before
+
+abbrev start : tie.Else1 → tie.Start
+start c = c .before .before .before
 
 is-within-requires : tie.Need-is-within-requires
 is-within-requires c κs = search needs
@@ -24,10 +37,9 @@ returns c =
     sym (start-truncated (a .base-day) (a .at) (now (a .bytes)) outside)
 
 -- the five bytes are there
-inside : (c : tie.Else1)
-    → c .before .before .before .args .at + 5 ≤ length (now (c .before .before .before .args .bytes))
+inside : (c : tie.Else1) → start c .args .at + 5 ≤ length (now (start c .args .bytes))
 inside c =
-    let a = c .before .before .before .args in
+    let a = start c .args in
     is-inside (a .at) 5 (length (now (a .bytes))) (c .before .is-within .ensures) (c .if1 .left)
 
 add-read-time : tie.Need-add-read-time
@@ -44,33 +56,37 @@ enum-told c = search needs
 
 returns-2 : tie.Need-returns-2
 returns-2 c =
-    let entered = c .before .before .before in
-    let a = entered .before .before .before .args in
+    let room = c .before .before .before in
+    let a = start room .args in
     let no-time = sym (c .before .before .read-time .ensures) ∙ c .enum-told .given .1 in
-    sym (start-no-time (a .base-day) (a .at) (now (a .bytes)) (inside entered) no-time)
+    sym (start-no-time (a .base-day) (a .at) (now (a .bytes)) (inside room) no-time)
 
 read-field-requires : tie.Need-read-field-requires
 read-field-requires c κs = search needs
 
 -- the day that was read is the field's whole number
 day-is : (c : tie.After-read-field)
-    → c .read-field .result
-    ≡ field (c .before .before .before .before .before .before .before .before .args .at) 2
-    (now (c .before .before .before .before .before .before .before .before .args .bytes))
+    → let a = start (tested (timed c)) .args in
+    c .read-field .result ≡ field (a .at) 2 (now (a .bytes))
 day-is c =
-    let known = c .before .before .before .before .before .before .before in
-    let bs = now (known .before .args .bytes) in
-    let bytes = bytes-all bs (λ k. known .shared-slice-known .given k .fits) in
-    field-read bs (known .before .args .at) 2 bytes (omega arith) (c .read-field .ensures) .0
+    let room = tested (timed c) in
+    let a = start room .args in
+    let bytes = bytes-all (now (a .bytes)) (λ k. room .before .before .shared-slice-known .given k .fits) in
+    field-read (now (a .bytes)) (a .at) 2 bytes (omega arith) (c .read-field .ensures) .0
+
+-- and the time is the one behind it
+time-is : (c : tie.After-time)
+    → let a = start (tested c) .args in
+    timeAt startHoursMax (a .at + 2) (now (a .bytes)) ≡ Seconds (c .time .given .0 .0)
+time-is c = sym (c .before .before .read-time .ensures) ∙ c .time .given .1
 
 returns-3 : tie.Need-returns-3
 returns-3 c =
     let read = c .before in
-    let timed = read .before .before in
-    let entered = timed .before .before .before in
-    let a = entered .before .before .before .args in
-    let time = sym (timed .before .before .read-time .ensures) ∙ timed .time .given .1 in
-    sym (start-early (a .base-day) (a .at) (now (a .bytes)) (inside entered) (day-is read) time (c .if2 .taken))
+    let room = tested (timed read) in
+    let a = start room .args in
+    sym (start-early (a .base-day) (a .at) (now (a .bytes)) (inside room) (day-is read) (time-is (timed read))
+    (c .if2 .taken))
 
 cast-start : tie.Need-cast-start
 cast-start c = search needs
@@ -96,22 +112,18 @@ cast-t16 c = search needs
 returns-4 : tie.Need-returns-4
 returns-4 c =
     let read = c .before .before in
-    let timed = read .before .before in
-    let entered = timed .before .before .before in
-    let a = entered .before .before .before .args in
-    let time = sym (timed .before .before .read-time .ensures) ∙ timed .time .given .1 in
-    sym (start-shown (a .base-day) (a .at) (now (a .bytes)) (inside entered) (day-is read) time (c .before .if2 .left)
-    (c .if3 .taken))
+    let room = tested (timed read) in
+    let a = start room .args in
+    sym (start-shown (a .base-day) (a .at) (now (a .bytes)) (inside room) (day-is read) (time-is (timed read))
+    (c .before .if2 .left) (c .if3 .taken))
 
 returns-5 : tie.Need-returns-5
 returns-5 c =
     let read = c .before .before in
-    let timed = read .before .before in
-    let entered = timed .before .before .before in
-    let a = entered .before .before .before .args in
-    let time = sym (timed .before .before .read-time .ensures) ∙ timed .time .given .1 in
-    sym (start-late (a .base-day) (a .at) (now (a .bytes)) (inside entered) (day-is read) time (c .before .if2 .left)
-    (c .if3 .left))
+    let room = tested (timed read) in
+    let a = start room .args in
+    sym (start-late (a .base-day) (a .at) (now (a .bytes)) (inside room) (day-is read) (time-is (timed read))
+    (c .before .if2 .left) (c .if3 .left))
 
 pub read-start-spec : {M : Type 1} → statement M
 read-start-spec =

@@ -13,6 +13,13 @@ use Rattle.codec_time.proofs.TimeReadLaws.{time-small}
 use Rattle.codec_time.proofs.write_time.Statement.{statement}
 use Rattle.codec_time.proofs.write_time.Tie as tie
 
+-- back from the last byte that was written to the time of its parts, and from the room tested to the call
+abbrev timed : tie.After-to-bcd3 → tie.After-from-seconds
+timed c = c .before .before .before
+
+abbrev start : tie.Else1 → tie.Start
+start c = c .before .before .before
+
 is-within-requires : tie.Need-is-within-requires
 is-within-requires c κs = search needs
 
@@ -23,9 +30,9 @@ returns c =
     sym (write-short (now (a .out)) (a .at) (timeBytes (timeOf (a .seconds))) outside)
 
 -- the three bytes have room
-inside : (c : tie.Else1) → c .before .before .before .args .at + 3 ≤ length (now (c .before .before .before .args .out))
+inside : (c : tie.Else1) → start c .args .at + 3 ≤ length (now (start c .args .out))
 inside c =
-    let a = c .before .before .before .args in
+    let a = start c .args in
     is-inside (a .at) 3 (length (now (a .out))) (c .before .is-within .ensures) (c .if1 .left)
 
 from-seconds-requires : tie.Need-from-seconds-requires
@@ -35,8 +42,7 @@ from-seconds-requires c κs = search needs
 small : (c : tie.After-from-seconds)
     → let time = c .from-seconds .result in
     (time .hours < 100) × (time .minutes < 100) × (time .seconds < 100)
-small c = time-small (c .before .before .before .before .args .seconds) (c .from-seconds .result)
-    (c .from-seconds .ensures)
+small c = time-small (start (c .before) .args .seconds) (c .from-seconds .result) (c .from-seconds .ensures)
 
 to-bcd-requires : tie.Need-to-bcd-requires
 to-bcd-requires c κs = small c .0
@@ -57,22 +63,22 @@ to-bcd-requires-3 : tie.Need-to-bcd-requires-3
 to-bcd-requires-3 c κs = small (c .before .before) .2
 
 add-out-2 : tie.Need-add-out-2
-add-out-2 c = omega (arith, inside (c .before .before .before .before))
+add-out-2 c = omega (arith, inside (timed c .before))
 
 slice-write-out-3 : tie.Need-slice-write-out-3
-slice-write-out-3 c = simp length-set (omega (arith, inside (c .before .before .before .before)))
+slice-write-out-3 c = simp length-set (omega (arith, inside (timed c .before)))
 
 same-length : tie.Need-same-length
 same-length c = search needs
 
 returns-2 : tie.Need-returns-2
 returns-2 c =
-    let a = c .before .before .before .before .before .before .before .args in
+    let a = start (timed c .before) .args in
     let hours = c .before .before .to-bcd .ensures in
     let minutes = c .before .to-bcd2 .ensures in
     let seconds = c .to-bcd3 .ensures in
-    let time = c .before .before .before .from-seconds .ensures in
-    write-three (now (a .out)) (a .at) _ _ _ (inside (c .before .before .before .before))
+    let time = timed c .from-seconds .ensures in
+    write-three (now (a .out)) (a .at) _ _ _ (inside (timed c .before))
     ∙ (λ i. writeAt (now (a .out)) (a .at) (hours i ∷ minutes i ∷ seconds i ∷ []))
     ∙ (λ i. writeAt (now (a .out)) (a .at) (timeBytes (time i)))
 

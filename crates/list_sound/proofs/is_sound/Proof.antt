@@ -24,9 +24,27 @@ Inv-loop list count day series seen₀ least₀ i₀ seen least i = Pass (lentPo
 abbrev μ-loop : tie.MeasureT-loop
 μ-loop list count day series seen₀ least₀ i₀ seen least i = count - i
 
+-- the call, before the first test
+abbrev call : tie.After-struct-known Inv-loop μ-loop → tie.Start Inv-loop μ-loop
+call c = c .before .before .before .before
+
+-- back through a turn, from the question whether the id was seen: the start in order, the chain tested, the record
+-- read, the turn's beginning
+abbrev ordered : tie.After-is-seen Inv-loop μ-loop → tie.Else5 Inv-loop μ-loop
+ordered c = c .before .before
+
+abbrev chained : tie.Else5 Inv-loop μ-loop → tie.After-has-chain Inv-loop μ-loop
+chained c = c .before .before .before
+
+abbrev read : tie.After-has-chain Inv-loop μ-loop → tie.After-record-at Inv-loop μ-loop
+read c = c .before .before .before
+
+abbrev turn : tie.After-record-at Inv-loop μ-loop → tie.At-loop Inv-loop μ-loop
+turn c = c .before .before
+
 returns : tie.Need-returns Inv-loop μ-loop
 returns c =
-    let args = c .before .before .before .before .before .args in
+    let args = call (c .before) .args in
     let pools = lentPools (now (args .day)) (now (args .series)) in
     sym
     (⊎-elim
@@ -39,7 +57,7 @@ loop-holds c = pass-start _ _ _
 
 -- with few events and room for them, the records decide
 records-decide : (c : tie.Else2 Inv-loop μ-loop)
-    → let args = c .before .before .before .before .before .before .args in
+    → let args = call (c .before .before) .args in
     let pools = lentPools (now (args .day)) (now (args .series)) in
     sound (args .sizes) pools (lentList (now (args .list)) (args .count))
     ≡ soundFrom pools [] 0 (recordsIn (args .count) (now (args .list)))
@@ -58,20 +76,19 @@ cast-if5 : tie.Need-cast-if5 Inv-loop μ-loop
 cast-if5 c = search needs
 
 slice-aggregate-is-seen : tie.Need-slice-aggregate-is-seen Inv-loop μ-loop
-slice-aggregate-is-seen c =
-    sym (c .before .before .before .before .before .before .before .before .before .loop .inv .size)
+slice-aggregate-is-seen c = sym (turn (read (chained (c .before))) .loop .inv .size)
 
 is-seen-requires : tie.Need-is-seen-requires Inv-loop μ-loop
 is-seen-requires c κs = search needs
 
 returns-2 : tie.Need-returns-2 Inv-loop μ-loop
 returns-2 c =
-    let read = c .before .before in
-    let pass = read .before .before .loop .inv in
+    let at = c .before .before in
+    let pass = turn at .loop .inv in
     let range = sym (c .before .is-in-range .ensures) in
-    let stop = pass-stop pass (read .record-at .result) (read .before .loop-test .taken) (read .record-at .ensures) in
+    let stop = pass-stop pass (at .record-at .result) (at .before .loop-test .taken) (at .record-at .ensures) in
     sym
-    (records-decide (read .before .before .before)
+    (records-decide (turn at .before)
     ∙ ⊎-elim
     (λ w. stop (rw (range ∙ not-true _ (w .taken))))
     (⊎-elim
@@ -95,8 +112,7 @@ returns-2 c =
     (c .if3 .came))
 
 slice-aggregate-add-seen : tie.Need-slice-aggregate-add-seen Inv-loop μ-loop
-slice-aggregate-add-seen c =
-    sym (c .before .before .before .before .before .before .before .before .before .before .before .before .loop .inv .size)
+slice-aggregate-add-seen c = sym (turn (read (chained (ordered (c .before .before)))) .loop .inv .size)
 
 add-seen-requires : tie.Need-add-seen-requires Inv-loop μ-loop
 add-seen-requires c κs = search needs
@@ -118,16 +134,14 @@ loop-again : tie.Need-loop-again Inv-loop μ-loop
 loop-again c =
     let added = c .before .before in
     let seen = added .before .before .before in
-    let start = seen .before .before in
-    let chain = start .before .before .before in
-    let range = chain .before in
-    let read = range .before .before in
-    pass-more (read .before .before .loop .inv) (read .record-at .result) (read .before .loop-test .taken)
-    (read .record-at .ensures)
+    let order = ordered seen in
+    let chain = chained order in
+    let at = read chain in
+    pass-more (turn at .loop .inv) (at .record-at .result) (at .before .loop-test .taken) (at .record-at .ensures)
     (rw (
-      in-range range,
-      sym (chain .has-chain .ensures) ∙ not-false _ (start .before .before .if4 .left),
-      le-leb _ _ (ltb-false _ _ (start .if5 .left)),
+      in-range (chain .before),
+      sym (chain .has-chain .ensures) ∙ not-false _ (order .before .before .if4 .left),
+      le-leb _ _ (ltb-false _ _ (order .if5 .left)),
       sym (seen .is-seen .ensures) ∙ added .before .before .if6 .left,
     ))
     (added .add-seen .ensures)

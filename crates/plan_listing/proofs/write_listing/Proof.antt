@@ -44,28 +44,35 @@ titled c = c .before .before .before
 abbrev start : tie.At-loop Inv-loop μ-loop → tie.Start Inv-loop μ-loop
 start c = titled c .before .before .before .before .before
 
+-- back from the way on to the line written and to the section read
+abbrev lined : tie.After-next-offset Inv-loop μ-loop → tie.After-write-line Inv-loop μ-loop
+lined c = c .before .before .before
+
+abbrev walked : tie.After-write-line Inv-loop μ-loop → tie.After-read-section Inv-loop μ-loop
+walked c = c .before .before
+
 next-offset-requires : tie.Need-next-offset-requires Inv-loop μ-loop
 next-offset-requires c κs = search needs
 
 loop-less : tie.Need-loop-less Inv-loop μ-loop
 loop-less c =
-    let walked = c .before .before .before .before .before in
-    let here = walked .before .loop-test .taken in
-    omega (arith, here, end-past _ (walked .before .before .loop .offset) (c .next-offset .ensures) here)
+    let section = walked (lined c) in
+    let here = section .before .loop-test .taken in
+    omega (arith, here, end-past _ (section .before .before .loop .offset) (c .next-offset .ensures) here)
 
 loop-again : tie.Need-loop-again Inv-loop μ-loop
 loop-again c =
-    let walked = c .before .before .before .before .before in
-    let turn = walked .before .before in
+    let section = walked (lined c) in
+    let turn = section .before .before in
     let file = now (start turn .args .file) in
     let offset = turn .loop .offset in
-    let here = walked .before .loop-test .taken in
+    let here = section .before .loop-test .taken in
     let ends = c .next-offset .ensures in
-    let section = walked .read-section .result .now in
-    let parts = lines-next file offset (walked .read-section .ensures) ends here in (
+    let line = sectionLine (section .read-section .result .now) in
+    let parts = lines-next file offset (section .read-section .ensures) ends here in (
       end-inside file offset ends here,
-      unwritten-more (turn .loop .inv .1) (sectionLine section) (linesFrom file (c .next-offset .result)) parts
-          (c .before .before .before .write-line .ensures),
+      unwritten-more (turn .loop .inv .1) line (linesFrom file (c .next-offset .result)) parts
+          (lined c .write-line .ensures),
     )
 
 slice-aggregate-write-text-2 : tie.Need-slice-aggregate-write-text-2 Inv-loop μ-loop
@@ -77,9 +84,12 @@ write-text-requires-2 c κs = search needs
 write-number-requires : tie.Need-write-number-requires Inv-loop μ-loop
 write-number-requires c κs = search needs
 
--- from the last number back to the loop's end
+-- from the last number back to the word before it and to the loop's end
+abbrev worded : tie.After-write-number Inv-loop μ-loop → tie.After-write-text2 Inv-loop μ-loop
+worded c = c .before .before .before .before
+
 abbrev ended : tie.After-write-number Inv-loop μ-loop → tie.At-loop Inv-loop μ-loop
-ended c = c .before .before .before .before .before .before .before .before
+ended c = worded c .before .before .before .before
 
 written : (c : tie.After-write-number Inv-loop μ-loop)
     → let a = start (ended c) .args in
@@ -91,7 +101,7 @@ written c =
     let last = numberThen (length file) newline in
     let left =
     unwritten-more (end .loop .inv .1) bytesWord last (lines-end file (end .loop .offset) (omega arith))
-    (c .before .before .before .before .write-text2 .ensures) in
+    (worded c .write-text2 .ensures) in
     let lines = unwritten-last left (c .write-number .ensures) in
     filled-same out 0 (sym (listing-starts file))
     (filled-two out 0 titleLine (linesFrom file 0) (titled end .write-text .ensures) lines)

@@ -19,6 +19,19 @@ Inv-loop file base-day sizes crc-tables seen₀ state₀ offset₀ seen state of
 abbrev μ-loop : tie.MeasureT-loop
 μ-loop file base-day sizes crc-tables seen₀ state₀ offset₀ seen state offset = length file - offset
 
+-- back from the way on to the check of the section, to the section read, and to the turn's beginning
+abbrev going : tie.After-next-offset Inv-loop μ-loop → tie.After-next Inv-loop μ-loop
+going c = c .before .before
+
+abbrev checked : tie.After-next Inv-loop μ-loop → tie.After-check-section Inv-loop μ-loop
+checked c = c .before .before .before
+
+abbrev walked : tie.After-check-section Inv-loop μ-loop → tie.After-read-section Inv-loop μ-loop
+walked c = c .before .before .before
+
+abbrev turn : tie.After-read-section Inv-loop μ-loop → tie.At-loop Inv-loop μ-loop
+turn c = c .before .before
+
 refused-requires : tie.Need-refused-requires Inv-loop μ-loop
 refused-requires c κs = search needs
 
@@ -48,12 +61,13 @@ refused-requires-2 c κs = search needs
 
 returns-2 : tie.Need-returns-2 Inv-loop μ-loop
 returns-2 c =
-    let verdict = c .before .before .before .before .before in
-    let turn = verdict .before .before .before .before .before in
-    walk-stops (turn .loop .inv) (verdict .before .before .before .before .loop-test .taken)
-    (verdict .before .before .before .read-section .ensures)
-    _ _ (verdict .check-section .ensures _ (turn .loop .inv .tracks)) (c .before .before .answer .given .1)
-    (turn .before .before .if1 .left)
+    let refused = c .before .before in
+    let verdict = refused .before .before .before in
+    let section = walked verdict in
+    let here = turn section in
+    walk-stops (here .loop .inv) (section .before .loop-test .taken) (section .read-section .ensures) _ _
+    (verdict .check-section .ensures _ (here .loop .inv .tracks)) (refused .answer .given .1)
+    (here .before .before .if1 .left)
     ∙ sym (ap outcomeOf (c .refused2 .ensures))
 
 enum-known-next : tie.Need-enum-known-next Inv-loop μ-loop
@@ -64,27 +78,26 @@ next-offset-requires c κs = search needs
 
 loop-less : tie.Need-loop-less Inv-loop μ-loop
 loop-less c =
-    let walked = c .before .before .before .before .before .before .before .before in
-    let here = walked .before .loop-test .taken in
-    omega (arith, here, end-past _ (walked .before .before .loop .offset) (c .next-offset .ensures) here)
+    let section = walked (checked (going c)) in
+    let here = section .before .loop-test .taken in
+    omega (arith, here, end-past _ (turn section .loop .offset) (c .next-offset .ensures) here)
 
 loop-again : tie.Need-loop-again Inv-loop μ-loop
 loop-again c =
-    let verdict = c .before .before .before .before .before in
-    let walked = verdict .before .before .before in
-    let turn = walked .before .before in
-    walk-more (turn .loop .inv) (walked .before .loop-test .taken) (walked .read-section .ensures) _ _
-    (verdict .check-section .ensures _ (turn .loop .inv .tracks)) (c .before .before .next .given .1)
-    (c .next-offset .ensures)
+    let verdict = checked (going c) in
+    let section = walked verdict in
+    let inv = turn section .loop .inv in
+    walk-more inv (section .before .loop-test .taken) (section .read-section .ensures) _ _
+    (verdict .check-section .ensures _ (inv .tracks)) (going c .next .given .1) (c .next-offset .ensures)
 
 at-end-requires : tie.Need-at-end-requires Inv-loop μ-loop
 at-end-requires c κs = search needs
 
 returns-3 : tie.Need-returns-3 Inv-loop μ-loop
 returns-3 c =
-    let turn = c .before .before in
-    walk-done (turn .loop .inv) (c .before .loop-test .left) (turn .before .before .if1 .left) (c .at-end .result)
-    (c .at-end .ensures _ _ _ (turn .loop .inv .tracks))
+    let end = c .before .before in
+    walk-done (end .loop .inv) (c .before .loop-test .left) (end .before .before .if1 .left) (c .at-end .result)
+    (c .at-end .ensures _ _ _ (end .loop .inv .tracks))
 
 pub check-within-spec : {M : Type 1} → statement M
 check-within-spec =

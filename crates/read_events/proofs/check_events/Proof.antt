@@ -7,7 +7,6 @@ use Prim.Native.Nat.{ℕ, _+_, _-_, _≤_}
 use denote.Ref.{now}
 use borrow.Author.Tests.{lt-ltb, not-true, not-false}
 use lib.ListN.{length, drop, length-drop}
-use Rattle.eit.specs.declared.Record.{Record}
 use Rattle.sections.specs.Section.{eventOverhead}
 use Rattle.codec.proofs.FieldLaws.{rest-whole}
 use Rattle.codec_section.specs.EventRead.{eventRead}
@@ -29,7 +28,7 @@ abbrev μ-loop : tie.MeasureT-loop
 μ-loop events header base-day least seen₀ n₀ next₀ at₀ seen n next at = length events - at
 
 loop-holds : tie.Need-loop-holds Inv-loop μ-loop
-loop-holds c = pass-start _ _ _ _ _
+loop-holds c = pass-start
 
 sub-read-event : tie.Need-sub-read-event Inv-loop μ-loop
 sub-read-event c = search needs
@@ -57,29 +56,53 @@ module _ (c : tie.After-read-event Inv-loop μ-loop) where
   abbrev turn : tie.At-loop Inv-loop μ-loop
   turn = c .before .before .before
 
+  abbrev start : tie.Start Inv-loop μ-loop
+  start = turn .before .before .before
+
   abbrev at : ℕ
   at = turn .loop .at
 
   abbrev loop-bytes : List ℕ
-  loop-bytes = now (turn .before .before .before .args .events)
+  loop-bytes = now (start .args .events)
 
-  rest-read : c .read-event .result ≡ eventRead (turn .before .before .before .args .base-day) (drop at loop-bytes)
-  rest-read =
-      c .read-event .ensures ∙ ap (eventRead (turn .before .before .before .args .base-day)) (rest-whole loop-bytes at)
+  rest-read : c .read-event .result ≡ eventRead (start .args .base-day) (drop at loop-bytes)
+  rest-read = c .read-event .ensures ∙ ap (eventRead (start .args .base-day)) (rest-whole loop-bytes at)
 
-  module _ {r : Record} (whole : c .read-event .result ≡ Whole r) where
-    event-read : eventRead (turn .before .before .before .args .base-day) (drop at loop-bytes) ≡ Whole r
-    event-read = sym rest-read ∙ whole
+-- an event that was read whole
+module _ (c : tie.After-event Inv-loop μ-loop) where
+  abbrev read : tie.After-read-event Inv-loop μ-loop
+  read = c .before .before
 
-    event-inside : at + (eventOverhead + r .«chain_length») ≤ length loop-bytes
-    event-inside = omega (arith, turn .loop .inv .inside, whole-inside _ _ event-read, length-drop at loop-bytes)
+  event-read : eventRead (start read .args .base-day) (drop (at read) (loop-bytes read)) ≡ Whole (c .event .given .0 .0)
+  event-read = sym (rest-read read) ∙ c .event .given .1
+
+  event-inside : at read + (eventOverhead + c .event .given .0 .0 .«chain_length») ≤ length (loop-bytes read)
+  event-inside =
+      omega (
+        arith,
+        turn read .loop .inv .inside,
+        whole-inside _ _ event-read,
+        length-drop (at read) (loop-bytes read),
+      )
+
+-- back through a turn: from its last call to the id kept, to its test, to the segment's test, to the event
+abbrev added : tie.After-least-behind Inv-loop μ-loop → tie.After-add-seen Inv-loop μ-loop
+added c = c .before .before .before
+
+abbrev new : tie.After-add-seen Inv-loop μ-loop → tie.After-is-new Inv-loop μ-loop
+new c = c .before .before .before
+
+abbrev placed : tie.After-is-new Inv-loop μ-loop → tie.After-is-in-segment Inv-loop μ-loop
+placed c = c .before .before .before
+
+abbrev whole : tie.After-is-in-segment Inv-loop μ-loop → tie.After-event Inv-loop μ-loop
+whole c = c .before .before
 
 returns : tie.Need-returns Inv-loop μ-loop
 returns c =
-    let read = c .before .before in
-    let turn = read .before .before .before in
-    sym (pass-broken (turn .loop .inv) (read .before .before .loop-test .taken)
-    (sym (rest-read read) ∙ c .enum-told .given .1))
+    let got = c .before .before in
+    sym (pass-broken (turn got .loop .inv) (got .before .before .loop-test .taken)
+    (sym (rest-read got) ∙ c .enum-told .given .1))
 
 is-in-segment-requires : tie.Need-is-in-segment-requires Inv-loop μ-loop
 is-in-segment-requires c κs = search needs
@@ -92,11 +115,10 @@ same-length-2 c = search needs
 
 returns-2 : tie.Need-returns-2 Inv-loop μ-loop
 returns-2 c =
-    let placed = c .before in
-    let read = placed .before .before .before .before in
-    let stop = pass-stop (turn read .loop .inv) (read .before .before .loop-test .taken)
-    (event-read read (placed .before .before .event .given .1)) in
-    let segment = sym (placed .is-in-segment .ensures) in
+    let event = whole (c .before) in
+    let got = read event in
+    let stop = pass-stop (turn got .loop .inv) (got .before .before .loop-test .taken) (event-read event) in
+    let segment = sym (c .before .is-in-segment .ensures) in
     sym
     (⊎-elim
     (λ w. stop (rw (segment ∙ not-true _ (w .taken))))
@@ -111,9 +133,8 @@ least-behind-requires c κs = search needs
 
 add-n : tie.Need-add-n Inv-loop μ-loop
 add-n c =
-    let read =
-    c .before .before .before .before .before .before .before .before .before .before .before .before .before in
-    omega (arith, turn read .loop .inv .few, read .before .before .loop-test .taken)
+    let got = read (whole (placed (new (added c)))) in
+    omega (arith, turn got .loop .inv .few, got .before .before .loop-test .taken)
 
 cast-at : tie.Need-cast-at Inv-loop μ-loop
 cast-at c = search needs
@@ -122,24 +143,21 @@ add-at : tie.Need-add-at Inv-loop μ-loop
 add-at c = search needs
 
 add-at-2 : tie.Need-add-at-2 Inv-loop μ-loop
-add-at-2 c =
-    let whole = c .before .before .before .before .before .before .before .before .before .before .before in
-    omega (arith, event-inside (whole .before .before) (whole .event .given .1))
+add-at-2 c = omega (arith, event-inside (whole (placed (new (added c)))))
 
 loop-less : tie.Need-loop-less Inv-loop μ-loop
 loop-less c = search needs
 
 loop-again : tie.Need-loop-again Inv-loop μ-loop
 loop-again c =
-    let added = c .before .before .before in
-    let new = added .before .before .before in
-    let placed = new .before .before .before in
-    let read = placed .before .before .before .before in
-    pass-more (turn read .loop .inv) (read .before .before .loop-test .taken)
-    (event-read read (placed .before .before .event .given .1))
-    (rw (sym (placed .is-in-segment .ensures) ∙ not-false _ (new .before .before .if1 .left))
-    (sym (new .is-new .ensures) ∙ not-false _ (added .before .before .if2 .left)))
-    (added .add-seen .ensures)
+    let kept = added c in
+    let tested = new kept in
+    let inside = placed tested in
+    let got = read (whole inside) in
+    pass-more (turn got .loop .inv) (got .before .before .loop-test .taken) (event-read (whole inside))
+    (rw (sym (inside .is-in-segment .ensures) ∙ not-false _ (tested .before .before .if1 .left))
+    (sym (tested .is-new .ensures) ∙ not-false _ (kept .before .before .if2 .left)))
+    (kept .add-seen .ensures)
     (c .least-behind .ensures)
 
 is-alone-requires : tie.Need-is-alone-requires Inv-loop μ-loop

@@ -29,6 +29,10 @@ module _ (file : List ℕ) (offset : ℕ) where
   short : (size : ℕ) → size ≡ statedSectionSize rest → length rest ≤ size → rest ≡ sectionAt file offset
   short size stated truncated = sym (take-all size rest truncated) ∙ whole size stated
 
+-- the call, before the size that the bytes state was read
+abbrev start : tie.After-stated-size → tie.Start
+start c = c .before .before .before .before
+
 sub-result : tie.Need-sub-result
 sub-result c = search needs
 
@@ -55,19 +59,20 @@ stated-size-requires c κs = search needs
 
 slice-aggregate-result : tie.Need-slice-aggregate-result
 slice-aggregate-result c =
-    let a = c .before .before .before .before .before .before .args in
-    let size = c .before .before .stated-size .result in
+    let sized = c .before .before in
+    let a = start sized .args in
+    let size = sized .stated-size .result in
     sym (length-take-le size (rest (now (a .file)) (a .offset)) (omega (arith, c .before .if2 .left)))
 
 returns-2 : tie.Need-returns-2
 returns-2 c =
-    let a = c .before .before .before .before .before .args in
+    let a = start (c .before) .args in
     let found = c .before .stated-size in
     short (now (a .file)) (a .offset) (found .result) (found .ensures) (omega (arith, c .if2 .taken))
 
 returns-3 : tie.Need-returns-3
 returns-3 c =
-    let a = c .before .before .before .before .before .before .args in
+    let a = start (c .before .before) .args in
     let found = c .before .before .stated-size in
     whole (now (a .file)) (a .offset) (found .result) (found .ensures)
 

@@ -31,8 +31,11 @@ abbrev μ-loop : tie.MeasureT-loop
     512 - index
 
 -- back from the calls before the loop, and from a turn, to the call
+abbrev lent : tie.After-table-of Inv-loop μ-loop → tie.After-shared-slice-known4 Inv-loop μ-loop
+lent c = c .before .before .before
+
 abbrev called : tie.After-table-of Inv-loop μ-loop → tie.Start Inv-loop μ-loop
-called c = c .before .before .before .before .before .before .before .before
+called c = lent c .before .before .before .before .before
 
 abbrev start : tie.At-loop Inv-loop μ-loop → tie.Start Inv-loop μ-loop
 start c = called (c .before)

@@ -21,15 +21,6 @@ abbrev μ-loop : tie.MeasureT-loop
     header offset next k =
     sections - k
 
-loop-holds : tie.Need-loop-holds Inv-loop μ-loop
-loop-holds c = segment-start _ _ _ _ _ _ _ _ _ _ (c .before .before .before .before .pre .0)
-
-add-header : tie.Need-add-header Inv-loop μ-loop
-add-header c = omega (arith, c .before .before .before .before .before .before .before .pre .1)
-
-next-cut-requires : tie.Need-next-cut-requires Inv-loop μ-loop
-next-cut-requires c κs = search needs
-
 -- back from the cut to the turn and to the call
 abbrev turn : tie.After-next-cut Inv-loop μ-loop → tie.At-loop Inv-loop μ-loop
 turn c = c .before .before .before
@@ -37,11 +28,20 @@ turn c = c .before .before .before
 abbrev start : tie.At-loop Inv-loop μ-loop → tie.Start Inv-loop μ-loop
 start c = c .before .before .before .before .before
 
+loop-holds : tie.Need-loop-holds Inv-loop μ-loop
+loop-holds c = segment-start (c .before .before .before .before .pre .0)
+
+add-header : tie.Need-add-header Inv-loop μ-loop
+add-header c = omega (arith, start (c .before .before) .pre .1)
+
+next-cut-requires : tie.Need-next-cut-requires Inv-loop μ-loop
+next-cut-requires c κs = search needs
+
 -- the turn's section has room
 section-room : (c : tie.After-next-cut Inv-loop μ-loop)
     → turn c .loop .offset + (sectionOverhead + c .next-cut .result .bytes) ≤ length (turn c .loop .out)
 section-room c =
-    segment-fits _ _ _ _ _ _ (turn c .loop .inv) (c .before .before .loop-test .taken) (c .next-cut .result)
+    segment-fits (turn c .loop .inv) (c .before .before .loop-test .taken) (c .next-cut .result)
     (c .next-cut .ensures)
 
 add-size : tie.Need-add-size Inv-loop μ-loop
@@ -51,7 +51,7 @@ add-size c =
 write-section-requires : tie.Need-write-section-requires Inv-loop μ-loop
 write-section-requires c κs =
     let cut = c .before .before in (
-      segment-size _ _ _ _ _ _ (turn cut .loop .inv) (cut .before .before .loop-test .taken) (cut .next-cut .result)
+      segment-size (turn cut .loop .inv) (cut .before .before .loop-test .taken) (cut .next-cut .result)
           (cut .next-cut .ensures),
       section-room cut,
       start (turn cut) .pre .2,
@@ -71,7 +71,7 @@ loop-less c = omega arith
 loop-again : tie.Need-loop-again Inv-loop μ-loop
 loop-again c =
     let cut = c .before .before .before .before .before in
-    segment-more _ _ _ _ _ _ (turn cut .loop .inv) (cut .before .before .loop-test .taken) (cut .next-cut .result)
+    segment-more (turn cut .loop .inv) (cut .before .before .loop-test .taken) (cut .next-cut .result)
     (cut .next-cut .ensures) {out′ = c .before .before .write-section .last .0}
     (c .before .before .write-section .ensures)
 
@@ -79,7 +79,7 @@ same-length : tie.Need-same-length Inv-loop μ-loop
 same-length c = c .before .loop .inv .left .size
 
 returns : tie.Need-returns Inv-loop μ-loop
-returns c = segment-end _ _ _ _ _ _ (c .before .loop .inv) (c .loop-test .left)
+returns c = segment-end (c .before .loop .inv) (c .loop-test .left)
 
 pub write-segment-spec : {M : Type 1} → statement M
 write-segment-spec =

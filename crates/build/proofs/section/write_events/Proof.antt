@@ -7,30 +7,21 @@ use borrow.Author.Needs.{needs}
 use lib.ListN.{length}
 use Rattle.eit.specs.Pools.{lentPools}
 use Rattle.sections.specs.Section.{eventOverhead}
-use Rattle.sections.specs.Encode.{eventLoopBytes}
 use Rattle.sections.proofs.Lengths.{loop-length}
-use Rattle.codec.proofs.LeftLaws.{Left, left-all}
 use Rattle.build_counts.specs.Between.{eventsBetween}
-use Rattle.build.proofs.SectionLaws.{next-fits, next-written, events-written}
+use Rattle.build.proofs.SectionLaws.{EventLoopSoFar, events-start, next-fits, next-written, events-written}
 use Rattle.build.proofs.section.write_events.Statement.{statement}
 use Rattle.build.proofs.section.write_events.Tie as tie
 
 abbrev Inv-loop : tie.InvT-loop
 Inv-loop out₀ at base-day list from to day series offset₀ i₀ out offset i =
-    let pools = lentPools day series in
-    Left out₀ at (eventLoopBytes base-day (eventsBetween pools list from to)) out offset
-    (eventLoopBytes base-day (eventsBetween pools list i to))
+    EventLoopSoFar base-day (lentPools day series) list from to out₀ at out offset i
 
 abbrev μ-loop : tie.MeasureT-loop
 μ-loop out₀ at base-day list from to day series offset₀ i₀ out offset i = to - i
 
 loop-holds : tie.Need-loop-holds Inv-loop μ-loop
-loop-holds c =
-    let start = c .before .before .before .before in
-    let a = start .args in
-    let all = eventsBetween (lentPools (now (a .day)) (now (a .series))) (now (a .list)) (a .from) (a .to) in
-    left-all (now (a .out)) (a .at) (eventLoopBytes (a .base-day) all)
-    (omega (arith, start .pre, loop-length (a .base-day) all))
+loop-holds c = events-start (c .before .before .before .before .pre)
 
 record-at-requires : tie.Need-record-at-requires Inv-loop μ-loop
 record-at-requires c κs = search needs
@@ -52,7 +43,7 @@ start c = c .before .before .before .before .before
 room : (c : tie.After-choose Inv-loop μ-loop)
     → turn c .loop .offset + (eventOverhead + length (c .choose .result .now)) ≤ length (turn c .loop .out)
 room c =
-    next-fits _ _ _ _ _ (turn c .loop .inv) (c .before .before .loop-test .taken) (c .before .record-at .ensures)
+    next-fits (turn c .loop .inv) (c .before .before .loop-test .taken) (c .before .record-at .ensures)
     (c .choose .ensures)
 
 add-offset : tie.Need-add-offset Inv-loop μ-loop
@@ -70,18 +61,18 @@ loop-less c = omega arith
 loop-again : tie.Need-loop-again Inv-loop μ-loop
 loop-again c =
     let chosen = c .before .before .before .before in
-    next-written _ _ _ _ _ (turn chosen .loop .inv) (chosen .before .before .loop-test .taken)
+    next-written (turn chosen .loop .inv) (chosen .before .before .loop-test .taken)
     (chosen .before .record-at .ensures)
     (chosen .choose .ensures) (c .before .before .write-event .ensures)
 
 same-length : tie.Need-same-length Inv-loop μ-loop
-same-length c = c .before .loop .inv .size
+same-length c = c .before .loop .inv .left .size
 
 returns : tie.Need-returns Inv-loop μ-loop
 returns c =
     let a = start (c .before) .args in
     let all = eventsBetween (lentPools (now (a .day)) (now (a .series))) (now (a .list)) (a .from) (a .to) in
-    let (written, ends) = events-written _ _ _ _ _ (c .before .loop .inv) (omega arith) in
+    let (written, ends) = events-written (c .before .loop .inv) (omega arith) in
     (written, omega (arith, ends, loop-length (a .base-day) all))
 
 pub write-events-spec : {M : Type 1} → statement M

@@ -10,6 +10,10 @@ use Rattle.build.proofs.SectionLaws.{section-written}
 use Rattle.build.proofs.section.write_section.Statement.{statement}
 use Rattle.build.proofs.section.write_section.Tie as tie
 
+-- the call, before the header
+abbrev call : tie.After-write-header-arg → tie.Start
+call c = c .before .before .before .before .before
+
 write-header-requires : tie.Need-write-header-requires
 write-header-requires c κs = search needs
 
@@ -47,7 +51,7 @@ returns c =
     let known = summed .before .before .before in
     let filled = known .before .before in
     let headed = filled .before .before .before .before in
-    let start = headed .before .before .before .before .before .before in
+    let start = call (headed .before) in
     let a = start .args in
     let es = eventsBetween (lentPools (now (a .day)) (now (a .series))) (now (a .list)) (a .from) (a .to) in
     let bytes = bytes-all (filled .write-events .last .0) (λ k. known .slice-known3 .given k .fits) in

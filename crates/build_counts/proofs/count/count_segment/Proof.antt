@@ -19,11 +19,18 @@ Inv-loop list from end day series room sections₀ bytes₀ at₀ sections bytes
 abbrev μ-loop : tie.MeasureT-loop
 μ-loop list from end day series room sections₀ bytes₀ at₀ sections bytes at = 8 - sections
 
+-- back from a section's cut to the turn, and to the call
+abbrev turn : tie.Then2 Inv-loop μ-loop → tie.At-loop Inv-loop μ-loop
+turn c = c .before .before
+
+abbrev start : tie.At-loop Inv-loop μ-loop → tie.Start Inv-loop μ-loop
+start c = c .before .before .before .before .before
+
 returns : tie.Need-returns Inv-loop μ-loop
-returns c = pack-none _ _ _ _ _ (c .if1 .taken)
+returns c = pack-none _ _ _ (c .if1 .taken)
 
 loop-holds : tie.Need-loop-holds Inv-loop μ-loop
-loop-holds c = pack-start _ _ _ _ _ (c .if1 .left) (omega (arith, c .before .before .before .before .fits .room))
+loop-holds c = pack-start (c .if1 .left) (omega (arith, c .before .before .before .before .fits .room))
 
 cast-loop : tie.Need-cast-loop Inv-loop μ-loop
 cast-loop c = search needs
@@ -33,15 +40,15 @@ next-cut-requires c κs = search needs
 
 -- after one more section
 counted : (c : tie.After-struct-known Inv-loop μ-loop)
-    → let a = c .before .before .before .before .before .before .before .before .before .args in
+    → let here = turn (c .before .before) in
+    let a = start here .args in
     let next = c .before .next-cut .result in
-    let turn = c .before .before .before .before .loop in
     PackedSoFar (lentPools (now (a .day)) (now (a .series))) (now (a .list)) (a .from) (a .end) (a .room)
-    (turn .sections + 1)
-    (turn .bytes + (sectionOverhead + next .bytes)) (next .to)
+    (here .loop .sections + 1)
+    (here .loop .bytes + (sectionOverhead + next .bytes)) (next .to)
 counted c =
     let test = c .before .before in
-    pack-more (test .before .before .loop .inv) (test .before .loop-test .taken) (ltb-true _ _ (test .if2 .taken))
+    pack-more (turn test .loop .inv) (test .before .loop-test .taken) (ltb-true _ _ (test .if2 .taken))
     (c .before .next-cut .result) (c .before .next-cut .ensures)
 
 add-bytes : tie.Need-add-bytes Inv-loop μ-loop
@@ -61,11 +68,11 @@ loop-again c = counted c
 
 -- the loop ends with eight sections, or with nothing left
 done : (c : tie.Left-loop Inv-loop μ-loop)
-    → c .before .loop .at < c .before .before .before .before .before .before .args .end → c .before .loop .sections < 8
+    → c .before .loop .at < start (c .before) .args .end → c .before .loop .sections < 8
     → ⊥
 done c inside few =
     let at = c .before .loop .at in
-    let end = c .before .before .before .before .before .before .args .end in
+    let end = start (c .before) .args .end in
     ⊎-elim (λ w. omega (arith, ltb-false at end (w .1 .left))) (λ w. omega (arith, w .left)) (c .loop-test .came)
 
 returns-2 : tie.Need-returns-2 Inv-loop μ-loop

@@ -15,7 +15,7 @@ abbrev μ-loop : tie.MeasureT-loop
 μ-loop list from end day series room to₀ bytes₀ to bytes = end - to
 
 loop-holds : tie.Need-loop-holds Inv-loop μ-loop
-loop-holds c = pass-start _ _ _ _ _
+loop-holds c = pass-start
 
 event-size-requires : tie.Need-event-size-requires Inv-loop μ-loop
 event-size-requires c κs = search needs

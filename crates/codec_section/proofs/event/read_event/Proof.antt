@@ -1,5 +1,6 @@
 -- `codec_section::event::read_event` meets its contract: each test that fails decides, and behind them all the fields
 -- are the record. Assumes nothing.
+use mathlib.Core.Bool.{true}
 use mathlib.Core.Path.{_≡_, sym, _∙_}
 use native.Mathlib.Omega.{arith}
 use denote.Ref.{now}
@@ -9,10 +10,25 @@ use Rattle.eit.specs.Fields.{Bytes}
 use Rattle.eit.proofs.Fields.{bytes-all}
 use Rattle.sections.specs.Decode.{statusField}
 use Rattle.codec.proofs.FieldLaws.{field-read}
+use Rattle.codec_time.specs.TimeRead.{durationAt, startAt}
+use Rattle.codec_time.specs.declared.TimeRead.the-variants.{Seconds}
 use Rattle.codec_section.proofs.EventReadLaws.{event-truncated, event-no-status, event-no-start}
 use Rattle.codec_section.proofs.EventReadLaws.{event-no-duration, event-no-chain, event-shown}
 use Rattle.codec_section.proofs.event.read_event.Statement.{statement}
 use Rattle.codec_section.proofs.event.read_event.Tie as tie
+
+-- back from the chain's test to the duration, to the start, to the status, and from the room tested to the call
+abbrev lasted : tie.After-is-chain → tie.After-duration
+lasted c = c .before .before .before
+
+abbrev started : tie.After-read-duration → tie.After-start
+started c = c .before .before
+
+abbrev stated : tie.After-start → tie.After-is-status
+stated c = c .before .before .before .before
+
+abbrev call : tie.Else1 → tie.Start
+call c = c .before .before .before
 
 read-field-requires : tie.Need-read-field-requires
 read-field-requires c κs = search needs
@@ -32,6 +48,20 @@ word-is c =
     let bs = now (c .before .before .args .bytes) in
     field-read bs 10 2 (bytes-are (c .before)) (omega arith) (c .read-field .ensures) .0
 
+-- an event with a status, a start and a duration
+status-holds : (c : tie.After-start) → stated c .is-status .result ≡ true
+status-holds c = not-false (stated c .is-status .result) (c .before .before .before .if2 .left)
+
+start-is : (c : tie.After-start)
+    → let a = call (stated c .before) .args in
+    startAt (a .base-day) 2 (now (a .bytes)) ≡ Seconds (c .start .given .0 .0)
+start-is c = sym (c .before .before .read-start .ensures) ∙ c .start .given .1
+
+duration-is : (c : tie.After-duration)
+    → let a = call (stated (started (c .before .before)) .before) .args in
+    durationAt 7 (now (a .bytes)) ≡ Seconds (c .duration .given .0 .0)
+duration-is c = sym (c .before .before .read-duration .ensures) ∙ c .duration .given .1
+
 returns : tie.Need-returns
 returns c =
     let a = c .before .before .before .args in
@@ -43,7 +73,7 @@ is-status-requires c κs = search needs
 returns-2 : tie.Need-returns-2
 returns-2 c =
     let entered = c .before .before in
-    let a = entered .before .before .before .args in
+    let a = call entered .args in
     let fails = not-true (c .before .is-status .result) (c .if2 .taken) in
     let test = c .before .is-status .ensures in
     sym (event-no-status (a .base-day) (now (a .bytes)) (word-is (entered .before)) (entered .if1 .left) test fails)
@@ -60,7 +90,7 @@ enum-told c = search needs
 returns-3 : tie.Need-returns-3
 returns-3 c =
     let entered = c .before .before .before .before .before in
-    let a = entered .before .before .before .args in
+    let a = call entered .args in
     let none = sym (c .before .before .read-start .ensures) ∙ c .enum-told .given .1 in
     sym (event-no-start (a .base-day) (now (a .bytes)) (word-is (entered .before)) (entered .if1 .left) none)
 
@@ -75,8 +105,8 @@ enum-told-2 c = search needs
 
 returns-4 : tie.Need-returns-4
 returns-4 c =
-    let entered = c .before .before .before .before .before .before .before .before .before in
-    let a = entered .before .before .before .args in
+    let entered = stated (started (c .before .before)) .before in
+    let a = call entered .args in
     let none = sym (c .before .before .read-duration .ensures) ∙ c .enum-told2 .given .1 in
     sym (event-no-duration (a .base-day) (now (a .bytes)) (word-is (entered .before)) (entered .if1 .left) none)
 
@@ -95,18 +125,13 @@ is-chain-requires c κs = search needs
 returns-5 : tie.Need-returns-5
 returns-5 c =
     let chained = c .before in
-    let lasted = chained .before .before .before in
-    let started = lasted .before .before .before .before in
-    let stated = started .before .before .before .before in
-    let entered = stated .before in
-    let a = entered .before .before .before .args in
-    let start = sym (started .before .before .read-start .ensures) ∙ started .start .given .1 in
-    let duration = sym (lasted .before .before .read-duration .ensures) ∙ lasted .duration .given .1 in
-    let status = not-false (stated .is-status .result) (started .before .before .before .if2 .left) in
-    let word = word-is (entered .before) in
+    let whole = lasted chained in
+    let timed = started (whole .before .before) in
+    let entered = stated timed .before in
+    let a = call entered .args in
     let fails = not-true (chained .is-chain .result) (c .if3 .taken) in
-    sym (event-no-chain (a .base-day) (now (a .bytes)) word (entered .if1 .left) (stated .is-status .ensures) status
-    start duration
+    sym (event-no-chain (a .base-day) (now (a .bytes)) (word-is (entered .before)) (entered .if1 .left)
+    (stated timed .is-status .ensures) (status-holds timed) (start-is timed) (duration-is whole)
     (chained .is-chain .ensures) fails)
 
 read-field-requires-2 : tie.Need-read-field-requires-2
@@ -124,20 +149,15 @@ cast-t22 c = search needs
 returns-6 : tie.Need-returns-6
 returns-6 c =
     let chained = c .before .before in
-    let lasted = chained .before .before .before in
-    let started = lasted .before .before .before .before in
-    let stated = started .before .before .before .before in
-    let entered = stated .before in
-    let a = entered .before .before .before .args in
-    let start = sym (started .before .before .read-start .ensures) ∙ started .start .given .1 in
-    let duration = sym (lasted .before .before .read-duration .ensures) ∙ lasted .duration .given .1 in
-    let status = not-false (stated .is-status .result) (started .before .before .before .if2 .left) in
-    let word = word-is (entered .before) in
+    let whole = lasted chained in
+    let timed = started (whole .before .before) in
+    let entered = stated timed .before in
+    let a = call entered .args in
     let holds = not-false (chained .is-chain .result) (c .before .if3 .left) in
     let id = field-read (now (a .bytes)) 0 2 (bytes-are (entered .before .before)) (omega arith)
     (c .read-field2 .ensures) .0 in
-    sym (event-shown (a .base-day) (now (a .bytes)) word (entered .if1 .left) (stated .is-status .ensures) status start
-    duration
+    sym (event-shown (a .base-day) (now (a .bytes)) (word-is (entered .before)) (entered .if1 .left)
+    (stated timed .is-status .ensures) (status-holds timed) (start-is timed) (duration-is whole)
     (chained .is-chain .ensures) id holds)
 
 pub read-event-spec : {M : Type 1} → statement M

@@ -20,6 +20,10 @@ Inv-loop out₀ at chain i₀ out i =
 abbrev μ-loop : tie.MeasureT-loop
 μ-loop out₀ at chain i₀ out i = length chain - i
 
+-- the call, before the loop
+abbrev start : tie.At-loop Inv-loop μ-loop → tie.Start Inv-loop μ-loop
+start c = c .before .before .before .before .before
+
 is-within-requires : tie.Need-is-within-requires Inv-loop μ-loop
 is-within-requires c κs = search needs
 
@@ -59,7 +63,7 @@ loop-less c = omega arith
 loop-again : tie.Need-loop-again Inv-loop μ-loop
 loop-again c =
     let turn = c .before .before .loop in
-    let a = c .before .before .before .before .before .before .before .args in (
+    let a = start (c .before .before) .args in (
       turn .inv .0,
       omega arith,
       simp length-set (turn .inv .2),
@@ -73,7 +77,7 @@ same-length c = c .before .loop .inv .2
 returns-2 : tie.Need-returns-2 Inv-loop μ-loop
 returns-2 c =
     let end = c .before .loop in
-    let a = c .before .before .before .before .before .before .args in
+    let a = start (c .before) .args in
     paste-all (now (a .out)) (a .at) (now (a .chain)) (end .i) (end .inv .0) (omega arith) (end .inv .3)
 
 pub write-chain-spec : {M : Type 1} → statement M

@@ -11,6 +11,16 @@ use Rattle.codec_section.specs.HeaderRead.{headerRead}
 use Rattle.codec_section.proofs.header.read_header.Statement.{statement}
 use Rattle.codec_section.proofs.header.read_header.Tie as tie
 
+-- back from the last byte that was read to the section's number, to the three ids, and to the call
+abbrev numbered : tie.After-byte-at6 → tie.After-byte-at2
+numbered c = c .before .before .before .before
+
+abbrev named : tie.After-byte-at2 → tie.After-word-at3
+named c = c .before .before
+
+abbrev entered : tie.After-word-at3 → tie.Else1
+entered c = c .before .before .before
+
 returns : tie.Need-returns
 returns c = rw (headerRead, lt-leb headerSize (length (now (c .before .before .args .bytes))) (c .if1 .taken))
 
@@ -43,20 +53,20 @@ byte-at-requires-6 c κs = search needs
 
 returns-2 : tie.Need-returns-2
 returns-2 c =
-    let stream = c .before .before .before .before .before .before .before in
-    let entered = stream .before .before in
-    let bs = now (entered .before .before .args .bytes) in
-    rw (headerRead, le-leb headerSize (length bs) (entered .if1 .left))
+    let ids = named (numbered c) in
+    let whole = entered ids in
+    let bs = now (whole .before .before .args .bytes) in
+    rw (headerRead, le-leb headerSize (length bs) (whole .if1 .left))
     (λ i. some (record {
-      tableId = c .before .before .before .before .before .byte-at .ensures i;
-      sectionNumber = c .before .before .before .before .byte-at2 .ensures i;
+      tableId = numbered c .before .byte-at .ensures i;
+      sectionNumber = numbered c .byte-at2 .ensures i;
       lastSectionNumber = c .before .before .before .byte-at3 .ensures i;
       segmentLastSectionNumber = c .before .before .byte-at4 .ensures i;
       lastTableId = c .before .byte-at5 .ensures i;
       triplet = record {
-        «service_id» = stream .before .word-at .ensures i;
-        «transport_stream_id» = stream .word-at2 .ensures i;
-        «original_network_id» = c .before .before .before .before .before .before .word-at3 .ensures i;
+        «service_id» = ids .before .before .word-at .ensures i;
+        «transport_stream_id» = ids .before .word-at2 .ensures i;
+        «original_network_id» = ids .word-at3 .ensures i;
       };
       version = c .byte-at6 .ensures i / 2 % 32;
     }))

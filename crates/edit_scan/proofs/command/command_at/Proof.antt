@@ -4,11 +4,25 @@ use mathlib.Core.Path.{sym}
 use Prim.Native.Nat.{suc}
 use lib.ListN.{getD, drop}
 use borrow.Author.Needs.{needs}
+use Rattle.eit.specs.Fields.{Bytes}
 use Rattle.eit.proofs.Fields.{bytes-all}
 use Rattle.edit_scan.proofs.CommandLaws.{other-command}
 use Rattle.edit_scan.proofs.OperandLaws.{read-put, read-withdraw, read-move, read-beyond}
 use Rattle.edit_scan.proofs.command.command_at.Statement.{statement}
 use Rattle.edit_scan.proofs.command.command_at.Tie as tie
+
+-- back from the tests of the codes to the operands, and to the call
+abbrev operands : tie.Else3 → tie.After-operands
+operands c = c .before .before
+
+abbrev start : tie.After-operands → tie.Start
+start c = c .before .before .before .before
+
+-- the script is bytes
+script-bytes : (c : tie.After-operands) → Bytes (start c .args .script .now)
+script-bytes c =
+    let known = c .before .before .before in
+    bytes-all (start c .args .script .now) (λ k. known .shared-slice-known .given k .fits)
 
 returns : tie.Need-returns
 returns c = read-beyond (c .before .before .args .script .now) (c .before .before .args .at) (c .if1 .taken)
@@ -33,11 +47,9 @@ put-record-requires c κs = search needs
 
 returns-2 : tie.Need-returns-2
 returns-2 c =
-    let known = c .before .before .before .before .before in
-    let args = known .before .args in
-    let script = args .script .now in
-    read-put script (bytes-all script (λ k. known .shared-slice-known .given k .fits)) (args .at)
-    (c .put-record .result) (c .before .if2 .taken)
+    let behind = c .before .before in
+    let a = start behind .args in
+    read-put (a .script .now) (script-bytes behind) (a .at) (c .put-record .result) (c .before .if2 .taken)
     (c .put-record .ensures)
 
 read-field-requires : tie.Need-read-field-requires
@@ -45,12 +57,10 @@ read-field-requires c κs = search needs
 
 returns-3 : tie.Need-returns-3
 returns-3 c =
-    let known = c .before .before .before .before .before .before in
-    let args = known .before .args in
-    let script = args .script .now in
-    read-withdraw script (bytes-all script (λ k. known .shared-slice-known .given k .fits)) (args .at)
-    (c .read-field .result)
-    (c .before .if3 .taken) (c .read-field .ensures)
+    let behind = c .before .before .before in
+    let a = start behind .args in
+    read-withdraw (a .script .now) (script-bytes behind) (a .at) (c .read-field .result) (c .before .if3 .taken)
+    (c .read-field .ensures)
 
 read-field-requires-2 : tie.Need-read-field-requires-2
 read-field-requires-2 c κs = search needs
@@ -60,18 +70,16 @@ read-field-requires-3 c κs = search needs
 
 returns-4 : tie.Need-returns-4
 returns-4 c =
-    let known = c .before .before .before .before .before .before .before .before in
-    let args = known .before .args in
-    let script = args .script .now in
-    read-move script (bytes-all script (λ k. known .shared-slice-known .given k .fits)) (args .at)
-    (c .before .read-field2 .result)
-    (c .read-field3 .result) (c .before .before .if4 .taken) (c .before .read-field2 .ensures) (c .read-field3 .ensures)
+    let behind = operands (c .before .before .before) in
+    let a = start behind .args in
+    read-move (a .script .now) (script-bytes behind) (a .at) (c .before .read-field2 .result) (c .read-field3 .result)
+    (c .before .before .if4 .taken) (c .before .read-field2 .ensures) (c .read-field3 .ensures)
 
 returns-5 : tie.Need-returns-5
 returns-5 c =
-    let args = c .before .before .before .before .before .before .before .args in
-    let script = args .script .now in
-    let at = args .at in
+    let a = start (operands (c .before)) .args in
+    let script = a .script .now in
+    let at = a .at in
     sym (other-command (getD script at 0) (c .before .before .if2 .left) (c .before .if3 .left) (c .if4 .left) at
     (drop (suc at) script))
 

@@ -30,29 +30,32 @@ loop-holds c = (omega arith, strikes-all (commandsAt 0 (c .before .args .script 
 is-whole-at-requires : tie.Need-is-whole-at-requires Inv-loop μ-loop
 is-whole-at-requires c κs = search needs
 
+-- back through a turn: from an edit, or an UNDO that has one, to the whole command there, and to the turn's beginning
+abbrev command : tie.Else2 Inv-loop μ-loop → tie.Then1 Inv-loop μ-loop
+command c = c .before .before
+
+abbrev turn : tie.Then1 Inv-loop μ-loop → tie.At-loop Inv-loop μ-loop
+turn c = c .before .before
+
 -- the script, and what a turn knows of it
 abbrev bytes : tie.At-loop Inv-loop μ-loop → List ℕ
 bytes head = head .before .before .args .script .now
 
-whole : (c : tie.Then1 Inv-loop μ-loop) → T (isWholeAt (c .before .before .loop .at) (bytes (c .before .before)))
+whole : (c : tie.Then1 Inv-loop μ-loop) → T (isWholeAt (turn c .loop .at) (bytes (turn c)))
 whole c =
-    let head = c .before .before in
-    whole-holds (head .loop .at) (bytes head) (c .before .is-whole-at .result) (c .before .is-whole-at .ensures)
-    (c .if1 .taken)
+    let asked = c .before .is-whole-at in
+    whole-holds (turn c .loop .at) (bytes (turn c)) (asked .result) (asked .ensures) (c .if1 .taken)
 
-here : (c : tie.Then1 Inv-loop μ-loop) → c .before .before .loop .at < length (bytes (c .before .before))
-here c = whole-here (c .before .before .loop .at) (bytes (c .before .before)) (whole c)
+here : (c : tie.Then1 Inv-loop μ-loop) → turn c .loop .at < length (bytes (turn c))
+here c = whole-here (turn c .loop .at) (bytes (turn c)) (whole c)
 
 inside : (c : tie.After-operand-bytes Inv-loop μ-loop)
-    → let head = c .before .before .before .before .before .before in
+    → let head = turn (command (c .before .before)) in
     head .loop .at + (1 + c .operand-bytes .result) ≤ length (bytes head)
 inside c =
-    let head = c .before .before .before .before .before .before in
-    omega (
-      arith,
-      whole-inside (head .loop .at) (bytes head) (whole (c .before .before .before .before)),
-      c .operand-bytes .ensures,
-    )
+    let here = command (c .before .before) in
+    let head = turn here in
+    omega (arith, whole-inside (head .loop .at) (bytes head) (whole here), c .operand-bytes .ensures)
 
 shared-slice-read-undo : tie.Need-shared-slice-read-undo Inv-loop μ-loop
 shared-slice-read-undo c = here (c .before)
@@ -62,21 +65,20 @@ cast-undo c = search needs
 
 returns : tie.Need-returns Inv-loop μ-loop
 returns c =
-    let turn = c .before .before in
-    let head = turn .before .before in
+    let here = c .before .before in
+    let head = turn here in
     let at : ℕ = head .loop .at in
     let next : ℕ = at + (1 + operandBytes (getD (bytes head) at 0)) in
-    sym (head .loop .inv .1 ∙ strikes-nothing (head .loop .kept) at (bytes head) next refl (whole turn) (c .if2 .taken))
+    sym (head .loop .inv .1 ∙ strikes-nothing (head .loop .kept) at (bytes head) next refl (whole here) (c .if2 .taken))
 
 -- 1 for an UNDO, 0 for an edit
 few : (c : tie.Else2 Inv-loop μ-loop)
-    → let head = c .before .before .before .before in
+    → let head = turn (command c) in
     boolByte (eqb (getD (bytes head) (head .loop .at) 0) 0x04) ≤ 1
-few c = byte-few
-    (eqb (getD (bytes (c .before .before .before .before)) (c .before .before .before .before .loop .at) 0) 0x04)
+few c = let head = turn (command c) in byte-few (eqb (getD (bytes head) (head .loop .at) 0) 0x04)
 
 add-kept : tie.Need-add-kept Inv-loop μ-loop
-add-kept c = omega (arith, c .before .before .before .before .loop .inv .0, here (c .before .before))
+add-kept c = omega (arith, turn (command c) .loop .inv .0, here (command c))
 
 mul-kept : tie.Need-mul-kept Inv-loop μ-loop
 mul-kept c = omega (arith, few c)
@@ -85,7 +87,7 @@ sub-kept : tie.Need-sub-kept Inv-loop μ-loop
 sub-kept c = omega (arith, few c, c .if2 .left)
 
 shared-slice-read-operand-bytes : tie.Need-shared-slice-read-operand-bytes Inv-loop μ-loop
-shared-slice-read-operand-bytes c = here (c .before .before .before)
+shared-slice-read-operand-bytes c = here (command (c .before))
 
 operand-bytes-requires : tie.Need-operand-bytes-requires Inv-loop μ-loop
 operand-bytes-requires c κs = search needs
@@ -102,14 +104,14 @@ loop-less c = omega (arith, inside c)
 loop-again : tie.Need-loop-again Inv-loop μ-loop
 loop-again c =
     let enough = c .before .before in
-    let turn = enough .before .before in
-    let head = turn .before .before in
+    let here = command enough in
+    let head = turn here in
     let at : ℕ = head .loop .at in
     let next : ℕ = at + (1 + c .operand-bytes .result) in
     let there : next ≡ at + (1 + operandBytes (getD (bytes head) at 0)) =
     ap (λ (n : ℕ). at + (1 + n)) (c .operand-bytes .ensures) in (
       omega (arith, head .loop .inv .0),
-      head .loop .inv .1 ∙ strikes-on (head .loop .kept) at (bytes head) next there (whole turn) (enough .if2 .left),
+      head .loop .inv .1 ∙ strikes-on (head .loop .kept) at (bytes head) next there (whole here) (enough .if2 .left),
     )
 
 returns-2 : tie.Need-returns-2 Inv-loop μ-loop

@@ -14,6 +14,16 @@ use Rattle.eit.specs.declared.Record.{Record}
 use Rattle.list_records.proofs.records.record_at.Statement.{statement}
 use Rattle.list_records.proofs.records.record_at.Tie as tie
 
+-- back from the sixth number to the third, to the rest that they are read from, and to the call
+abbrev third : tie.After-number-at6 → tie.After-number-at3
+third c = c .before .before .before
+
+abbrev joined : tie.After-number-at3 → tie.Joined1
+joined c = c .before .before .before
+
+abbrev start : tie.Joined1 → tie.Start
+start c = c .before .before .before
+
 sub-rest : tie.Need-sub-rest
 sub-rest c = search needs
 
@@ -58,20 +68,20 @@ number-at-requires-6 c κs = search needs
 
 returns : tie.Need-returns
 returns c =
-    let joined = c .before .before .before .before .before .before in
-    let start = joined .before .before .before in
-    let list : List ℕ = start .args .list .now in
-    let at : ℕ = start .args .i * recordSize in
-    let rest : joined .if1 .rest .now ≡ drop at list =
-    elim (joined .if1 .came) [
+    let left = joined (third c) in
+    let a = start left .args in
+    let list : List ℕ = a .list .now in
+    let at : ℕ = a .i * recordSize in
+    let rest : left .if1 .rest .now ≡ drop at list =
+    elim (left .if1 .came) [
       | inl w ↦ ap now (w .2) ∙ take-all (length list - at) (drop at list) (simp length-drop (omega arith))
       | inr w ↦ ap now (w .1) ∙ sym (drop-of-length-le list {i = at} (omega arith))
     ] in
-    let front : _≡_ {A = Record} _ (frontRecord (joined .if1 .rest .now)) =
+    let front : _≡_ {A = Record} _ (frontRecord (left .if1 .rest .now)) =
     λ j. record {
-      id = c .before .before .before .before .before .number-at .ensures j;
-      start = c .before .before .before .before .number-at2 .ensures j;
-      duration = c .before .before .before .number-at3 .ensures j;
+      id = third c .before .before .number-at .ensures j;
+      start = third c .before .number-at2 .ensures j;
+      duration = third c .number-at3 .ensures j;
       marks = c .before .before .number-at4 .ensures j;
       offset = c .before .number-at5 .ensures j;
       «chain_length» = c .number-at6 .ensures j;

@@ -24,7 +24,7 @@ abbrev μ-loop : tie.MeasureT-loop
 μ-loop records₀ place events from base-day n₀ at₀ records n at = length events - at
 
 loop-holds : tie.Need-loop-holds Inv-loop μ-loop
-loop-holds c = let start = c .before .before in fill-start _ _ _ _ _ (start .pre .0) (start .pre .1)
+loop-holds c = let called = c .before .before in fill-start (called .pre .0) (called .pre .1)
 
 sub-read-event : tie.Need-sub-read-event Inv-loop μ-loop
 sub-read-event c = search needs
@@ -79,26 +79,33 @@ module _ (c : tie.After-shown Inv-loop μ-loop) where
   turn-below : start read .args .from + length (now (start read .args .events)) < 2 ^ 32
   turn-below = start read .pre .2
 
+-- back from the record that was written to the event, and from the turn's end to that record
+abbrev whole : tie.After-write-record Inv-loop μ-loop → tie.After-shown Inv-loop μ-loop
+whole c = c .before .before .before
+
+abbrev put : tie.After-struct-known Inv-loop μ-loop → tie.After-write-record Inv-loop μ-loop
+put c = c .before .before .before
+
 returns : tie.Need-returns Inv-loop μ-loop
 returns c =
-    let read = c .before .before in
-    absurd (never-broken (turn read .loop .inv) (read .before .before .loop-test .taken)
-    (sym (rest-read read) ∙ c .enum-told .given .1))
+    let got = c .before .before in
+    absurd (never-broken (turn got .loop .inv) (got .before .before .loop-test .taken)
+    (sym (rest-read got) ∙ c .enum-told .given .1))
 
 add-t10 : tie.Need-add-t10 Inv-loop μ-loop
-add-t10 c = let whole = c .before in omega (arith, turn-inside whole, turn-below whole)
+add-t10 c = omega (arith, turn-inside (c .before), turn-below (c .before))
 
 add-t16 : tie.Need-add-t16 Inv-loop μ-loop
-add-t16 c = let whole = c .before in omega (arith, turn-inside whole, turn-below whole)
+add-t16 c = omega (arith, turn-inside (c .before), turn-below (c .before))
 
 cast-t17 : tie.Need-cast-t17 Inv-loop μ-loop
-cast-t17 c = let whole = c .before in omega (arith, turn-inside whole, turn-below whole)
+cast-t17 c = omega (arith, turn-inside (c .before), turn-below (c .before))
 
 write-record-requires : tie.Need-write-record-requires Inv-loop μ-loop
 write-record-requires c κs = search needs
 
 add-n : tie.Need-add-n Inv-loop μ-loop
-add-n c = let whole = c .before .before .before .before .before in omega (arith, turn-room whole)
+add-n c = omega (arith, turn-room (whole (c .before .before)))
 
 cast-at : tie.Need-cast-at Inv-loop μ-loop
 cast-at c = search needs
@@ -107,20 +114,19 @@ add-at : tie.Need-add-at Inv-loop μ-loop
 add-at c = search needs
 
 add-at-2 : tie.Need-add-at-2 Inv-loop μ-loop
-add-at-2 c = omega (arith, turn-inside (c .before .before .before .before .before .before))
+add-at-2 c = omega (arith, turn-inside (whole (put c)))
 
 loop-less : tie.Need-loop-less Inv-loop μ-loop
 loop-less c =
-    let whole = c .before .before .before .before .before .before in
-    omega (arith, turn-inside whole, whole .before .before .before .before .loop-test .taken)
+    let event = whole (put c) in
+    omega (arith, turn-inside event, read event .before .before .loop-test .taken)
 
 loop-again : tie.Need-loop-again Inv-loop μ-loop
 loop-again c =
-    let put = c .before .before .before in
-    let whole = put .before .before .before in
-    let read = whole .before .before in
-    fill-more (turn read .loop .inv) (read .before .before .loop-test .taken) (event-read whole) refl
-    (put .write-record .ensures)
+    let event = whole (put c) in
+    let got = read event in
+    fill-more (turn got .loop .inv) (got .before .before .loop-test .taken) (event-read event) refl
+    (put c .write-record .ensures)
 
 same-length-2 : tie.Need-same-length-2 Inv-loop μ-loop
 same-length-2 c = search needs

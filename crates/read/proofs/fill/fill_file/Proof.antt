@@ -16,6 +16,19 @@ Inv-loop records₀ file base-day n₀ offset₀ records n offset = FileSoFar ba
 abbrev μ-loop : tie.MeasureT-loop
 μ-loop records₀ file base-day n₀ offset₀ records n offset = length file - offset
 
+-- back from the way on to the records filled in, to the section read, to the turn's beginning, and to the call
+abbrev filled : tie.After-next-offset Inv-loop μ-loop → tie.After-fill-events Inv-loop μ-loop
+filled c = c .before .before .before
+
+abbrev walked : tie.After-event-loop Inv-loop μ-loop → tie.After-read-section Inv-loop μ-loop
+walked c = c .before .before
+
+abbrev turn : tie.After-read-section Inv-loop μ-loop → tie.At-loop Inv-loop μ-loop
+turn c = c .before .before
+
+abbrev call : tie.At-loop Inv-loop μ-loop → tie.Start Inv-loop μ-loop
+call c = c .before .before .before
+
 loop-holds : tie.Need-loop-holds Inv-loop μ-loop
 loop-holds c = let start = c .before .before in file-start _ _ _ (start .pre .0) (start .pre .1)
 
@@ -27,19 +40,19 @@ event-loop-requires c κs = search needs
 
 add-fill-events : tie.Need-add-fill-events Inv-loop μ-loop
 add-fill-events c =
-    let turn = c .before .before .before .before in
-    omega (arith, turn .loop .inv .inside, turn .before .before .before .pre .2)
+    let here = turn (walked c) in
+    omega (arith, here .loop .inv .inside, call here .pre .2)
 
 fill-events-requires : tie.Need-fill-events-requires Inv-loop μ-loop
 fill-events-requires c κs =
-    let walked = c .before .before in
-    let turn = walked .before .before in
-    let here = walked .before .loop-test .taken in
-    let is = walked .read-section .ensures in
+    let section = walked c in
+    let inv = turn section .loop .inv in
+    let here = section .before .loop-test .taken in
+    let is = section .read-section .ensures in
     let loop = c .event-loop .ensures in (
-      events-are (turn .loop .inv) here is loop,
-      file-room (turn .loop .inv) here is loop,
-      omega (arith, events-inside (turn .loop .inv) here is loop, turn .before .before .before .pre .2),
+      events-are inv here is loop,
+      file-room inv here is loop,
+      omega (arith, events-inside inv here is loop, call (turn section) .pre .2),
     )
 
 next-offset-requires : tie.Need-next-offset-requires Inv-loop μ-loop
@@ -47,18 +60,17 @@ next-offset-requires c κs = search needs
 
 loop-less : tie.Need-loop-less Inv-loop μ-loop
 loop-less c =
-    let walked = c .before .before .before .before .before .before in
-    let here = walked .before .loop-test .taken in
-    omega (arith, here, end-past _ (walked .before .before .loop .offset) (c .next-offset .ensures) here)
+    let section = walked (filled c .before) in
+    let here = section .before .loop-test .taken in
+    omega (arith, here, end-past _ (turn section .loop .offset) (c .next-offset .ensures) here)
 
 loop-again : tie.Need-loop-again Inv-loop μ-loop
 loop-again c =
-    let filled = c .before .before .before in
-    let looped = filled .before in
-    let walked = looped .before .before in
-    file-more (walked .before .before .loop .inv) (walked .before .loop-test .taken) (walked .read-section .ensures)
-    (looped .event-loop .ensures) (filled .fill-events .ensures .0) (filled .fill-events .ensures .1)
-    (c .next-offset .ensures)
+    let fills = filled c .fill-events .ensures in
+    let looped = filled c .before in
+    let section = walked looped in
+    file-more (turn section .loop .inv) (section .before .loop-test .taken) (section .read-section .ensures)
+    (looped .event-loop .ensures) (fills .0) (fills .1) (c .next-offset .ensures)
 
 same-length : tie.Need-same-length Inv-loop μ-loop
 same-length c = c .before .loop .inv .left .size

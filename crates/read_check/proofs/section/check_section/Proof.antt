@@ -1,5 +1,6 @@
 -- `section::check_section` meets its contract: each check that fails is its refusal, and all together are the way on
 -- (`StepLaws`). Assumes nothing.
+use mathlib.Core.Bool.{true}
 use mathlib.Core.Path.{_≡_, refl, sym, ap, _∙_}
 use mathlib.Core.Logic.{⊎-elim}
 use mathlib.Core.List.{List}
@@ -22,46 +23,79 @@ use borrow.Author.Needs.{needs}
 use Rattle.read_check.proofs.section.check_section.Statement.{statement}
 use Rattle.read_check.proofs.section.check_section.Tie as tie
 
+-- back from check to check: the events looked at, the numbers, the header shown and read, the CRC_32, the frame, the
+-- call
+abbrev looked : tie.After-struct-known → tie.After-check-events
+looked c = c .before .before .before
+
+abbrev numbered : tie.After-check-events → tie.After-has-right-numbering
+numbered c = c .before .before .before .before
+
+abbrev shown : tie.After-has-right-numbering → tie.After-shown
+shown c = c .before .before
+
+abbrev headed : tie.After-shown → tie.After-check-header
+headed c = c .before .before
+
+abbrev summed : tie.After-check-header → tie.After-has-right-crc
+summed c = c .before .before
+
+abbrev framed : tie.After-has-right-crc → tie.After-is-framed
+framed c = c .before .before
+
+abbrev start : tie.After-is-framed → tie.Start
+start c = c .before .before .before
+
+-- and from the room for all events to the test of their number
+abbrev inside : tie.Else6 → tie.Else5
+inside c = c .before .before .before
+
 is-framed-requires : tie.Need-is-framed-requires
 is-framed-requires c κs = search needs
 
 module _ (c : tie.After-is-framed) where
-  section-bytes : Bytes (now (c .before .before .before .args .section))
-  section-bytes =
-      bytes-all (now (c .before .before .before .args .section))
-      (λ k. c .before .before .shared-slice-known .given k .fits)
+  section-bytes : Bytes (now (start c .args .section))
+  section-bytes = bytes-all (now (start c .args .section)) (λ k. c .before .before .shared-slice-known .given k .fits)
 
-  lent-tables : now (c .before .before .before .args .crc-tables) ≡ crcTables
-  lent-tables = c .before .before .before .pre
+  lent-tables : now (start c .args .crc-tables) ≡ crcTables
+  lent-tables = start c .pre
 
 at-most : {m n k : ℕ} → m ≤ n → n < k → m < k
 at-most few fits = omega arith
 
--- a section whose header passed
+-- a section in its frame, whose CRC_32 is right
+module _ (c : tie.After-check-header) where
+  frame-holds : framed (summed c) .is-framed .result ≡ true
+  frame-holds = not-false _ (summed c .before .if1 .left)
+
+  crc-holds : summed c .has-right-crc .result ≡ true
+  crc-holds = not-false _ (c .before .if2 .left)
+
+-- whose header passed
 module _ (c : tie.After-has-right-numbering) where
   abbrev entry : tie.Start
-  entry = c .before .before .before .before .before .before .before .before .before .before .before
+  entry = start (framed (summed (headed (shown c))))
 
-  header-passes : headerBefore (Behind (c .before .before .shown .given .0 .0))
+  header-passes : headerBefore (Behind (shown c .shown .given .0 .0))
       ≡ checkedHeader (headerBefore (entry .args .state .before)) (now (entry .args .section))
-  header-passes =
-      sym (ap headerBefore (c .before .before .shown .given .1))
-      ∙ c .before .before .before .before .check-header .ensures
+  header-passes = sym (ap headerBefore (shown c .shown .given .1)) ∙ headed (shown c) .check-header .ensures
 
--- and whose events were looked at
+-- and whose numbers are right, and events were looked at
+numbers-hold : (c : tie.After-check-events) → numbered c .has-right-numbering .result ≡ true
+numbers-hold c = not-false _ (c .before .before .before .if3 .left)
+
 events-checked : (c : tie.After-check-events)
-    → let a = entry (c .before .before .before .before) .args in
+    → let a = entry (numbered c) .args in
     passOf (c .check-events .result) (c .check-events .last .1 .1 .1 .1 .0)
-    ≡ checkedEvents (a .base-day) (heldHeader (c .before .before .before .before .before .before .shown .given .0 .0))
-    (a .state .least) (now (a .seen))
+    ≡ checkedEvents (a .base-day) (heldHeader (shown (numbered c) .shown .given .0 .0)) (a .state .least)
+    (now (a .seen))
     (splitBy statedEventSize (eventLoop (now (a .section))))
 events-checked c =
-    let a = entry (c .before .before .before .before) .args in
+    let a = entry (numbered c) .args in
     c .check-events .ensures
     ∙ ap
     (λ (events : List ℕ).
-    checkedEvents (a .base-day) (heldHeader (c .before .before .before .before .before .before .shown .given .0 .0))
-    (a .state .least) (now (a .seen))
+    checkedEvents (a .base-day) (heldHeader (shown (numbered c) .shown .given .0 .0)) (a .state .least) (now (a .seen))
     (splitBy statedEventSize events))
     (c .before .before .event-loop .ensures)
 
@@ -74,10 +108,10 @@ has-right-crc-requires c κs = search needs
 
 returns-2 : tie.Need-returns-2
 returns-2 c p tracks =
-    let framed = c .before .before .before in (
-      refuses-21 tracks _ _ _ (section-bytes framed) (framed .is-framed .ensures)
-          (not-false _ (c .before .before .if1 .left))
-          (lent-tables framed) (c .before .has-right-crc .ensures) (not-true _ (c .if2 .taken)),
+    let crc = c .before in
+    let frame = framed crc in (
+      refuses-21 tracks _ _ _ (section-bytes frame) (frame .is-framed .ensures) (not-false _ (crc .before .if1 .left))
+          (lent-tables frame) (crc .has-right-crc .ensures) (not-true _ (c .if2 .taken)),
       refl,
     )
 
@@ -92,13 +126,12 @@ enum-told c = search needs
 
 returns-3 : tie.Need-returns-3
 returns-3 c p tracks =
-    let kept = c .before .before in
-    let crc-right = kept .before .before in
-    let framed = crc-right .before .before in (
-      refuses-22 tracks _ _ _ (section-bytes framed) (framed .is-framed .ensures)
-          (not-false _ (crc-right .before .if1 .left)) (lent-tables framed)
-          (crc-right .has-right-crc .ensures) (not-false _ (kept .before .if2 .left))
-          (sym (ap headerBefore (c .enum-told .given .1)) ∙ kept .check-header .ensures),
+    let header = c .before .before in
+    let crc = summed header in
+    let frame = framed crc in (
+      refuses-22 tracks _ _ _ (section-bytes frame) (frame .is-framed .ensures) (frame-holds header)
+          (lent-tables frame) (crc .has-right-crc .ensures) (crc-holds header)
+          (sym (ap headerBefore (c .enum-told .given .1)) ∙ header .check-header .ensures),
       refl,
     )
 
@@ -107,14 +140,13 @@ has-right-numbering-requires c κs = search needs
 
 returns-4 : tie.Need-returns-4
 returns-4 c p tracks =
-    let numbered = c .before in
-    let kept = numbered .before .before .before .before in
-    let crc-right = kept .before .before in
-    let framed = crc-right .before .before in (
-      refuses-23 tracks _ _ _ (section-bytes framed) (framed .is-framed .ensures)
-          (not-false _ (crc-right .before .if1 .left)) (lent-tables framed)
-          (crc-right .has-right-crc .ensures) (not-false _ (kept .before .if2 .left)) (header-passes numbered)
-          (numbered .has-right-numbering .ensures) (not-true _ (c .if3 .taken)),
+    let numbers = c .before in
+    let header = headed (shown numbers) in
+    let crc = summed header in
+    let frame = framed crc in (
+      refuses-23 tracks _ _ _ (section-bytes frame) (frame .is-framed .ensures) (frame-holds header)
+          (lent-tables frame) (crc .has-right-crc .ensures) (crc-holds header) (header-passes numbers)
+          (numbers .has-right-numbering .ensures) (not-true _ (c .if3 .taken)),
       refl,
     )
 
@@ -129,16 +161,14 @@ same-length c = search needs
 
 returns-5 : tie.Need-returns-5
 returns-5 c p tracks =
-    let checked = c .before .before .before .before in
-    let looped = checked .before .before in
-    let numbered = looped .before .before in
-    let kept = numbered .before .before .before .before in
-    let crc-right = kept .before .before in
-    let framed = crc-right .before .before in (
-      refuses-24 tracks _ _ _ (section-bytes framed) (framed .is-framed .ensures)
-          (not-false _ (crc-right .before .if1 .left)) (lent-tables framed)
-          (crc-right .has-right-crc .ensures) (not-false _ (kept .before .if2 .left)) (header-passes numbered)
-          (numbered .has-right-numbering .ensures) (not-false _ (looped .before .if3 .left)) (events-checked checked)
+    let events = looked (c .before) in
+    let numbers = numbered events in
+    let header = headed (shown numbers) in
+    let crc = summed header in
+    let frame = framed crc in (
+      refuses-24 tracks _ _ _ (section-bytes frame) (frame .is-framed .ensures) (frame-holds header)
+          (lent-tables frame) (crc .has-right-crc .ensures) (crc-holds header) (header-passes numbers)
+          (numbers .has-right-numbering .ensures) (numbers-hold events) (events-checked events)
           (not-true _ (c .if4 .taken)),
       refl,
     )
@@ -149,25 +179,23 @@ same-length-2 c = search needs
 returns-6 : tie.Need-returns-6
 returns-6 c p tracks =
     let whole = c .before .before in
-    let checked = whole .before .before .before .before in
-    let looped = checked .before .before in
-    let numbered = looped .before .before in
-    let kept = numbered .before .before .before .before in
-    let crc-right = kept .before .before in
-    let framed = crc-right .before .before in
-    let a = entry numbered .args in
-    let many : a .sizes .«event_limit» < checked .check-events .result .events + a .state .count =
+    let events = looked (whole .before) in
+    let numbers = numbered events in
+    let header = headed (shown numbers) in
+    let crc = summed header in
+    let frame = framed crc in
+    let a = entry numbers .args in
+    let many : a .sizes .«event_limit» < events .check-events .result .events + a .state .count =
     ⊎-elim (λ w. omega (arith, w .taken))
     (λ w. omega (
       arith,
       w .0 .left,
-      ltb-true (a .sizes .«event_limit» - checked .check-events .result .events) (a .state .count) (w .3 .taken),
+      ltb-true (a .sizes .«event_limit» - events .check-events .result .events) (a .state .count) (w .3 .taken),
     ))
     (c .if5 .came) in (
-      refuses-26 tracks _ _ _ (section-bytes framed) (framed .is-framed .ensures)
-          (not-false _ (crc-right .before .if1 .left)) (lent-tables framed)
-          (crc-right .has-right-crc .ensures) (not-false _ (kept .before .if2 .left)) (header-passes numbered)
-          (numbered .has-right-numbering .ensures) (not-false _ (looped .before .if3 .left)) (events-checked checked)
+      refuses-26 tracks _ _ _ (section-bytes frame) (frame .is-framed .ensures) (frame-holds header)
+          (lent-tables frame) (crc .has-right-crc .ensures) (crc-holds header) (header-passes numbers)
+          (numbers .has-right-numbering .ensures) (numbers-hold events) (events-checked events)
           (not-false _ (whole .if4 .left)) many,
       refl,
     )
@@ -175,16 +203,16 @@ returns-6 c p tracks =
 add-t28 : tie.Need-add-t28
 add-t28 c =
     let room = c .before in
-    let checked = room .before .before .before .before .before .before .before .before .before in
-    let start = entry (checked .before .before .before .before) in
-    let a = start .args in
-    let few : a .state .count + checked .check-events .result .events ≤ a .sizes .«event_limit» =
+    let limit = inside room in
+    let events = looked (limit .before .before .before) in
+    let a = entry (numbered events) .args in
+    let few : a .state .count + events .check-events .result .events ≤ a .sizes .«event_limit» =
     omega (
       arith,
-      room .before .before .before .if5 .left,
-      ltb-false (a .sizes .«event_limit» - checked .check-events .result .events) (a .state .count) (room .if6 .left),
+      limit .if5 .left,
+      ltb-false (a .sizes .«event_limit» - events .check-events .result .events) (a .state .count) (room .if6 .left),
     ) in
-    record { fits = at-most few (room .before .before .before .before .struct-known2 .given .1 .0 .fits) }
+    record { fits = at-most few (limit .before .struct-known2 .given .1 .0 .fits) }
 
 same-length-3 : tie.Need-same-length-3
 same-length-3 c = search needs
@@ -192,23 +220,21 @@ same-length-3 c = search needs
 returns-7 : tie.Need-returns-7
 returns-7 c p tracks =
     let room = c .before in
-    let whole = room .before .before .before .before .before in
-    let checked = whole .before .before .before .before in
-    let looped = checked .before .before in
-    let numbered = looped .before .before in
-    let kept = numbered .before .before .before .before in
-    let crc-right = kept .before .before in
-    let framed = crc-right .before .before in
-    let a = entry numbered .args in
-    goes-on tracks _ _ _ (section-bytes framed) (framed .is-framed .ensures)
-    (not-false _ (crc-right .before .if1 .left)) (lent-tables framed)
-    (crc-right .has-right-crc .ensures) (not-false _ (kept .before .if2 .left)) (header-passes numbered)
-    (numbered .has-right-numbering .ensures) (not-false _ (looped .before .if3 .left)) (events-checked checked)
-    (not-false _ (whole .if4 .left))
+    let limit = inside room in
+    let whole = limit .before .before in
+    let events = looked (whole .before) in
+    let numbers = numbered events in
+    let header = headed (shown numbers) in
+    let crc = summed header in
+    let frame = framed crc in
+    let a = entry numbers .args in
+    goes-on tracks _ _ _ (section-bytes frame) (frame .is-framed .ensures) (frame-holds header) (lent-tables frame)
+    (crc .has-right-crc .ensures) (crc-holds header) (header-passes numbers) (numbers .has-right-numbering .ensures)
+    (numbers-hold events) (events-checked events) (not-false _ (whole .if4 .left))
     (omega (
       arith,
-      room .before .before .before .if5 .left,
-      ltb-false (a .sizes .«event_limit» - checked .check-events .result .events) (a .state .count) (room .if6 .left),
+      limit .if5 .left,
+      ltb-false (a .sizes .«event_limit» - events .check-events .result .events) (a .state .count) (room .if6 .left),
     ))
 
 pub check-section-spec : {M : Type 1} → statement M
