@@ -2,7 +2,7 @@
 // into document 01's numbers, and has the same equation as the call behind it.
 use eit::Identity;
 use eit::Triplet;
-use read_answer::CheckedFile;
+use read_answer::ReadResult;
 ghost use mathlib.Core.Path.{_≡_};
 ghost use mathlib.Core.List.{flatten};
 ghost use Rattle.eit.specs.Crc.{crc32};
@@ -119,7 +119,7 @@ pub extern "C" fn eit_plan<'a>(
 }
 
 // An answer of Read as numbers.
-fn reading_of(checked: CheckedFile) -> EitReading
+fn reading_of(checked: ReadResult) -> EitReading
     ensures { λ r. ⌜ answerOf r ≡ outcomeOf checked ⌝ }
 {
     let answer = checked.answer;

@@ -13,11 +13,11 @@ use Rattle.sections.specs.Read.{Answer, refusal, checkFile, fileRecords, read}
 use Rattle.sections.proofs.Read.{read-refused, read-short, read-succeeds}
 use Rattle.sections.proofs.Exact.{accepted-answer}
 use Rattle.read_answer.specs.Outcome.{answerNumber, answerCount, outcomeOf}
-use Rattle.read_answer.specs.declared.CheckedFile.{CheckedFile}
+use Rattle.read_answer.specs.declared.ReadResult.{ReadResult}
 use Rattle.read_answer.specs.declared.ReadAnswer.the-variants.{RecordsShort}
 use Rattle.read.specs.ReadOutcome.{readOutcome}
 
-module _ (base : ℕ) (file buffer : List ℕ) (checked : CheckedFile)
+module _ (base : ℕ) (file buffer : List ℕ) (checked : ReadResult)
     (is : checkFile broadcast base file ≡ outcomeOf checked) where
   number-is : checkFile broadcast base file .number ≡ answerNumber (checked .answer)
   number-is = ap (λ (a : Answer). a .number) is

@@ -3,7 +3,7 @@ use mathlib.Core.List.{List}
 use Prim.Native.Nat.{ℕ}
 use Rattle.sections.specs.Read.{Reading}
 use Rattle.read_answer.specs.Outcome.{outcomeOf}
-use Rattle.read_answer.specs.declared.CheckedFile.{CheckedFile}
+use Rattle.read_answer.specs.declared.ReadResult.{ReadResult}
 
-abbrev pub readOutcome : CheckedFile → List ℕ → Reading
+abbrev pub readOutcome : ReadResult → List ℕ → Reading
 readOutcome r buffer = record { answer = outcomeOf r; buffer = buffer }

@@ -1,8 +1,8 @@
 // Read (01, "Build, Read"): check looks at the whole file and writes nothing; then, if the buffer is long enough (27),
 // the records are filled in, which cannot fail.
 use list_records::records::RECORD_SIZE;
-use read_answer::CheckedFile;
 use read_answer::ReadAnswer;
+use read_answer::ReadResult;
 ghost use mathlib.Core.Path.{_≡_};
 ghost use Rattle.eit.specs.Sizes.{broadcast};
 ghost use Rattle.sections.specs.Read.{read};
@@ -11,7 +11,7 @@ ghost use Rattle.read.specs.ReadOutcome.{readOutcome};
 mod fill;
 
 // 01's Read: answer, identity, count and every number of the record buffer are those of the definition.
-pub fn read(file: &[u8], base_day: u32, records: &mut [u32]) -> CheckedFile
+pub fn read(file: &[u8], base_day: u32, records: &mut [u32]) -> ReadResult
     ensures { λ r. ⌜
         read broadcast «base_day» (now (file .entry)) (now (records .entry)) ≡ readOutcome r (now (records .exit)) ⌝ }
 {

@@ -1,7 +1,7 @@
 -- The paper's number and values for each case of Read's answer (01, "When a call says no"). Assumes nothing.
 use Prim.Native.Nat.{ℕ}
 use Rattle.sections.specs.Read.{Answer}
-use Rattle.read_answer.specs.declared.CheckedFile.{CheckedFile}
+use Rattle.read_answer.specs.declared.ReadResult.{ReadResult}
 use Rattle.read_answer.specs.declared.ReadAnswer.{ReadAnswer}
 use Rattle.read_answer.specs.declared.ReadAnswer.the-variants.{
   Done,
@@ -56,7 +56,7 @@ answerCount (EventLimit offset) = 0
 answerCount (RecordsShort events) = 0
 
 -- the answer as Read's definition has it
-abbrev pub outcomeOf : CheckedFile → Answer
+abbrev pub outcomeOf : ReadResult → Answer
 outcomeOf r =
     record {
       number = answerNumber (r .answer);

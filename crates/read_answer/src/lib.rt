@@ -27,17 +27,17 @@ pub enum ReadAnswer {
     RecordsShort(usize),
 }
 
-// An answer, and the identity of a file that is accepted; a refusal has identity 0.
-pub struct CheckedFile {
+// What check and Read return: the answer, and the identity of a file that is accepted; a refusal has identity 0.
+pub struct ReadResult {
     pub answer: ReadAnswer,
     pub identity: Identity,
 }
 
 // A refusal.
-pub fn refused(answer: ReadAnswer) -> CheckedFile
+pub fn refused(answer: ReadAnswer) -> ReadResult
     ensures { λ r. ⌜ r ≡ record { answer = answer; identity = zeroIdentity } ⌝ }
 {
-    CheckedFile {
+    ReadResult {
         answer,
         identity: eit::zero_identity(),
     }

@@ -137,15 +137,15 @@ module _ {offset : ℕ} {state : WalkState} {words : List ℕ} {p : Progress} (t
               ∙ ap (λ (g : Header). checkedEvents base g (state .least) words (splitBy statedEventSize (eventLoop bs)))
               (shown .1)
 
-          same-loop : check .«is_whole» ≡ isEventLoop base (p .seen) bs
-          same-loop = ap (λ (e : EventPass). e .isWhole) passes ∙ loop-checked base bs bytes (p .seen) (tracks .kept)
+          same-loop : check .«keeps_rules» ≡ isEventLoop base (p .seen) bs
+          same-loop = ap (λ (e : EventPass). e .keepsRules) passes ∙ loop-checked base bs bytes (p .seen) (tracks .kept)
 
-          pub refuses-24 : check .«is_whole» ≡ false → step sizes base p bs ≡ refused 24 offset
+          pub refuses-24 : check .«keeps_rules» ≡ false → step sizes base p bs ≡ refused 24 offset
           refuses-24 is =
               at-offset (step-24 sizes base p bs is-framed has-right-crc (shown .0) has-right-numbering
               (fails same-loop is))
 
-          module _ (whole : check .«is_whole» ≡ true) where
+          module _ (whole : check .«keeps_rules» ≡ true) where
             is-loop : T (isEventLoop base (p .seen) bs)
             is-loop = holds same-loop whole
 

@@ -19,7 +19,7 @@ use Rattle.read_events.proofs.EventsSoFarLaws.{so-far-start}
 use Rattle.read_answer.specs.Outcome.{answerNumber, answerValue, outcomeOf}
 use Rattle.read_check.specs.Tracks.{Tracks, SameVerdict}
 use Rattle.read_answer.specs.declared.ReadAnswer.{ReadAnswer}
-use Rattle.read_answer.specs.declared.CheckedFile.{CheckedFile}
+use Rattle.read_answer.specs.declared.ReadResult.{ReadResult}
 use Rattle.read_check.specs.declared.section.WalkState.{WalkState}
 use Rattle.read_check.specs.declared.section.SectionVerdict.{SectionVerdict}
 use Rattle.read_check.specs.declared.section.SectionVerdict.the-variants.{Passed, Refused}
@@ -112,7 +112,7 @@ module _ {sizes : Sizes} {base : ℕ} {file words : List ℕ} {state : WalkState
           inside = end-inside file offset ends here;
         }
 
-  pub walk-done : length file ≤ offset → base ≤ baseDayMax → (r : CheckedFile)
+  pub walk-done : length file ≤ offset → base ≤ baseDayMax → (r : ReadResult)
       → atEnd (length file) (passed (so-far .progress)) ≡ outcomeOf r → checkFile sizes base file ≡ outcomeOf r
   walk-done end legal r ended =
       check-legal sizes base file legal

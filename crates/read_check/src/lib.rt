@@ -6,8 +6,8 @@ use eit::Identity;
 use eit::Sizes;
 use eit::limits::BASE_DAY_MAX;
 use eit::limits::ID_WORDS;
-use read_answer::CheckedFile;
 use read_answer::ReadAnswer;
+use read_answer::ReadResult;
 use read_checks::header::HeaderBefore;
 ghost use mathlib.Core.Path.{_≡_};
 ghost use mathlib.Core.List.{List};
@@ -21,7 +21,7 @@ ghost use Rattle.read_check.specs.Tracks.{Tracks};
 mod section;
 
 // At the end of a file of `size` bytes: it ends after last_table_id, or early (25).
-fn at_end(state: WalkState, size: usize) -> CheckedFile
+fn at_end(state: WalkState, size: usize) -> ReadResult
     ensures { λ r. ⌜
         ((p : Progress) (offset : ℕ) (words : List ℕ) → Tracks offset state words p
         → atEnd size (passed p) ≡ outcomeOf r) ⌝ }
@@ -38,14 +38,14 @@ fn at_end(state: WalkState, size: usize) -> CheckedFile
         triplet,
         version: last.version,
     };
-    CheckedFile {
+    ReadResult {
         answer: ReadAnswer::Done(state.count),
         identity,
     }
 }
 
 // Check under any sizes: 1, then section after section, until one is refused or the file ends.
-fn check_within(file: &[u8], base_day: u32, sizes: Sizes) -> CheckedFile
+fn check_within(file: &[u8], base_day: u32, sizes: Sizes) -> ReadResult
     ensures { λ r. ⌜ checkFile sizes «base_day» (now (file .entry)) ≡ outcomeOf r ⌝ }
 {
     if BASE_DAY_MAX < base_day {
@@ -79,7 +79,7 @@ fn check_within(file: &[u8], base_day: u32, sizes: Sizes) -> CheckedFile
 }
 
 // Answer, identity and number of events are those of the definition. It never says 27.
-pub fn check(file: &[u8], base_day: u32) -> CheckedFile
+pub fn check(file: &[u8], base_day: u32) -> ReadResult
     ensures { λ r. ⌜ checkFile broadcast «base_day» (now (file .entry)) ≡ outcomeOf r ⌝ }
 {
     check_within(file, base_day, Sizes::BROADCAST)

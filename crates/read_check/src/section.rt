@@ -61,7 +61,7 @@ pub fn check_section(
         state.least,
         seen,
     );
-    if !checked.is_whole {
+    if !checked.keeps_rules {
         return SectionVerdict::Refused(ReadAnswer::EventLoop(offset));
     }
     let found = checked.events;

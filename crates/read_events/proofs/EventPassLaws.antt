@@ -28,7 +28,7 @@ use Rattle.read_events.proofs.EventWalkLaws.{whole-record, whole-inside
 
 module _ (base : ℕ) (h : Header) (n least : ℕ) (words : List ℕ) where
   pub take-none : takeEvents base h n least words []
-      ≡ record { isWhole = true; events = n; least = least; words = words }
+      ≡ record { keepsRules = true; events = n; least = least; words = words }
   unfolding takeEvents
   take-none = refl
 
@@ -41,7 +41,7 @@ module _ (base : ℕ) (h : Header) (n least : ℕ) (words : List ℕ) where
 
     pub take-stops : isTaken base h least words bs ≡ false
         → takeEvents base h n least words (bs ∷ rest)
-        ≡ record { isWhole = false; events = n; least = least; words = words }
+        ≡ record { keepsRules = false; events = n; least = least; words = words }
     unfolding takeEvents
     take-stops left = rw (takeEvents, left)
 
@@ -69,15 +69,15 @@ module _ {base : ℕ} {h : Header} {events : List ℕ} {least : ℕ} {words₀ w
 
   -- the loop breaks: all pieces are looked at for S = G = s0, but a test has failed
   stops : takeEvents base h n next words (splitBy statedEventSize rest)
-      ≡ record { isWhole = false; events = n; least = next; words = words }
+      ≡ record { keepsRules = false; events = n; least = next; words = words }
       → checkedEvents base h least words₀ (splitBy statedEventSize events)
-      ≡ record { isWhole = false; events = n; least = next; words = words }
+      ≡ record { keepsRules = false; events = n; least = next; words = words }
   stops stopped =
       let is : takeEvents base h 0 least words₀ (splitBy statedEventSize events)
-      ≡ record { isWhole = false; events = n; least = next; words = words } =
+      ≡ record { keepsRules = false; events = n; least = next; words = words } =
       so-far .pass ∙ stopped in
       ap (λ (p : EventPass). record {
-        isWhole = p .isWhole && isFilledOrAlone h (splitBy statedEventSize events);
+        keepsRules = p .keepsRules && isFilledOrAlone h (splitBy statedEventSize events);
         events = p .events;
         least = p .least;
         words = p .words;
@@ -89,7 +89,7 @@ module _ {base : ℕ} {h : Header} {events : List ℕ} {least : ℕ} {words₀ w
 
     pub pass-broken : eventRead base rest ≡ Broken
         → checkedEvents base h least words₀ (splitBy statedEventSize events)
-        ≡ record { isWhole = false; events = n; least = next; words = words }
+        ≡ record { keepsRules = false; events = n; least = next; words = words }
     pass-broken broken =
         let no-event : isEvent base h (frontEvent rest) ≡ false =
         event-whole base h (frontEvent rest) ∙ rw (broken-only base rest broken) in
@@ -110,7 +110,7 @@ module _ {base : ℕ} {h : Header} {events : List ℕ} {least : ℕ} {words₀ w
 
       pub pass-stop : (isInSegment h (r .start) && (leb next (r .start) && not (isSeen words (r .id)))) ≡ false
           → checkedEvents base h least words₀ (splitBy statedEventSize events)
-          ≡ record { isWhole = false; events = n; least = next; words = words }
+          ≡ record { keepsRules = false; events = n; least = next; words = words }
       pass-stop fails =
           stops
           (ap (takeEvents base h n next words) (whole-next base rest read)
@@ -148,7 +148,7 @@ module _ {base : ℕ} {h : Header} {events : List ℕ} {least : ℕ} {words₀ w
   -- at the end of the loop
   module _ (end : length events ≤ at) where
     ends : takeEvents base h 0 least words₀ (splitBy statedEventSize events)
-        ≡ record { isWhole = true; events = n; least = next; words = words }
+        ≡ record { keepsRules = true; events = n; least = next; words = words }
     ends = so-far .pass
         ∙ ap (λ (bs : List ℕ). takeEvents base h n next words (splitBy statedEventSize bs))
         (drop-of-length-le events end)
@@ -156,15 +156,15 @@ module _ {base : ℕ} {h : Header} {events : List ℕ} {least : ℕ} {words₀ w
 
     pub pass-end : {b : Bool} → isFilledOrAlone h (splitBy statedEventSize events) ≡ b
         → checkedEvents base h least words₀ (splitBy statedEventSize events)
-        ≡ record { isWhole = b; events = n; least = next; words = words }
+        ≡ record { keepsRules = b; events = n; least = next; words = words }
     pass-end {b} filled =
         ap (λ (p : EventPass). record {
-          isWhole = p .isWhole && isFilledOrAlone h (splitBy statedEventSize events);
+          keepsRules = p .keepsRules && isFilledOrAlone h (splitBy statedEventSize events);
           events = p .events;
           least = p .least;
           words = p .words;
         }) ends
-        ∙ ap (λ (whole : Bool). record { isWhole = whole; events = n; least = next; words = words }) filled
+        ∙ ap (λ (whole : Bool). record { keepsRules = whole; events = n; least = next; words = words }) filled
 
     pub filled-some : 0 < n → isFilledOrAlone h (splitBy statedEventSize events) ≡ true
     filled-some some =

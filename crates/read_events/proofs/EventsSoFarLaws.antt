@@ -65,7 +65,7 @@ module _ (base : ℕ) (h : Header) where
 
   take-forth : (n : ℕ) {least : ℕ} {words : List ℕ} (pieces : List (List ℕ)) (seen : List Event)
       → Bytes (flatten pieces)
-      → EventsSoFar least words seen → T (takeEvents base h n least words pieces .isWhole)
+      → EventsSoFar least words seen → T (takeEvents base h n least words pieces .keepsRules)
       → Taken n pieces seen (takeEvents base h n least words pieces)
   unfolding flatten
   take-forth n {least} {words} [] seen bytes kept whole =
@@ -82,7 +82,7 @@ module _ (base : ℕ) (h : Header) where
       let new : T (isNew seen e) = subst T (so-far-new e id seen kept) (and-right (isEvent base h bs) _ taken) in
       let others =
       take-forth (n + 1) rest (e ∷ seen) behind (so-far-more e id kept)
-      (subst (λ (p : EventPass). T (p .isWhole)) goes-on whole) in
+      (subst (λ (p : EventPass). T (p .keepsRules)) goes-on whole) in
       subst (Taken n (bs ∷ rest) seen) (sym goes-on)
       (record {
         are = and-both (isEvent base h bs) (areEvents base h rest) event (others .are);
@@ -91,13 +91,13 @@ module _ (base : ℕ) (h : Header) where
         kept = subst (EventsSoFar _ _) (latest-first e (map (eventIn base) rest) seen) (others .kept);
       }))
       (λ (left : T (not (isTaken base h least words bs))).
-      absurd (subst (λ (p : EventPass). T (p .isWhole)) (take-stops base h n least words bs rest (false-is _ left))
+      absurd (subst (λ (p : EventPass). T (p .keepsRules)) (take-stops base h n least words bs rest (false-is _ left))
       whole))
       (test-or (isTaken base h least words bs))
 
   take-back : (n : ℕ) {least : ℕ} {words : List ℕ} (pieces : List (List ℕ)) (seen : List Event) → Bytes (flatten pieces)
       → EventsSoFar least words seen → T (areEvents base h pieces) → T (areNew seen (map (eventIn base) pieces))
-      → T (takeEvents base h n least words pieces .isWhole)
+      → T (takeEvents base h n least words pieces .keepsRules)
   unfolding flatten
   take-back n {least} {words} [] seen bytes kept are new = rw (take-none base h n least words) tt
   take-back n {least} {words} (bs ∷ rest) seen bytes kept are new =
@@ -130,25 +130,25 @@ module _ (base : ℕ) (bs : List ℕ) (bytes : Bytes bs) {least : ℕ} {words : 
   abbrev pass : EventPass
   pass = checkedEvents base (headerIn bs) least words loop
 
-  pub loop-checked : pass .isWhole ≡ isEventLoop base seen bs
+  pub loop-checked : pass .keepsRules ≡ isEventLoop base seen bs
   unfolding isEventLoop splitEvents
   loop-checked =
-      both-ways (pass .isWhole) (isEventLoop base seen bs)
+      both-ways (pass .keepsRules) (isEventLoop base seen bs)
       (λ whole.
-      let taken = take-forth base (headerIn bs) 0 loop seen loop-bytes kept (and-left (taking .isWhole) _ whole) in
+      let taken = take-forth base (headerIn bs) 0 loop seen loop-bytes kept (and-left (taking .keepsRules) _ whole) in
       and-both (areEvents base (headerIn bs) loop) _ (taken .are)
-      (and-both (isFilledOrAlone (headerIn bs) loop) _ (and-right (taking .isWhole) _ whole) (taken .new)))
+      (and-both (isFilledOrAlone (headerIn bs) loop) _ (and-right (taking .keepsRules) _ whole) (taken .new)))
       (λ holds.
       let rest = and-right (areEvents base (headerIn bs) loop) _ holds in
-      and-both (taking .isWhole) (isFilledOrAlone (headerIn bs) loop)
+      and-both (taking .keepsRules) (isFilledOrAlone (headerIn bs) loop)
       (take-back base (headerIn bs) 0 loop seen loop-bytes kept (and-left (areEvents base (headerIn bs) loop) _ holds)
       (and-right (isFilledOrAlone (headerIn bs) loop) _ rest))
       (and-left (isFilledOrAlone (headerIn bs) loop) _ rest))
 
-  pub loop-so-far : T (pass .isWhole)
+  pub loop-so-far : T (pass .keepsRules)
       → (pass .events ≡ length (splitEvents bs))
       × EventsSoFar (pass .least) (pass .words) (reverse (map (eventIn base) (splitEvents bs)) ++ seen)
   unfolding splitEvents
   loop-so-far whole =
-      let taken = take-forth base (headerIn bs) 0 loop seen loop-bytes kept (and-left (taking .isWhole) _ whole) in
+      let taken = take-forth base (headerIn bs) 0 loop seen loop-bytes kept (and-left (taking .keepsRules) _ whole) in
       (omega (arith, taken .events), taken .kept)

@@ -14,7 +14,7 @@ use Rattle.read_events.specs.declared.EventCheck.{EventCheck}
 
 -- what a pass returns, and the set of ids after it
 pub record EventPass : Type 0 where
-  pub isWhole : Bool
+  pub keepsRules : Bool
   pub events : ℕ
   pub least : ℕ
   pub words : List ℕ
@@ -26,11 +26,11 @@ isTaken base h least words bs =
 
 -- the pass over the pieces of an event loop, with n events behind it; it ends at the first that is not taken
 unfoldable pub takeEvents : ℕ → Header → ℕ → ℕ → List ℕ → List (List ℕ) → EventPass
-takeEvents base h n least words [] = record { isWhole = true; events = n; least = least; words = words }
+takeEvents base h n least words [] = record { keepsRules = true; events = n; least = least; words = words }
 takeEvents base h n least words (bs ∷ rest) =
     elim (isTaken base h least words bs) [
       | true ↦ takeEvents base h (n + 1) (leastBehind (eventIn base bs)) (withSeen words (eventIn base bs .id)) rest
-      | false ↦ record { isWhole = false; events = n; least = least; words = words }
+      | false ↦ record { keepsRules = false; events = n; least = least; words = words }
     ]
 
 -- 24: the pass over all pieces, and a section without events is alone in its segment
@@ -38,7 +38,7 @@ abbrev pub checkedEvents : ℕ → Header → ℕ → List ℕ → List (List �
 checkedEvents base h least words pieces =
     let pass = takeEvents base h 0 least words pieces in
     record {
-      isWhole = pass .isWhole && isFilledOrAlone h pieces;
+      keepsRules = pass .keepsRules && isFilledOrAlone h pieces;
       events = pass .events;
       least = pass .least;
       words = pass .words;
@@ -46,4 +46,4 @@ checkedEvents base h least words pieces =
 
 -- what the code returns, and the set of ids after it
 abbrev pub passOf : EventCheck → List ℕ → EventPass
-passOf r words = record { isWhole = r .«is_whole»; events = r .events; least = r .least; words = words }
+passOf r words = record { keepsRules = r .«keeps_rules»; events = r .events; least = r .least; words = words }

@@ -19,7 +19,8 @@ ghost use Rattle.read_events.specs.EventPass.{checkedEvents, passOf};
 
 // What the check of an event loop has found.
 pub struct EventCheck {
-    pub is_whole: bool,
+    // Whether 24 passes.
+    pub keeps_rules: bool,
     // Events that passed.
     pub events: usize,
     // The least start that the next event may have.
@@ -70,14 +71,14 @@ pub fn check_events(
     while at < events.len() {
         let EventRead::Whole(event) = event::read_event(&events[at..], base_day) else {
             return EventCheck {
-                is_whole: false,
+                keeps_rules: false,
                 events: n,
                 least: next,
             };
         };
         if !is_in_segment(header, event.start) || !is_new(event, next, seen) {
             return EventCheck {
-                is_whole: false,
+                keeps_rules: false,
                 events: n,
                 least: next,
             };
@@ -88,7 +89,7 @@ pub fn check_events(
         at += EVENT_OVERHEAD + event.chain_length as usize;
     }
     EventCheck {
-        is_whole: 0 < n || is_alone(header),
+        keeps_rules: 0 < n || is_alone(header),
         events: n,
         least: next,
     }

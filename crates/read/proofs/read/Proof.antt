@@ -2,7 +2,7 @@
 use mathlib.Core.Path.{sym, ap, _∙_}
 use denote.Ref.{now}
 use Rattle.eit.proofs.Fields.{bytes-all}
-use Rattle.read_answer.specs.declared.CheckedFile.{CheckedFile}
+use Rattle.read_answer.specs.declared.ReadResult.{ReadResult}
 use Rattle.read.specs.ReadOutcome.{readOutcome}
 use Rattle.read.proofs.FillableLaws.{accepted-fills, accepted-below}
 use Rattle.read.proofs.AnswerLaws.{read-stops, accepted, read-27, records-fit, read-fills}
@@ -35,7 +35,7 @@ returns-2 c =
     read-27 _ _ _ (checked .check .result) (checked .check .ensures) (numbered .number-of .ensures)
     (counted .before .if1 .left)
     (counted .count-of .ensures) (c .before .if2 .taken)
-    ∙ sym (ap (λ (r : CheckedFile). readOutcome r (now (checked .before .before .before .args .records)))
+    ∙ sym (ap (λ (r : ReadResult). readOutcome r (now (checked .before .before .before .args .records)))
     (c .refused .ensures))
 
 fill-file-requires : tie.Need-fill-file-requires
