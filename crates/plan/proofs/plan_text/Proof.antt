@@ -5,6 +5,10 @@ use Rattle.plan.proofs.PlanLaws.{plan-whole}
 use Rattle.plan.proofs.plan_text.Statement.{statement}
 use Rattle.plan.proofs.plan_text.Tie as tie
 
+-- the call, before what `write_within` is given
+abbrev call : tie.After-write-within-arg → tie.Start
+call c = c .before .before .before .before .before
+
 slice-aggregate-write-within : tie.Need-slice-aggregate-write-within
 slice-aggregate-write-within c = search needs
 
@@ -20,7 +24,7 @@ same-length c = search needs
 returns : tie.Need-returns
 returns c =
     let written = c .before .before .before .before in
-    let start = written .before .before .before .before .before .before in
+    let start = call (written .before) in
     plan-whole (now (start .args .text)) (now (start .args .script)) (start .pre) (written .write-within .ensures)
 
 pub plan-text-spec : {M : Type 1} → statement M

@@ -32,6 +32,16 @@ module _ (buffer part : List ℕ) (n : ℕ) (inside : n ≤ length buffer)
   more-held : (more : ℕ) → more ≤ length (take (length next - n) (drop n next)) → n + more ≤ length next
   more-held more counts = omega (arith, kept, length-take (length next - n) (drop n next), length-drop n next)
 
+-- back from the count to the read that succeeded, to the read, and to the turn's beginning
+abbrev succeeded : tie.After-count Inv-loop μ-loop → tie.Else1 Inv-loop μ-loop
+succeeded c = c .before .before .before
+
+abbrev read : tie.Else1 Inv-loop μ-loop → tie.After-read Inv-loop μ-loop
+read c = c .before .before .before
+
+abbrev turn : tie.After-read Inv-loop μ-loop → tie.At-loop Inv-loop μ-loop
+turn c = c .before .before .before
+
 loop-holds : tie.Need-loop-holds Inv-loop μ-loop
 loop-holds c = (omega arith, refl)
 
@@ -70,9 +80,9 @@ same-length-2 c = search needs
 
 returns-2 : tie.Need-returns-2 Inv-loop μ-loop
 returns-2 c =
-    let reads = c .before .before .before .before .before .before .before in
-    let turn = reads .before .before .before .loop in
-    held (turn .buffer) (reads .read .last .1 .0) (turn .n) (turn .inv .0) (reads .read .kept .1 .0)
+    let reads = read (succeeded (c .before)) in
+    let here = turn reads .loop in
+    held (here .buffer) (reads .read .last .1 .0) (here .n) (here .inv .0) (reads .read .kept .1 .0)
 
 add-n : tie.Need-add-n Inv-loop μ-loop
 add-n c = search needs
@@ -82,13 +92,13 @@ loop-less c = search needs
 
 loop-again : tie.Need-loop-again Inv-loop μ-loop
 loop-again c =
-    let reads = c .before .before .before .before .before .before .before in
-    let turn = reads .before .before .before .loop in
+    let reads = read (succeeded (c .before)) in
+    let here = turn reads .loop in
     let part = reads .read .last .1 .0 in
     let same = reads .read .kept .1 .0 in (
-      more-held (turn .buffer) part (turn .n) (turn .inv .0) same (c .before .count .result)
+      more-held (here .buffer) part (here .n) (here .inv .0) same (c .before .count .result)
           (c .before .count .ensures .0 .0),
-      kept (turn .buffer) part (turn .n) (turn .inv .0) same ∙ turn .inv .1,
+      kept (here .buffer) part (here .n) (here .inv .0) same ∙ here .inv .1,
     )
 
 same-length-3 : tie.Need-same-length-3 Inv-loop μ-loop

@@ -12,6 +12,10 @@ use Rattle.read_checks.proofs.FrameLaws.{framed-truncated, framed-short
 use Rattle.read_checks.proofs.frame.is_framed.Statement.{statement}
 use Rattle.read_checks.proofs.frame.is_framed.Tie as tie
 
+-- back from the test of the size's range to the size that the bytes state
+abbrev stated : tie.After-struct-known → tie.After-stated-size
+stated c = c .before .before .before
+
 stated-size-requires : tie.Need-stated-size-requires
 stated-size-requires c κs = search needs
 
@@ -25,10 +29,10 @@ cast-if3 c = search needs
 
 returns-2 : tie.Need-returns-2
 returns-2 c =
-    let stated = c .before .before in
-    let a = stated .before .before .args in
+    let sized = c .before .before in
+    let a = sized .before .before .args in
     let bs = now (a .section) in
-    let states = stated .stated-size .ensures in
+    let states = sized .stated-size .ensures in
     let whole = c .before .if1 .left in
     sym
     (⊎-elim
@@ -44,17 +48,17 @@ is-table-requires c κs = search needs
 
 returns-3 : tie.Need-returns-3
 returns-3 c =
-    let stated = c .before .before .before .before .before .before in
-    let a = stated .before .before .args in
+    let enough = c .before .before .before in
+    let sized = stated enough in
+    let a = sized .before .before .args in
     let bs = now (a .section) in
-    let bytes = bytes-all bs (λ k. stated .before .shared-slice-known .given k .fits) in
+    let bytes = bytes-all bs (λ k. sized .before .shared-slice-known .given k .fits) in
     let table = c .before .read-field .ensures ∙ field-exact bs 0 1 bytes (omega arith) in
-    let whole = c .before .before .before .before .before .if1 .left in
-    let enough = c .before .before .before .before .if2 .left in
     let fits = ltb-false _ _ (c .before .before .if3 .left) in
     c .is-table .ensures
     ∙ ap isTable table
-    ∙ sym (framed-table (a .sizes) bs (stated .stated-size .ensures) whole enough fits)
+    ∙ sym (framed-table (a .sizes) bs (sized .stated-size .ensures) (enough .before .before .if1 .left)
+    (enough .before .if2 .left) fits)
 
 pub is-framed-spec : {M : Type 1} → statement M
 is-framed-spec =

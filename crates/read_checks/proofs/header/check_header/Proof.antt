@@ -16,6 +16,16 @@ use Rattle.read_checks.proofs.HeaderCheckLaws.{header-passes}
 use Rattle.read_checks.proofs.header.check_header.Statement.{statement}
 use Rattle.read_checks.proofs.header.check_header.Tie as tie
 
+-- back from the table's test to the fixed bits', to the header shown, and to the call
+abbrev fixed : tie.Else2 → tie.Else1
+fixed c = c .before .before .before
+
+abbrev shown : tie.Else1 → tie.After-shown
+shown c = c .before .before .before
+
+abbrev start : tie.After-shown → tie.Start
+start c = c .before .before .before .before
+
 read-header-requires : tie.Need-read-header-requires
 read-header-requires c κs = search needs
 
@@ -45,23 +55,23 @@ is-table-requires c κs = search needs
 
 -- the header that was read is the one that the bytes show
 shown-is : (c : tie.After-shown)
-    → heldHeader (c .shown .given .0 .0) ≡ headerIn (now (c .before .before .before .before .args .section))
+    → heldHeader (c .shown .given .0 .0) ≡ headerIn (now (start c .args .section))
 shown-is c =
     let read = c .before .before in
-    header-only (now (read .before .before .args .section))
+    header-only (now (start c .args .section))
     (ap headerOrNone (sym (c .shown .given .1)) ∙ read .read-header .ensures) .1
 
 returns-2 : tie.Need-returns-2
 returns-2 c =
-    let shown = c .before .before .before in
-    let a = shown .before .before .before .before .args in
+    let header = c .before .before .before in
+    let a = start header .args in
     let bs = now (a .section) in
     let bits = sym (c .before .has-fixed-bits .ensures) in
     sym
     (⊎-elim
     (λ w. header-unfixed (headerBefore (a .before)) bs (bits ∙ not-true _ (w .taken)))
     (λ w.
-    header-no-table (headerBefore (a .before)) bs (bits ∙ not-false _ (w .0 .left)) (shown-is shown)
+    header-no-table (headerBefore (a .before)) bs (bits ∙ not-false _ (w .0 .left)) (shown-is header)
     (sym (w .2 .ensures) ∙ not-true _ (w .3 .taken)))
     (c .if1 .came))
 
@@ -69,33 +79,29 @@ is-same-file-requires : tie.Need-is-same-file-requires
 is-same-file-requires c κs = search needs
 
 -- behind both tests
-fixed-is : (c : tie.Else1)
-    → hasFixedBits (now (c .before .before .before .before .before .before .before .args .section)) ≡ true
+fixed-is : (c : tie.Else1) → hasFixedBits (now (start (shown c) .args .section)) ≡ true
 fixed-is c = sym (c .before .has-fixed-bits .ensures) ∙ not-false _ (c .if1 .left)
 
-table-is : (c : tie.Else2)
-    → isTable (c .before .before .before .before .before .before .shown .given .0 .0 .«last_table_id») ≡ true
+table-is : (c : tie.Else2) → isTable (shown (fixed c) .shown .given .0 .0 .«last_table_id») ≡ true
 table-is c = sym (c .before .is-table .ensures) ∙ not-false _ (c .if2 .left)
 
 returns-3 : tie.Need-returns-3
 returns-3 c =
     let tabled = c .before .before in
-    let fixed = tabled .before .before .before in
-    let shown = fixed .before .before .before in
-    let a = shown .before .before .before .before .args in
+    let bits = fixed tabled in
+    let a = start (shown bits) .args in
     let other = sym (c .before .is-same-file .ensures) ∙ not-true _ (c .if3 .taken) in
-    sym (header-other (headerBefore (a .before)) (now (a .section)) (fixed-is fixed) (shown-is shown) (table-is tabled)
-    other)
+    sym (header-other (headerBefore (a .before)) (now (a .section)) (fixed-is bits) (shown-is (shown bits))
+    (table-is tabled) other)
 
 returns-4 : tie.Need-returns-4
 returns-4 c =
     let tabled = c .before .before in
-    let fixed = tabled .before .before .before in
-    let shown = fixed .before .before .before in
-    let a = shown .before .before .before .before .args in
+    let bits = fixed tabled in
+    let a = start (shown bits) .args in
     let same = sym (c .before .is-same-file .ensures) ∙ not-false _ (c .if3 .left) in
-    sym (header-passes (headerBefore (a .before)) (now (a .section)) (fixed-is fixed) (shown-is shown) (table-is tabled)
-    same)
+    sym (header-passes (headerBefore (a .before)) (now (a .section)) (fixed-is bits) (shown-is (shown bits))
+    (table-is tabled) same)
 
 pub check-header-spec : {M : Type 1} → statement M
 check-header-spec =

@@ -9,6 +9,10 @@ use Rattle.build_answer.proofs.Inside.{built-inside}
 use Rattle.samples_report.proofs.show.build_list.Statement.{statement}
 use Rattle.samples_report.proofs.show.build_list.Tie as tie
 
+-- the call, before what Build is given
+abbrev call : tie.After-build-arg → tie.Start
+call c = c .before .before .before .before .before
+
 build-requires : tie.Need-build-requires
 build-requires c κs = search needs
 
@@ -24,7 +28,7 @@ same-length c = search needs
 returns : tie.Need-returns
 returns c success =
     let builds = c .before .before .before .before in
-    let a = builds .before .before .before .before .before .before .args in
+    let a = call (builds .before) .args in
     omega (
       arith,
       builds .build .kept,

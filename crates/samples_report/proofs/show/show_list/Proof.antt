@@ -5,6 +5,10 @@ use lib.Seq.{length-take-le}
 use Rattle.samples_report.proofs.show.show_list.Statement.{statement}
 use Rattle.samples_report.proofs.show.show_list.Tie as tie
 
+-- back from the plan's lines to the file that was built
+abbrev built : tie.After-struct-known → tie.After-build-list
+built c = c .before .before .before .before .before
+
 identity-requires : tie.Need-identity-requires
 identity-requires c κs = search needs
 
@@ -24,7 +28,7 @@ show-plan-requires : tie.Need-show-plan-requires
 show-plan-requires c κs = search needs
 
 array-share-prefix-file : tie.Need-array-share-prefix-file
-array-share-prefix-file c = c .before .before .before .before .before .before .build-list .ensures (c .if1 .taken)
+array-share-prefix-file c = built (c .before) .build-list .ensures (c .if1 .taken)
 
 slice-aggregate-show-file : tie.Need-slice-aggregate-show-file
 slice-aggregate-show-file c = sym (length-take-le _ _ (array-share-prefix-file (c .before)))
