@@ -12,8 +12,8 @@ const FIRST_SEED: u64 = 300_468;
 
 const ANSWERS: [u32; 9] = [0, 3, 4, 5, 6, 7, 8, 9, 12];
 
-/// What stands beside the buffer: a number that is nowhere in range, or zeros, which a list that is read too far takes for
-/// good.
+/// What stands beside the buffer: a number that is nowhere in range, or zeros, which a list that is read too far takes
+/// for good.
 const GUARDS: [u32; 2] = [0xA5A5_A5A5, 0];
 
 /// Edit as both implementations have it: list, count, day, series, script.

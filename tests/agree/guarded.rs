@@ -1,4 +1,5 @@
-//! A lent buffer between two guard zones. Two are compared whole, zones included, so that a write beside the buffer shows.
+//! A lent buffer between two guard zones. Two are compared whole, zones included, so that a write beside the buffer
+//! shows.
 
 const ZONE: usize = 64;
 

@@ -159,7 +159,8 @@ impl Held {
         commands
     }
 
-    /// Edits that are carried out, after which the list has two events or more and is full or not. The limit is 3 or more.
+    /// Edits that are carried out, after which the list has two events or more and is full or not. The limit is 3 or
+    /// more.
     pub fn ready(&mut self, random: &mut Random, pools: &Pools, full: bool) -> Vec<Command> {
         let mut commands = Vec::new();
         while self.count() < 2 || full && !self.is_full() {

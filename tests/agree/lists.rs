@@ -33,8 +33,8 @@ pub struct List {
 }
 
 impl List {
-    /// A sound list of `count` events in a buffer of so many numbers, which are at least 6 × count. Behind the list are zeros,
-    /// numbers of any kind, or its own records again.
+    /// A sound list of `count` events in a buffer of so many numbers, which are at least 6 × count. Behind the list are
+    /// zeros, numbers of any kind, or its own records again.
     pub fn sound(random: &mut Random, pools: &Pools, count: usize, numbers: usize) -> List {
         let mut list = List { numbers: Vec::with_capacity(numbers), count };
         let crowded = random.one_in(2);

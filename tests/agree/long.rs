@@ -17,7 +17,8 @@ pub fn run(comparison: &mut Comparison) -> Result<(), String> {
     let random = &mut comparison.groups.begin("long");
     let pools = Pools::of_lengths(random, 300, 200);
     for number in 3..=9 {
-        // From 64 KB to 2 MB, so that each bit of the offset from 16 to 20 counts; and 8 MB, which the library takes in halves.
+        // From 64 KB to 2 MB, so that each bit of the offset from 16 to 20 counts; and 8 MB, which the library takes in
+        // halves.
         for bit in [16, 17, 18, 19, 20].repeat(4) {
             let length = (1 << bit) + random.below(1 << bit);
             refused(comparison, random, &pools, number, length)?;

@@ -26,7 +26,8 @@ impl Pool {
         stock.pool()
     }
 
-    /// The same pool with one descriptor's length byte one off, which leaves no chain up to the end if it is the last one's.
+    /// The same pool with one descriptor's length byte one off, which leaves no chain up to the end if it is the last
+    /// one's.
     pub fn with_length_off(&self, descriptor: usize) -> Pool {
         let mut bytes = self.bytes().to_vec();
         let length = &mut bytes[self.cuts[descriptor] + 1];
@@ -85,8 +86,8 @@ impl Pool {
         parts
     }
 
-    /// A chain with a bit above the pool's end put into its offset, and into its length, whose highest bit is given. With that
-    /// bit lost it would be a chain.
+    /// A chain with a bit above the pool's end put into its offset, and into its length, whose highest bit is given.
+    /// With that bit lost it would be a chain.
     pub fn beyond_by_a_bit(&self, random: &mut Random, length_bit: usize) -> Vec<[u32; 2]> {
         let [offset, length] = self.chain(random);
         let lowest = self.bytes().len().checked_ilog2().map_or(0, |bit| bit as usize + 1);

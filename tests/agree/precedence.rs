@@ -69,8 +69,8 @@ impl Ready {
         Ready { list, before, held }
     }
 
-    /// The edit, which breaks these rules, is refused by the first of them; and a broken form, an UNDO with nothing to strike
-    /// and an unsound list come before it.
+    /// The edit, which breaks these rules, is refused by the first of them; and a broken form, an UNDO with nothing to
+    /// strike and an unsound list come before it.
     fn refuse(
         &self,
         comparison: &mut Comparison,

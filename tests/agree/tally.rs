@@ -2,7 +2,8 @@
 
 use std::collections::BTreeMap;
 
-/// Two refusals that one input asks for, by the command that breaks both rules or by the whole call: the first one comes.
+/// Two refusals that one input asks for, by the command that breaks both rules or by the whole call: the first one
+/// comes.
 pub type Precedence = (&'static str, u32, u32);
 
 pub struct Tally {

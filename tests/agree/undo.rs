@@ -54,7 +54,8 @@ fn answer_of_puts(commands: &[Command]) -> (u32, usize) {
     (0, unstruck)
 }
 
-/// So many edits, of which the first fits and most others would be refused: struck all but the first, all, and one UNDO more.
+/// So many edits, of which the first fits and most others would be refused: struck all but the first, all, and one UNDO
+/// more.
 fn deep(comparison: &mut Comparison, random: &mut Random, pools: &Pools, edits: usize) -> Result<(), String> {
     let list = List::sound(random, pools, 2, 6 * 4);
     let mut held = Held::by(&list);

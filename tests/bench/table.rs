@@ -4,8 +4,8 @@ use std::time::{Duration, Instant};
 
 pub const KB: usize = 1 << 10;
 
-/// How long one measurement goes on, unless fewer than the least calls are done by then, or the most are earlier. A call
-/// that takes longer is not repeated.
+/// How long one measurement goes on, unless fewer than the least calls are done by then, or the most are earlier. A
+/// call that takes longer is not repeated.
 const BUDGET: Duration = Duration::from_millis(200);
 const CALLS_MIN: usize = 5;
 const CALLS_MAX: usize = 1_000;

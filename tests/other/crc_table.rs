@@ -1,5 +1,5 @@
-//! CRC_32 with one table, a byte a step. It is what Build uses, and what the library is timed beside: bit by bit is no measure
-//! of speed.
+//! CRC_32 with one table, a byte a step. It is what Build uses, and what the library is timed beside: bit by bit is no
+//! measure of speed.
 
 const POLYNOMIAL: u32 = 0x04C1_1DB7;
 

@@ -1,5 +1,5 @@
-//! Another implementation of document 01, written from the paper alone and in a shape of its own. The library's answers are
-//! compared with it.
+//! Another implementation of document 01, written from the paper alone and in a shape of its own. The library's answers
+//! are compared with it.
 
 mod build;
 mod crc;

@@ -1,5 +1,5 @@
-//! The rules that a section of a file keeps, each with the number of its refusal, in the order in which they are checked: 01,
-//! "The file of sections" and "When a call says no".
+//! The rules that a section of a file keeps, each with the number of its refusal, in the order in which they are
+//! checked: 01, "The file of sections" and "When a call says no".
 
 use super::crc_table::crc32_by_table;
 use super::list::{is_chain, EVENTS_MAX};

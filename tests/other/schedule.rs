@@ -1,4 +1,5 @@
-//! A list's events by segment, the range of each table, and the packing rule: 01, "The file of sections" and "Build, Read".
+//! A list's events by segment, the range of each table, and the packing rule: 01, "The file of sections" and "Build,
+//! Read".
 
 use super::list::{Event, List, Pools};
 use std::collections::BTreeMap;

@@ -51,7 +51,8 @@ impl Comparison {
         }
     }
 
-    /// Both implementations answer alike, leave the whole output alike, and plan alike. Returns the answer and the output.
+    /// Both implementations answer alike, leave the whole output alike, and plan alike. Returns the answer and the
+    /// output.
     pub fn alike(&mut self, pools: &Pools, list: &List, request: Request) -> Result<(Built, Vec<u8>), String> {
         let guard = self.guards.byte();
         let lent_list = Guarded::new(&list.numbers, u32::from(guard));
@@ -158,8 +159,8 @@ pub fn lent<'a>(pools: &'a Pools, list: &List, numbers: &'a [u32]) -> Lent<'a> {
     Lent { list: numbers, count: list.count, day: pools.day.bytes(), series: pools.series.bytes() }
 }
 
-/// The bytes of the file: by its sections, which are planned, and its events. Of an unsound list, or one with an unpackable
-/// segment, it is a length like any other.
+/// The bytes of the file: by its sections, which are planned, and its events. Of an unsound list, or one with an
+/// unpackable segment, it is a length like any other.
 pub fn need(pools: &Pools, list: &List) -> usize {
     let plan = other::plan(&lent(pools, list, &list.numbers));
     if plan[0] == 254 {

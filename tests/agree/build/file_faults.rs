@@ -1,4 +1,5 @@
-//! Faults of Build's file: the other implementation with a fault stands in for the library, and the comparison must show it.
+//! Faults of Build's file: the other implementation with a fault stands in for the library, and the comparison must
+//! show it.
 
 use super::comparison::BuildCall;
 use super::packings;

@@ -38,8 +38,8 @@ pub fn run(comparison: &mut Comparison) -> Result<(), String> {
     Ok(())
 }
 
-/// So many events, at least two, that fill one section to the last byte; and one byte more, which puts the last event into a
-/// second section.
+/// So many events, at least two, that fill one section to the last byte; and one byte more, which puts the last event
+/// into a second section.
 fn filled(comparison: &mut Comparison, random: &mut Random, index: usize, events: usize) -> Result<(), String> {
     let mut lengths = full(random, events);
     packed(comparison, random, index, &lengths, &[events])?;

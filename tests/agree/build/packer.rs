@@ -1,5 +1,5 @@
-//! Demand 3 by trying: of all ways to cut a segment's events into sections that fit, none has fewer sections than the file, and
-//! none holds more events in its first k sections. 10 comes exactly if no way has at most eight.
+//! Demand 3 by trying: of all ways to cut a segment's events into sections that fit, none has fewer sections than the
+//! file, and none holds more events in its first k sections. 10 comes exactly if no way has at most eight.
 
 use super::comparison::Comparison;
 use super::request::Request;

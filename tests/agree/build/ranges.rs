@@ -1,5 +1,5 @@
-//! Lists of many sizes up to 2,048 events, over every table: gaps of segments and tables without events, events late or only at
-//! the end.
+//! Lists of many sizes up to 2,048 events, over every table: gaps of segments and tables without events, events late or
+//! only at the end.
 
 use super::comparison::Comparison;
 use super::segments::nearby;

@@ -1,5 +1,5 @@
-//! Base days, versions and lists that are refused, those at the limits that are not, and which refusal comes where more than one
-//! could: 01, "Checks run in this order".
+//! Base days, versions and lists that are refused, those at the limits that are not, and which refusal comes where more
+//! than one could: 01, "Checks run in this order".
 
 use super::comparison::{need, Comparison, ORDER};
 use super::request::{Request, BASE_DAY_MAX, VERSION_MAX};

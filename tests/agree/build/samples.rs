@@ -61,8 +61,8 @@ fn sample(comparison: &mut Comparison, random: &mut Random, (events, wanted): Sa
     }
 }
 
-/// The 18 bytes of no events; and an event of EN 300 468's date in its place, an off-air one with free_CA_mode and the last
-/// day that there is.
+/// The 18 bytes of no events; and an event of EN 300 468's date in its place, an off-air one with free_CA_mode and the
+/// last day that there is.
 fn known_bytes(comparison: &mut Comparison, random: &mut Random) -> Result<(), String> {
     let pools = Pools::of_lengths(random, 0, 4);
     let chain = pools.series.bytes().to_vec();

@@ -1,4 +1,5 @@
-//! Faults of what Read and check answer, and of their checks outside of sections: each stands in for the library, and must show.
+//! Faults of what Read and check answer, and of their checks outside of sections: each stands in for the library, and
+//! must show.
 
 use super::comparison::{CheckCall, ReadCall};
 use super::file::File;

@@ -47,8 +47,8 @@ impl Comparison<'_> {
         }
     }
 
-    /// Check and Read answer alike, and Read leaves the whole record buffer alike: of an accepted file with buffers of many
-    /// lengths, of a refused one with one of any length. Returns what check did.
+    /// Check and Read answer alike, and Read leaves the whole record buffer alike: of an accepted file with buffers of
+    /// many lengths, of a refused one with one of any length. Returns what check did.
     pub fn alike(&mut self, file: &[u8], base_day: u32) -> Result<Reading, String> {
         let lent = Guarded::new(file, self.guards.byte());
         let as_lent = lent.clone();
@@ -109,8 +109,8 @@ impl Comparison<'_> {
         self.answers((0, file.events()), &file.bytes(), file.base_day)
     }
 
-    /// Both implementations of Read answer alike, and leave the whole record buffer alike, which has so many numbers. Returns
-    /// the answer and the buffer.
+    /// Both implementations of Read answer alike, and leave the whole record buffer alike, which has so many numbers.
+    /// Returns the answer and the buffer.
     pub fn read(&mut self, file: &[u8], base_day: u32, room: usize) -> Result<(Reading, Vec<u32>), String> {
         let guard = self.guards.number();
         let as_given = Guarded::new(&pattern(room, guard), guard);
@@ -171,7 +171,8 @@ impl Comparison<'_> {
     }
 }
 
-/// Every precedence of 01, "When a call says no": Read's order in a section, of two sections, at the end, and over the call.
+/// Every precedence of 01, "When a call says no": Read's order in a section, of two sections, at the end, and over the
+/// call.
 fn precedences() -> Vec<Precedence> {
     let mut all = in_order("section", &SECTION_ORDER);
     for first in SECTION_ORDER {

@@ -1,5 +1,5 @@
-//! Event loops that do not end with their section, chains that are none, sections without events that are not alone, and events
-//! that do not follow each other: 24.
+//! Event loops that do not end with their section, chains that are none, sections without events that are not alone,
+//! and events that do not follow each other: 24.
 
 use super::comparison::Comparison;
 use super::event_fields::{chain_length, get, put, set_chain_length, set_start, start, EVENT_FRONT, ID};

@@ -71,8 +71,8 @@ fn table_ids(comparison: &mut Comparison, file: &File, place: usize) -> Result<(
     Ok(())
 }
 
-/// Each section_length that is too short, with as many bytes and a CRC_32 that is right; and each other one, which leaves a
-/// section cut or CRC_32 wrong.
+/// Each section_length that is too short, with as many bytes and a CRC_32 that is right; and each other one, which
+/// leaves a section cut or CRC_32 wrong.
 fn lengths(comparison: &mut Comparison, random: &mut Random, file: &File, place: usize) -> Result<(), String> {
     for length in 0..FRONT + CRC - 3 {
         let short = file.with_raw(place, |section| {

@@ -79,8 +79,8 @@ impl Given {
         Some(File::of(&output, self.base_day))
     }
 
-    /// Whether the records, with the file as their pool, are the same events: id, start, duration, marks other than 2, and
-    /// chain bytes. A record's marks have no 2.
+    /// Whether the records, with the file as their pool, are the same events: id, start, duration, marks other than 2,
+    /// and chain bytes. A record's marks have no 2.
     pub fn is_carried(&self, records: &[u32], file: &[u8]) -> bool {
         let pools = self.lent().pools();
         let is_same = |(event, record): (&Event, &[u32])| {

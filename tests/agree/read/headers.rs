@@ -82,7 +82,8 @@ fn last_table_ids(comparison: &mut Comparison, file: &File, place: usize) -> Res
     Ok(())
 }
 
-/// Every last_table_id, in every section alike: 22 out of range, 23 if a table is past it, and 25 if tables are missing.
+/// Every last_table_id, in every section alike: 22 out of range, 23 if a table is past it, and 25 if tables are
+/// missing.
 fn all_alike(comparison: &mut Comparison, file: &File) -> Result<(), String> {
     let own = file.sections[0][LAST_TABLE_ID];
     for last_table_id in 0x00..=0xFF {

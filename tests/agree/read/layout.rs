@@ -12,8 +12,8 @@ const TABLES: usize = 16;
 const SECTIONS_MAX: usize = 8;
 
 pub struct Layout {
-    /// How many events each section of a segment has, by segment index. A segment that is not here has one section, and no
-    /// events.
+    /// How many events each section of a segment has, by segment index. A segment that is not here has one section, and
+    /// no events.
     pub cuts: BTreeMap<usize, Vec<usize>>,
     /// How many segments each table has.
     pub segments: Vec<usize>,
@@ -30,7 +30,8 @@ impl Layout {
         Layout { segments: (0..=last_table).map(table_segments).collect(), cuts }
     }
 
-    /// A rival's: cuts anywhere that eight sections allow, and at times empty segments and tables behind the last events.
+    /// A rival's: cuts anywhere that eight sections allow, and at times empty segments and tables behind the last
+    /// events.
     pub fn rival(random: &mut Random, given: &Given) -> Layout {
         let mut by_segment: BTreeMap<usize, Vec<Event>> = BTreeMap::new();
         for event in given.events() {

@@ -1,4 +1,5 @@
-//! Bytes of any kind, sections of any kind whose CRC_32 is right, and files with changes of any kind. Some are accepted.
+//! Bytes of any kind, sections of any kind whose CRC_32 is right, and files with changes of any kind. Some are
+//! accepted.
 
 use super::comparison::Comparison;
 use super::file::{close, File, CRC, FRONT, LAST_TABLE_ID, SECTION_LENGTH, TABLE_ID, VERSION};

@@ -43,8 +43,8 @@ fn in_place(comparison: &mut Comparison, file: &File, place: usize) -> Result<()
     out_of_place(comparison, file, place)
 }
 
-/// Every other table_id and section number: the place of a section is never free. Every other G and L, which some segments and
-/// tables leave free until a later section, or the end, disagrees.
+/// Every other table_id and section number: the place of a section is never free. Every other G and L, which some
+/// segments and tables leave free until a later section, or the end, disagrees.
 fn numbers(comparison: &mut Comparison, file: &File, place: usize) -> Result<(), String> {
     let own = &file.sections[place];
     for table_id in (0x50..=0x5F).filter(|table_id| *table_id != own[TABLE_ID]) {

@@ -35,8 +35,8 @@ pub fn run(comparison: &mut Comparison) -> Result<(), String> {
     Ok(())
 }
 
-/// A file with two sections to be broken, and sections behind them. Event 2,049 is in the first of them, in the second, or
-/// missing.
+/// A file with two sections to be broken, and sections behind them. Event 2,049 is in the first of them, in the second,
+/// or missing.
 struct Scene {
     file: File,
     /// The places of the two.
@@ -54,7 +54,8 @@ impl Scene {
         let segments = [(0, before / 2), (2, before - before / 2), (3, VICTIM), (5, VICTIM), (33, 1)];
         let given = Given::short(random, &segments);
         let file = Layout::of(chunked(&segments)).file(&given);
-        // The sections of segments 3, 4, which is empty, and 5, then the empty first segment of the next table, and the last.
+        // The sections of segments 3, 4, which is empty, and 5, then the empty first segment of the next table, and the
+        // last.
         let last = file.last();
         Scene { victims: [last - 4, last - 2], file }
     }

@@ -1,5 +1,5 @@
-//! Files that others make: cuts anywhere, longer tables, more tables. Read accepts them, and Build's file of the same events is
-//! at least as good in every segment: demand 3.
+//! Files that others make: cuts anywhere, longer tables, more tables. Read accepts them, and Build's file of the same
+//! events is at least as good in every segment: demand 3.
 
 use super::comparison::{Comparison, RECORDS_MAX};
 use super::given::Given;
