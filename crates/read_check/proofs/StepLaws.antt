@@ -28,10 +28,11 @@ use Rattle.codec_crc.specs.CrcTables.{crcTables}
 use Rattle.codec_section.specs.HeaderRead.{heldHeader}
 use Rattle.codec_section.specs.declared.header.SectionHeader.{SectionHeader}
 use Rattle.read_checks.specs.RightCrc.{hasRightCrcBy}
-use Rattle.read_checks.specs.HeaderBefore.{headerBefore, checkedHeader}
+use Rattle.read_checks.specs.HeaderBefore.{headerBefore, passedHeader, checkedHeader}
 use Rattle.read_events.specs.EventPass.{EventPass, checkedEvents, passOf}
 use Rattle.read_events.specs.EventsSoFar.{EventsSoFar}
-use Rattle.read_checks.specs.declared.header.HeaderBefore.the-variants.{Header as Behind, Nothing}
+use Rattle.read_checks.specs.declared.header.HeaderBefore.the-variants.{Header as Behind}
+use Rattle.read_checks.specs.declared.header.HeaderCheck.the-variants.{Header as Passing, Refused as Refusing}
 use Rattle.read_events.specs.declared.EventCheck.{EventCheck}
 use Rattle.read_checks.proofs.RightCrcLaws.{right-crc-by-tables}
 use Rattle.read_events.proofs.EventsSoFarLaws.{loop-checked, loop-so-far}
@@ -98,7 +99,7 @@ module _ {offset : ℕ} {state : WalkState} {words : List ℕ} {p : Progress} (t
       has-right-crc : T (hasRightCrc bs)
       has-right-crc = holds (crc ∙ same-crc) crc-holds
 
-      pub refuses-22 : headerBefore Nothing ≡ checkedHeader (headerBefore (state .before)) bs
+      pub refuses-22 : passedHeader Refusing ≡ checkedHeader (headerBefore (state .before)) bs
           → step sizes base p bs ≡ refused 22 offset
       refuses-22 kept =
           at-offset (step-22 sizes base p bs is-framed has-right-crc
@@ -106,7 +107,7 @@ module _ {offset : ℕ} {state : WalkState} {words : List ℕ} {p : Progress} (t
           (kept ∙ ap (λ (o : Option Header). checkedHeader o bs) (sym (tracks .before-is)))))
 
       module _ {h : SectionHeader}
-          (kept : headerBefore (Behind h) ≡ checkedHeader (headerBefore (state .before)) bs) where
+          (kept : passedHeader (Passing h) ≡ checkedHeader (headerBefore (state .before)) bs) where
         shown : T (isHeader (p .before) bs) × (heldHeader h ≡ headerIn bs)
         shown = kept-only (p .before) bs
             (kept ∙ ap (λ (o : Option Header). checkedHeader o bs) (sym (tracks .before-is)))

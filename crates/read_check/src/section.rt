@@ -4,6 +4,7 @@ use read_answer::ReadAnswer;
 use read_checks::frame;
 use read_checks::header;
 use read_checks::header::HeaderBefore;
+use read_checks::header::HeaderCheck;
 use read_checks::numbering;
 ghost use mathlib.Core.Path.{_≡_};
 ghost use Prim.Native.Nat.{_+_};
@@ -48,7 +49,7 @@ pub fn check_section(
         return SectionVerdict::Refused(ReadAnswer::Crc(offset));
     }
     let before = state.before;
-    let HeaderBefore::Header(shown) = header::check_header(before, section) else {
+    let HeaderCheck::Header(shown) = header::check_header(before, section) else {
         return SectionVerdict::Refused(ReadAnswer::Header(offset));
     };
     if !numbering::has_right_numbering(before, shown) {

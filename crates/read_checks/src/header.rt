@@ -8,13 +8,20 @@ use eit::Triplet;
 ghost use mathlib.Core.Path.{_≡_};
 ghost use Rattle.codec_section.specs.HeaderRead.{heldHeader};
 ghost use Rattle.sections.specs.HeaderTests.{hasFixedBits, isTriplet, isSameFile};
-ghost use Rattle.read_checks.specs.HeaderBefore.{headerBefore, checkedHeader};
+ghost use Rattle.read_checks.specs.HeaderBefore.{headerBefore, passedHeader, checkedHeader};
 
-// The header of the section before, or of a section that passes.
+// The header of the section before.
 pub enum HeaderBefore {
     Header(SectionHeader),
-    // No section stands before the first one; a section that is refused has none to keep.
+    // No section stands before the first one.
     Nothing,
+}
+
+// What 22 finds of a section.
+pub enum HeaderCheck {
+    // It passes, and this is its header.
+    Header(SectionHeader),
+    Refused,
 }
 
 // Bits 1111 before section_length; bits 11 before the version, and current_next 1 behind it.
@@ -49,17 +56,17 @@ fn is_same_file(before: HeaderBefore, header: SectionHeader) -> bool
 }
 
 // 22: the header of a section whose fixed bits, identity and last_table_id pass.
-pub fn check_header(before: HeaderBefore, section: &[u8]) -> HeaderBefore
-    ensures { λ r. ⌜ headerBefore r ≡ checkedHeader (headerBefore before) (now (section .entry)) ⌝ }
+pub fn check_header(before: HeaderBefore, section: &[u8]) -> HeaderCheck
+    ensures { λ r. ⌜ passedHeader r ≡ checkedHeader (headerBefore before) (now (section .entry)) ⌝ }
 {
     let HeaderRead::Header(shown) = header::read_header(section) else {
-        return HeaderBefore::Nothing;
+        return HeaderCheck::Refused;
     };
     if !has_fixed_bits(section) || !frame::is_table(shown.last_table_id as u32) {
-        return HeaderBefore::Nothing;
+        return HeaderCheck::Refused;
     }
     if !is_same_file(before, shown) {
-        return HeaderBefore::Nothing;
+        return HeaderCheck::Refused;
     }
-    HeaderBefore::Header(shown)
+    HeaderCheck::Header(shown)
 }

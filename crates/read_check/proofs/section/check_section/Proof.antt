@@ -13,9 +13,9 @@ use Rattle.sections.specs.Decode.{statedEventSize, eventLoop}
 use Rattle.sections.specs.Split.{splitBy}
 use Rattle.codec_crc.specs.CrcTables.{crcTables}
 use Rattle.codec_section.specs.HeaderRead.{heldHeader}
-use Rattle.read_checks.specs.HeaderBefore.{headerBefore, checkedHeader}
+use Rattle.read_checks.specs.HeaderBefore.{headerBefore, passedHeader, checkedHeader}
 use Rattle.read_events.specs.EventPass.{checkedEvents, passOf}
-use Rattle.read_checks.specs.declared.header.HeaderBefore.the-variants.{Header as Behind}
+use Rattle.read_checks.specs.declared.header.HeaderCheck.the-variants.{Header as Passing}
 use Rattle.read_check.proofs.StepLaws.{refuses-20, refuses-21, refuses-22, refuses-23, refuses-24, refuses-26}
 use Rattle.read_check.proofs.StepLaws.{goes-on}
 use native.Mathlib.Omega.{arith}
@@ -76,9 +76,9 @@ module _ (c : tie.After-has-right-numbering) where
   abbrev entry : tie.Start
   entry = start (framed (summed (headed (shown c))))
 
-  header-passes : headerBefore (Behind (shown c .shown .given .0 .0))
+  header-passes : passedHeader (Passing (shown c .shown .given .0 .0))
       ≡ checkedHeader (headerBefore (entry .args .state .before)) (now (entry .args .section))
-  header-passes = sym (ap headerBefore (shown c .shown .given .1)) ∙ headed (shown c) .check-header .ensures
+  header-passes = sym (ap passedHeader (shown c .shown .given .1)) ∙ headed (shown c) .check-header .ensures
 
 -- and whose numbers are right, and events were looked at
 numbers-hold : (c : tie.After-check-events) → numbered c .has-right-numbering .result ≡ true
@@ -131,7 +131,7 @@ returns-3 c p tracks =
     let frame = framed crc in (
       refuses-22 tracks _ _ _ (section-bytes frame) (frame .is-framed .ensures) (frame-holds header)
           (lent-tables frame) (crc .has-right-crc .ensures) (crc-holds header)
-          (sym (ap headerBefore (c .enum-told .given .1)) ∙ header .check-header .ensures),
+          (sym (ap passedHeader (c .enum-told .given .1)) ∙ header .check-header .ensures),
       refl,
     )
 
