@@ -3,6 +3,7 @@ use crate::section;
 use build_counts::count;
 use build_counts::cut;
 use build_counts::segment;
+use codec_crc::CRC_ENTRIES;
 use codec_section::header::SectionHeader;
 use codec_section::segment::first_section;
 use codec_section::segment::table_of;
@@ -42,7 +43,7 @@ fn write_segment<'a>(
     day: &'a [u8],
     series: &'a [u8],
     room: u16,
-    crc_tables: &[u32; 2048],
+    crc_tables: &[u32; CRC_ENTRIES],
 ) -> usize
     requires { ⌜
         (at

@@ -2,6 +2,7 @@
 // pool to the output.
 use codec::fields;
 use codec::pools;
+use codec_crc::CRC_ENTRIES;
 use codec_crc::CRC_FIRST;
 use codec_section::event;
 use codec_section::header;
@@ -66,7 +67,7 @@ pub fn write_section<'a>(
     to: usize,
     day: &'a [u8],
     series: &'a [u8],
-    crc_tables: &[u32; 2048],
+    crc_tables: &[u32; CRC_ENTRIES],
 )
     requires { ⌜
         (size ≡ sectionSizeOf (eventsBetween (lentPools (now day) (now series)) (now list) from to))

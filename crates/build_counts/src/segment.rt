@@ -13,7 +13,7 @@ ghost use Rattle.schedule.specs.Extent.{lastIndex};
 ghost use Rattle.build_counts.specs.Between.{eventsBetween, leading, isNextInside};
 
 // The segment index of record i.
-fn segment_index(list: &[u32], i: usize) -> usize
+fn segment_of_record(list: &[u32], i: usize) -> usize
     ensures { λ r. ⌜ r ≡ segmentIndex (frontRecord (drop (i * recordSize) (now (list .entry))) .start) ⌝ }
 {
     let r = records::record_at(list, i);
@@ -28,7 +28,7 @@ pub fn end_of(list: &[u32], from: usize, count: usize, index: usize) -> usize
 {
     let mut end = from;
     while end < count {
-        if segment_index(list, end) != index {
+        if segment_of_record(list, end) != index {
             return end;
         }
         end += 1;
@@ -45,7 +45,7 @@ pub fn is_inside(list: &[u32], from: usize, count: usize, index: usize) -> bool
         return index == 0;
     }
     index % TABLE_SEGMENTS == 0
-        || segment_index(list, from) / TABLE_SEGMENTS == index / TABLE_SEGMENTS
+        || segment_of_record(list, from) / TABLE_SEGMENTS == index / TABLE_SEGMENTS
 }
 
 // The segment index of the last event; of none, 0.
@@ -55,5 +55,5 @@ pub fn last_index(list: &[u32], count: usize) -> usize
     if count == 0 {
         return 0;
     }
-    segment_index(list, count - 1)
+    segment_of_record(list, count - 1)
 }

@@ -2,6 +2,7 @@
 // into document 01's numbers, and has the same equation as the call behind it.
 use eit::Identity;
 use eit::Triplet;
+use eit::limits::SEGMENTS;
 use read_answer::ReadResult;
 ghost use mathlib.Core.Path.{_≡_};
 ghost use mathlib.Core.List.{flatten};
@@ -108,7 +109,7 @@ pub extern "C" fn eit_plan<'a>(
     count: usize,
     day: &'a [u8],
     series: &'a [u8],
-    counts: &mut [u8; 512],
+    counts: &mut [u8; SEGMENTS],
 )
     ensures { λ _. ⌜
         now (counts .exit)

@@ -1,6 +1,8 @@
 // The eight tables of CRC_32, one behind the other: entry k of table j is the register k × 2^24 after its own byte and
 // j bytes more.
-pub const TABLES: [u32; 2048] = [
+use crate::CRC_ENTRIES;
+
+pub const ENTRIES: [u32; CRC_ENTRIES] = [
     0x00000000,
     0x04c11db7,
     0x09823b6e,

@@ -1,4 +1,5 @@
 // One section behind those before it: 20, 21, 22, 23, 24, 26 (01, "When a call says no").
+use codec_crc::CRC_ENTRIES;
 use eit::Sizes;
 use read_answer::ReadAnswer;
 use read_checks::frame;
@@ -33,7 +34,7 @@ pub fn check_section(
     state: WalkState,
     base_day: u32,
     sizes: Sizes,
-    crc_tables: &[u32; 2048],
+    crc_tables: &[u32; CRC_ENTRIES],
     seen: &mut [u64],
 ) -> SectionVerdict
     requires { ⌜ now «crc_tables» ≡ crcTables ⌝ }

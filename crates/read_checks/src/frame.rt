@@ -1,5 +1,6 @@
 // A section's frame and its CRC_32 (01, "The file of sections").
 use codec::fields;
+use codec_crc::CRC_ENTRIES;
 use codec_crc::CRC_FIRST;
 use eit::Sizes;
 use eit::limits::SECTION_OVERHEAD;
@@ -31,7 +32,7 @@ pub fn is_framed(section: &[u8], sizes: Sizes) -> bool
 }
 
 // 21: over the whole section CRC_32 leaves 0, by the lent tables.
-pub fn has_right_crc(crc_tables: &[u32; 2048], section: &[u8]) -> bool
+pub fn has_right_crc(crc_tables: &[u32; CRC_ENTRIES], section: &[u8]) -> bool
     ensures { λ r. ⌜ r ≡ hasRightCrcBy (now («crc_tables» .entry)) (now (section .entry)) ⌝ }
 {
     codec_crc::crc_by(crc_tables, CRC_FIRST, section) == 0

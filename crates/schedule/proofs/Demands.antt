@@ -269,7 +269,7 @@ module _ (sizes : Sizes) (legal : LegalSizes sizes) where
         fewest-sections = fewest sizes legal;
         most-events = most sizes legal;
         built-only = built-only sizes legal;
-        cut-back = λ base identity ss day rules. sections-in-back sizes base (legal .most) day identity ss rules;
+        sections-back = λ base identity ss day rules. sections-in-back sizes base (legal .most) day identity ss rules;
         refused = leaves sizes;
       }
 

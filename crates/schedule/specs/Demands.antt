@@ -118,7 +118,7 @@ pub record DemandsFor (sizes : Sizes) : Type 0 where
       → eventsCounted (g .base) (fileOf (built g output)) index k ≤ eventsCounted (g .base) file index k)
       → file ≡ fileOf (built g output)
   -- all count the sections that the file's bytes show: of joined sections that keep the rules, these sections
-  pub cut-back : (base : ℕ) (identity : Identity) (ss : List Section) → base ≤ baseDayMax → Rules sizes identity ss
+  pub sections-back : (base : ℕ) (identity : Identity) (ss : List Section) → base ≤ baseDayMax → Rules sizes identity ss
       → sectionsIn base (fileBytes base ss) ≡ ss
   -- ---- Demand 1: "A refusal leaves them untouched, except that a refused edit keeps the edits before it"
   pub refused : RefusedFor sizes

@@ -15,14 +15,14 @@ abbrev μ-loop : tie.MeasureT-loop
 loop-holds : tie.Need-loop-holds Inv-loop μ-loop
 loop-holds c = lead-start _ _ _ _
 
-segment-index-requires : tie.Need-segment-index-requires Inv-loop μ-loop
-segment-index-requires c κs = search needs
+segment-of-record-requires : tie.Need-segment-of-record-requires Inv-loop μ-loop
+segment-of-record-requires c κs = search needs
 
 returns : tie.Need-returns Inv-loop μ-loop
 returns c =
     lead-stop (c .before .before .before .loop .inv) (c .before .before .loop-test .taken)
-    (c .before .segment-index .result)
-    (c .before .segment-index .ensures) (c .if1 .taken)
+    (c .before .segment-of-record .result)
+    (c .before .segment-of-record .ensures) (c .if1 .taken)
 
 add-end : tie.Need-add-end Inv-loop μ-loop
 add-end c = omega arith
@@ -33,8 +33,8 @@ loop-less c = omega arith
 loop-again : tie.Need-loop-again Inv-loop μ-loop
 loop-again c =
     lead-more (c .before .before .before .loop .inv) (c .before .before .loop-test .taken)
-    (c .before .segment-index .result)
-    (c .before .segment-index .ensures) (c .if1 .left)
+    (c .before .segment-of-record .result)
+    (c .before .segment-of-record .ensures) (c .if1 .left)
 
 returns-2 : tie.Need-returns-2 Inv-loop μ-loop
 returns-2 c = lead-end (c .before .loop .inv) (c .loop-test .left)
@@ -46,7 +46,7 @@ end-of-spec =
     Inv-loop
     μ-loop
     loop-holds
-    segment-index-requires
+    segment-of-record-requires
     returns
     add-end
     loop-less

@@ -7,14 +7,14 @@ use Rattle.build_counts.proofs.segment.last_index.Tie as tie
 returns : tie.Need-returns
 returns c = last-none _ _ (c .if1 .taken)
 
-sub-segment-index : tie.Need-sub-segment-index
-sub-segment-index c = search needs
+sub-segment-of-record : tie.Need-sub-segment-of-record
+sub-segment-of-record c = search needs
 
-segment-index-requires : tie.Need-segment-index-requires
-segment-index-requires c κs = search needs
+segment-of-record-requires : tie.Need-segment-of-record-requires
+segment-of-record-requires c κs = search needs
 
 returns-2 : tie.Need-returns-2
-returns-2 c = last-some _ _ (c .before .if1 .left) (c .segment-index .ensures)
+returns-2 c = last-some _ _ (c .before .if1 .left) (c .segment-of-record .ensures)
 
 pub last-index-spec : {M : Type 1} → statement M
-last-index-spec = tie.close (tie.spec returns sub-segment-index segment-index-requires returns-2)
+last-index-spec = tie.close (tie.spec returns sub-segment-of-record segment-of-record-requires returns-2)
