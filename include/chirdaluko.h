@@ -86,7 +86,7 @@ static inline const char *eit_cause(uint32_t number) {
     case EIT_REFUSED_UNSOUND:
         return "the list is not sound";
     case EIT_REFUSED_FRAME:
-        return "a section is cut, or its table_id or section_length is out of range";
+        return "a section is truncated, or its table_id or section_length is out of range";
     case EIT_REFUSED_CRC:
         return "a section's CRC_32 is wrong";
     case EIT_REFUSED_HEADER:

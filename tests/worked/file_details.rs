@@ -36,7 +36,7 @@ pub const ALL: [Detail; 16] = [
     ("Read accepts segments cut early, empty segments behind the last event, and a later last_table_id.", not_asked),
     ("Read does not accept a file that leaves an empty segment out: 23 at the section behind the gap.", left_out),
     (
-        "A cut section is 20, and so is one byte behind the last section; \
+        "A truncated section is 20, and so is one byte behind the last section; \
          a file that ends between two sections is 25.",
         ends,
     ),

@@ -141,7 +141,7 @@ pub fn cause(number: u32) -> &'static str {
         10 => "a segment needs a ninth section, or has an event with over 4,066 bytes of descriptors",
         11 => "the output is shorter than the file",
         12 => "the list is not sound",
-        20 => "a section is cut, or its table_id or section_length is out of range",
+        20 => "a section is truncated, or its table_id or section_length is out of range",
         21 => "a section's CRC_32 is wrong",
         22 => "a fixed bit is wrong, last_table_id is out of range, or it or the identity is not the one before",
         23 => "a section is missing, doubled or out of order, or its table is past last_table_id",
@@ -251,7 +251,7 @@ impl BuildRefusal {
 pub enum ReadRefusal {
     /// 1: the base day is above 65,472.
     BaseDay,
-    /// 20: a section is cut, or its table_id or section_length is out of range.
+    /// 20: a section is truncated, or its table_id or section_length is out of range.
     Frame { offset: usize },
     /// 21: a section's CRC_32 is wrong.
     Crc { offset: usize },

@@ -71,9 +71,9 @@ module _ {sizes : Sizes} {pools : Pools} {numbers : List ℕ} {count base : ℕ}
 
     holds : T (sound sizes pools list)
     holds =
-        let told : counted .«is_sound» ≡ sound sizes pools list =
+        let is-sound : counted .«is_sound» ≡ sound sizes pools list =
         ap (λ (c : Counted). c .«is_sound») (asked .is-counted) ∙ counted-sound sizes pools list in
-        subst T (sym (sym told ∙ is)) tt
+        subst T (sym (sym is-sound ∙ is)) tt
 
     found : counted
         ≡ soundWith (flatten (plan sizes pools list)) (indexOr512 (lowestUnpackable sizes es)) (needOf sizes es)

@@ -1,5 +1,5 @@
 -- A list that rises, segment by segment: the events from a segment on begin with that segment's, behind them come those
--- from the next segment on, and the first of them tells whether the segment is inside the range. By the cut of these
+-- from the next segment on, and the first of them decides whether the segment is inside the range. By the cut of these
 -- events behind the segment, and because no segment before the first of them has events. Assumes nothing.
 use mathlib.Core.Path.{_≡_, refl, sym, ap, subst, _∙_}
 use mathlib.Core.Bool.{Bool, not, _||_}
@@ -185,7 +185,7 @@ module _ (es : List Event) (rises : T (rising es)) where
       (λ test. omega (arith, within (eqb→eq (startIndex e / 32) table test)))
       (or-cases opens shares next)))
 
-  -- whether a segment is inside is told by the events from it on
+  -- whether a segment is inside is decided by the events from it on
   inside-cases : (index : ℕ) (fs : List Event) → eventsFrom index es ≡ fs → isInside es index ≡ isNextInside index fs
   inside-cases index [] first = inside-behind index first
   inside-cases index (e ∷ fs) first = inside-before index e fs first

@@ -190,6 +190,6 @@ rows-wide (row ∷ rows) [] is table low = absurd is
 rows-wide (row ∷ rows) (u ∷ us) is zero low = is .0 .1 .0 .1
 rows-wide (row ∷ rows) (u ∷ us) is (suc table) low = rows-wide rows us (is .1) table (omega arith)
 
--- what a function is told of a `[[u8; 32]; 16]`
+-- what a function knows of a `[[u8; 32]; 16]`
 pub array-tables : (rows : List (List ℕ)) (vs : List Val) → Is (Array Row 16) rows vs → Tables rows
 array-tables rows vs is = (is .1 .0 .1, rows-wide rows (is .0) (is .1 .1))

@@ -29,7 +29,7 @@ drop-take (suc m) (suc n) (x ∷ xs) =
 pub rest-whole : (bs : List ℕ) (at : ℕ) → take (length bs - at) (drop at bs) ≡ drop at bs
 rest-whole bs at = take-all (length bs - at) (drop at bs) (simp length-drop (omega arith))
 
--- a field that is whole, and one that is cut
+-- a field that is whole, and one that is truncated
 pub field-whole : (bs : List ℕ) (at width : ℕ) → take width (take (length bs - at) (drop at bs)) ≡ bytesAt at width bs
 field-whole bs at width = ap (take width) (rest-whole bs at)
 
@@ -62,7 +62,7 @@ read-more bs i v inside byte so-far =
 pub read-fits : (v b : ℕ) → b < 256 → v * 2 ^ 8 % 2 ^ 32 + b < 2 ^ 32
 read-fits v b byte = omega arith
 
--- a field, also one that is cut, holds no more than its width
+-- a field, also one that is truncated, holds no more than its width
 pub field-small : (bs : List ℕ) (at width : ℕ) → Bytes bs → field at width bs < 256 ^ width
 field-small bs at width bytes =
     let few : length (bytesAt at width bs) ≤ width = simp length-take (omega arith) in

@@ -40,7 +40,7 @@ isWholeAt at script = ltb at (length script) && isWhole (getD script at 0) (drop
 -- bytes are operands of a command that has begun
 abbrev pub wholeFrom : ℕ → ℕ → List ℕ → List model.Command
 wholeFrom zero at [] = []
--- never met: a cut operand is not begun
+-- never met: a truncated operand is not begun
 wholeFrom (suc skip) at [] = []
 wholeFrom (suc skip) at (b ∷ bs) = wholeFrom skip (suc at) bs
 wholeFrom zero at (code ∷ bs) =

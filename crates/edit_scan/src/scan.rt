@@ -10,7 +10,7 @@ ghost use Rattle.edit_scan.specs.Commands.{formFound, strikesFound, isWh
 pub enum Form {
     // How many commands it has.
     Whole(usize),
-    // The offset of the first unknown command or cut operand.
+    // The offset of the first unknown command or truncated operand.
     Broken(usize),
 }
 

@@ -113,7 +113,7 @@ impl Time {
         Self::DURATION_MIN <= seconds && seconds <= Self::DURATION_MAX
     }
 
-    // So many seconds; above DURATION_MOST it is 99:59:59.
+    // So many seconds; above DURATION_MAX it is 99:59:59.
     pub fn from_seconds(seconds: u32) -> Self
         ensures { λ r. ⌜ r ≡ timeOf seconds ⌝ }
     {

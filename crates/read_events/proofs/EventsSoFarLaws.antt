@@ -1,4 +1,4 @@
--- The pass that keeps a least start and a set of ids judges as 24 does, which looks back at the events themselves: the
+-- The pass that keeps a least start and a set of ids decides as 24 does, which looks back at the events themselves: the
 -- least start is that behind the latest event, and the set holds the ids of all (`EventsSoFar`). Assumes nothing.
 use mathlib.Core.Path.{_≡_, refl, sym, ap, subst, _∙_}
 use mathlib.Core.Logic.{⊎-elim}

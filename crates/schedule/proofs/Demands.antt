@@ -233,7 +233,7 @@ module _ (sizes : Sizes) (legal : LegalSizes sizes) where
         ))
         (build-or g)
 
-  -- ---- all of it, for every section size that can be
+  -- ---- all of it, for every sizes that are legal
 
   pub demands-for : DemandsFor sizes
   demands-for =

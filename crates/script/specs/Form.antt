@@ -62,11 +62,11 @@ commandOf code at bs =
       ]
     ]
 
--- a known command whose operand is not cut
+-- a known command whose operand is not truncated
 abbrev pub isWhole : ℕ → List ℕ → Bool
 isWhole code bs = isCommand code && leb (operandBytes code) (length bs)
 
--- a script's commands, or the offset of the first unknown command or cut operand
+-- a script's commands, or the offset of the first unknown command or truncated operand
 pub data Form : Type 0 where
   commands : List Command → Form
   broken : ℕ → Form
@@ -79,7 +79,7 @@ before c (broken at) = broken at
 -- begun
 abbrev pub formFrom : ℕ → ℕ → List ℕ → Form
 formFrom zero at [] = commands []
--- never met: a cut operand is refused at its command
+-- never met: a truncated operand is refused at its command
 formFrom (suc skip) at [] = commands []
 formFrom (suc skip) at (b ∷ bs) = formFrom skip (suc at) bs
 formFrom zero at (code ∷ bs) =

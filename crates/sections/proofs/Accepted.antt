@@ -1,5 +1,6 @@
 -- A file is accepted, in 01's sense, exactly if check succeeds on it, and exactly if it is the joined bytes of sections
--- that keep the rules: by `accepted-rules` and `follows-accepted` of Exact. Assumes nothing.
+-- that keep the rules, where the largest list fits 12,288 numbers: by `accepted-rules` and `follows-accepted` of Exact.
+-- Assumes nothing.
 use mathlib.Core.Path.{_≡_, ap, subst, _∙_}
 use mathlib.Core.Logic.{_↔_}
 use Prim.Native.Nat.{ℕ, _*_, _≤_}
@@ -34,14 +35,14 @@ read-enough sizes base file buffer enough =
 pub some-buffer : (n : ℕ) → (buffer : List ℕ) × (length buffer ≡ n)
 some-buffer n = (replicate n 0, length-replicate {A = ℕ} n 0)
 
--- a file is accepted exactly if check, which has no record buffer, succeeds on it
+-- check, which has no record buffer, succeeds on an accepted file
 pub accepted-check : (sizes : Sizes) (base : ℕ) (file : List ℕ) → Accepted sizes base file
     → checkFile sizes base file .number ≡ 0
 accepted-check sizes base file accepted =
     let (buffer, size) = some-buffer acceptedNumbers in
     read-accepted sizes base file buffer (accepted buffer size) .0
 
--- where the largest list fits the buffer
+-- and a file on which it succeeds is accepted, where the largest list fits the buffer
 pub check-accepted : (sizes : Sizes) (base : ℕ) (file : List ℕ) → sizes .«event_limit» * recordSize ≤ acceptedNumbers
     → checkFile sizes base file .number ≡ 0 → Accepted sizes base file
 check-accepted sizes base file few zero buffer size =

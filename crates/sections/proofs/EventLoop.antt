@@ -1,5 +1,5 @@
--- An event loop is cut into its events, and these come back from their bytes as in proofs/EventBytes.antt: by induction
--- over the events. Assumes nothing.
+-- An event loop is split into its events, and these come back from their bytes as in proofs/EventBytes.antt: by
+-- induction over the events. Assumes nothing.
 use mathlib.Core.Path.{_≡_, refl, ap₂}
 use mathlib.Core.List.{List, [], _∷_, _++_, map, flatten}
 use Prim.Native.Nat.{ℕ, _≤_, _<_}
@@ -28,13 +28,13 @@ loop-bytes base (e ∷ es) chains =
     bytes-append (eventBytes base e) (eventLoopBytes base es) (event-bytes base e (chains .0))
     (loop-bytes base es (chains .1))
 
--- ---- the event loop: cut into events
+-- ---- the event loop: split into events
 
 all-stated : (base : ℕ) (es : List Event) → Every Short es → Every (Stated statedEventSize) (map (eventBytes base) es)
 all-stated base [] short = tt
 all-stated base (e ∷ es) short = (event-stated base e (short .0), all-stated base es (short .1))
 
--- the bytes of events are cut into those of each
+-- the bytes of events are split into those of each
 pub loop-split : (base : ℕ) (es : List Event) → Every Short es
     → splitBy statedEventSize (eventLoopBytes base es) ≡ map (eventBytes base) es
 unfolding eventLoopBytes

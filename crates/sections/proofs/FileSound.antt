@@ -1,5 +1,5 @@
 -- The records of a file that follows the rules are a sound list with the file as day pool, and its events are the
--- sections': each part of soundness is a rule, or a law of Places. Assumes nothing.
+-- sections': each part of soundness is a rule, or a law of Offsets. Assumes nothing.
 use mathlib.Core.Path.{_≡_, sym, ap, subst, _∙_}
 use Prim.Native.Nat.{ℕ, _*_, _≤_}
 use native.Mathlib.Omega.{arith}
@@ -29,7 +29,7 @@ use Rattle.sections.proofs.Every.{every-map}
 use Rattle.sections.proofs.Exact.{records-are, accepted-rules, read-accepted}
 use Rattle.sections.proofs.Offsets.{records-count, records-ids, records-events, records-valid}
 
--- the laws of Places, for sections with nothing around them
+-- the laws of Offsets, for sections with nothing around them
 module _ (base : ℕ) (ss : List Section) (series : List ℕ) where
   whole-events : eventsIn (filePools (fileBytes base ss) series) (recordsFrom 0 ss) ≡ sectionEvents ss
   whole-events = rw (append-nil (fileBytes base ss)) at (records-events base [] ss [] series)

@@ -6,7 +6,7 @@ pub mod Version
 pub mod Lengths
 -- the bytes of events and of sections in a row
 pub mod RowBytes
--- bytes cut into pieces, and pieces joined
+-- bytes split into pieces, and pieces joined
 pub mod Split
 -- one event and its bytes
 pub mod EventBytes

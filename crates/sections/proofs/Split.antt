@@ -1,4 +1,4 @@
--- Bytes are cut into pieces that joined are the bytes, and joined pieces that state their lengths are cut into just
+-- Bytes are split into pieces that joined are the bytes, and joined pieces that state their lengths are split into just
 -- these: by induction over the bytes, where those of a piece that has begun are skipped (`split-skip`), so that each
 -- step is a whole piece. Assumes nothing.
 use mathlib.Core.Path.{_≡_, refl, sym, ap, ap₂, _∙_}
@@ -53,7 +53,7 @@ pub split-joined : (size : List ℕ → ℕ) → ((bs : List ℕ) → 0 < size b
 unfolding splitBy
 split-joined size some bs = joined-from size some 0 bs
 
--- ---- joined pieces that state their lengths are cut into these pieces
+-- ---- joined pieces that state their lengths are split into these pieces
 
 -- a piece that states its own length, whatever stands behind it
 pub record Stated (size : List ℕ → ℕ) (x : List ℕ) : Type 0 where
