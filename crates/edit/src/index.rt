@@ -5,7 +5,7 @@ use list_records::records;
 use list_records::records::RECORD_SIZE;
 ghost use mathlib.Core.Path.{_≡_};
 ghost use Prim.Native.Nat.{_+_, _*_, _/_, _≤_, _<_};
-ghost use lib.ListN.{length, getD, take, replicate};
+ghost use lib.ListN.{length, getD, take};
 ghost use Rattle.eit.specs.Find.{placeOf};
 ghost use Rattle.eit.specs.Records.{recordSize};
 ghost use Rattle.edit_index.specs.Index.{slotRecord, slotRecords, Ordered, Index, Loadable, Loaded, indexedNumbers};
@@ -21,18 +21,12 @@ pub struct Place {
     pub is_taken: bool,
 }
 
-fn wide(slot: u16) -> usize
-    ensures { λ r. ⌜ r ≡ slot ⌝ }
-{
-    slot as usize
-}
-
 // The start of record i of the order.
 fn start_at(slots: &[u32], order: &[u16], i: usize) -> u32
     requires { ⌜ (i < length (now order)) × (getD (now order) i 0 < length (now slots) / recordSize) ⌝ }
     ensures { λ r. ⌜ r ≡ slotRecord (now (slots .entry)) (getD (now (order .entry)) i 0) .start ⌝ }
 {
-    slots[wide(order[i]) * RECORD_SIZE + 1]
+    slots[edit_index::wide(order[i]) * RECORD_SIZE + 1]
 }
 
 // The place before the first record that starts later: records before `low` start no later, those from `high` on later.
@@ -75,14 +69,6 @@ pub fn place_left(place: usize, out: usize) -> usize
     ensures { λ r. ⌜ r ≡ placeLeft place out ⌝ }
 {
     if out <= place { place - 1 } else { place }
-}
-
-// One more than the slot of the record that has the id; 0 if none has it.
-pub fn slot_of(ids: &[u16], id: u32) -> usize
-    ensures { λ r. ⌜ r ≡ getD (now (ids .entry)) id 0 ⌝ }
-{
-    let i = id as usize;
-    if i < ids.len() { wide(ids[i]) } else { 0 }
 }
 
 // Writes a record into slot `used`, and puts it in place `place` of `count` records.
@@ -140,19 +126,8 @@ pub fn store(list: &mut [u32], slots: &[u32], order: &[u16], count: usize)
 {
     let mut i = 0;
     while i < count {
-        let event = records::record_at(slots, wide(order[i]));
+        let event = records::record_at(slots, edit_index::wide(order[i]));
         records::write_record(list, i, event);
-        i += 1;
-    }
-}
-
-// Sets all ids to 0.
-fn clear(ids: &mut [u16])
-    ensures { λ _. ⌜ now (ids .exit) ≡ replicate (length (now (ids .entry))) 0 ⌝ }
-{
-    let mut i = 0;
-    while i < ids.len() {
-        ids[i] = 0;
         i += 1;
     }
 }
@@ -175,7 +150,7 @@ pub fn renew(
         return used;
     }
     store(list, slots, order, count);
-    clear(ids);
+    edit_index::clear(ids);
     load(list, count, slots, order, ids);
     count
 }

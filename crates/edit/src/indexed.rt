@@ -71,7 +71,7 @@ fn put_indexed<'a>(
             used,
         };
     }
-    if index::slot_of(ids, event.id) != 0 {
+    if edit_index::slot_of(ids, event.id) != 0 {
         return Reached {
             answer: EditAnswer::WrongId(at),
             count,
@@ -120,7 +120,7 @@ fn withdraw_indexed(
         (modelCommand at (Command.Withdraw id)))
         r (now (list .exit)) (now (slots .entry)) (now (order .exit)) (now (ids .exit))) ⌝ }
 {
-    let number = index::slot_of(ids, id);
+    let number = edit_index::slot_of(ids, id);
     if number == 0 {
         return Reached {
             answer: EditAnswer::WrongId(at),
@@ -166,7 +166,7 @@ fn move_indexed(
             used,
         };
     }
-    let number = index::slot_of(ids, id);
+    let number = edit_index::slot_of(ids, id);
     if number == 0 {
         return Reached {
             answer: EditAnswer::WrongId(at),

@@ -1,6 +1,34 @@
-// The order of an index of a list's records: slots put in and taken out in place. What an index is: specs/Index.antt.
+// An index of a list's records (what it is: specs/Index.antt): slots by their ids, and the order, in which slots are put
+// in and taken out in place.
 ghost use mathlib.Core.Path.{_≡_};
+ghost use lib.ListN.{length, getD, replicate};
 ghost use Rattle.edit_index.specs.Order.{withSlot, withoutSlot};
+
+// A slot as a number.
+pub fn wide(slot: u16) -> usize
+    ensures { λ r. ⌜ r ≡ slot ⌝ }
+{
+    slot as usize
+}
+
+// One more than the slot of the record that has the id; 0 if none has it.
+pub fn slot_of(ids: &[u16], id: u32) -> usize
+    ensures { λ r. ⌜ r ≡ getD (now (ids .entry)) id 0 ⌝ }
+{
+    let i = id as usize;
+    if i < ids.len() { wide(ids[i]) } else { 0 }
+}
+
+// Sets all ids to 0.
+pub fn clear(ids: &mut [u16])
+    ensures { λ _. ⌜ now (ids .exit) ≡ replicate (length (now (ids .entry))) 0 ⌝ }
+{
+    let mut i = 0;
+    while i < ids.len() {
+        ids[i] = 0;
+        i += 1;
+    }
+}
 
 // Puts a slot in place `place` of `count` slots, later ones moving up. Where there is no such place or no room, all
 // stays.

@@ -2,8 +2,8 @@
 use mathlib.Core.Path.{sym}
 use borrow.Author.Needs.{needs}
 use lib.ListN.{List·getD-eq-default}
-use Rattle.edit.proofs.index.slot_of.Statement.{statement}
-use Rattle.edit.proofs.index.slot_of.Tie as tie
+use Rattle.edit_index.proofs.slot_of.Statement.{statement}
+use Rattle.edit_index.proofs.slot_of.Tie as tie
 
 mul-wide : tie.Need-mul-wide
 mul-wide c = search needs

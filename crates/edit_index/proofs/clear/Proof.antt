@@ -7,8 +7,8 @@ use denote.Ref.{now}
 use borrow.Author.Fill.{fill-more}
 use lib.ListN.{length, drop, set, replicate, length-set}
 use lib.Seq.{drop-length}
-use Rattle.edit.proofs.index.clear.Statement.{statement}
-use Rattle.edit.proofs.index.clear.Tie as tie
+use Rattle.edit_index.proofs.clear.Statement.{statement}
+use Rattle.edit_index.proofs.clear.Tie as tie
 
 abbrev Inv-loop : tie.InvT-loop
 Inv-loop ids₀ i₀ ids i = (i ≤ length ids₀) × (ids ≡ replicate i 0 ++ drop i ids₀) × (length ids ≡ length ids₀)
