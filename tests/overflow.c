@@ -2,76 +2,21 @@
  * each stack lie a page that nobody may touch and, below that, memory that must stay as it is. A call that runs out of
  * stack is stopped at the first address that it touches in that page, and has written nothing below. */
 #define _GNU_SOURCE
-#include "chirdaluko.h"
-
 #include <signal.h>
-#include <stdio.h>
-#include <stdlib.h>
-#include <string.h>
 #include <sys/mman.h>
 #include <sys/wait.h>
 #include <ucontext.h>
 #include <unistd.h>
 
+/* Enough for the script to be halved. */
+enum { MOVES = 300000 };
+#include "calls.h"
+
 enum { PAGE = 4096, STEP = 1024, BELOW = 1 << 20, STACK = 512 << 10, UNTOUCHED = 0xA5 };
 enum { RETURNED = 0, STOPPED = 40, ELSEWHERE = 41, OVERWRITTEN = 42 };
-enum { BASE_DAY = 49273, CHAIN = 2000, MOVES = 300000 };
-
-static uint32_t list[EIT_NUMBERS_MAX];
-static uint32_t records[EIT_NUMBERS_MAX];
-static uint8_t pool[CHAIN];
-static uint8_t script[7 * MOVES];
-static uint8_t file[EIT_FILE_MAX];
-static size_t file_length;
-static uint8_t plan[EIT_SEGMENTS];
 
 /* The memory below, the page, and the stack, which ends where the memory ends. */
 static uint8_t *memory;
-
-/* 2,048 events, sixteen in a segment, two in a section; a script, long enough to be halved, that moves each to where it
- * is. */
-static void fill(void) {
-    for (size_t place = 0; place < CHAIN; place += 250) {
-        pool[place] = 0x4D;
-        pool[place + 1] = 248;
-    }
-    for (uint32_t place = 0; place < EIT_EVENTS_MAX; place++) {
-        uint32_t record[EIT_RECORD] = {place, place * EIT_SEGMENT_SECONDS / 16, 60, 0, 0, CHAIN};
-        memcpy(list + EIT_RECORD * place, record, sizeof record);
-    }
-    for (size_t edit = 0; edit < MOVES; edit++) {
-        uint32_t id = edit % EIT_EVENTS_MAX;
-        uint32_t start = list[EIT_RECORD * id + 1];
-        uint8_t move[7] = {EIT_MOVE, id >> 8, id & 255, start >> 24, start >> 16 & 255, start >> 8 & 255, start & 255};
-        memcpy(script + sizeof move * edit, move, sizeof move);
-    }
-}
-
-static void edit(void) {
-    eit_edit(list, EIT_NUMBERS_MAX, EIT_EVENTS_MAX, pool, CHAIN, pool, 0, script, sizeof script);
-}
-
-static void plan_list(void) {
-    eit_plan(list, EIT_NUMBERS_MAX, EIT_EVENTS_MAX, pool, CHAIN, pool, 0, plan);
-}
-
-static void build(void) {
-    file_length = eit_build(list, EIT_NUMBERS_MAX, EIT_EVENTS_MAX, pool, CHAIN, pool, 0, BASE_DAY, 1, 2, 3, 0, file,
-                            sizeof file)
-                      .value;
-}
-
-static void check(void) {
-    eit_check(file, file_length, BASE_DAY);
-}
-
-static void read_file(void) {
-    eit_read(file, file_length, BASE_DAY, records, EIT_NUMBERS_MAX);
-}
-
-static void crc(void) {
-    eit_crc32(file, file_length);
-}
 
 static void stopped(int signal, siginfo_t *info, void *context) {
     (void)signal, (void)context;
