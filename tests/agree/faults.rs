@@ -1,167 +1,16 @@
 //! The self-check: the other implementation with a fault stands in for the library, and the comparison must show it.
 
 use crate::crcs::{self, Crc};
-use crate::edits::{Comparison, Edit};
+use crate::edit_faults;
+use crate::edits::Comparison;
 use crate::guarded;
-use crate::other::{self, Answer};
-
-const EDITS: [(&str, Edit); 15] = [
-    ("carries out just the first command", |list, count, day, series, script| {
-        let end = next(script, 0).min(script.len());
-        other::edit(list, count, day, series, &script[..end])
-    }),
-    ("carries out nothing", |list, count, day, series, script| {
-        let answer = other::edit(&mut list.to_vec(), count, day, series, script);
-        if answer.number == 0 {
-            Answer { number: 0, value: count, count }
-        } else {
-            answer
-        }
-    }),
-    ("compares ids with the neighbour alone", |list, count, day, series, script| {
-        let answer = other::edit(list, count, day, series, script);
-        let records: Vec<_> = list.chunks_exact(6).take(count).collect();
-        let sound = |two: &[&[u32]]| other::edit(&mut two.concat(), 2, day, series, &[]).number == 0;
-        if answer.number == 12 && count == records.len() && count > 1 && records.windows(2).all(sound) {
-            Answer { number: 0, value: count, count }
-        } else {
-            answer
-        }
-    }),
-    ("names the offset one command late", |list, count, day, series, script| {
-        let answer = other::edit(list, count, day, series, script);
-        if (3..=9).contains(&answer.number) {
-            Answer { value: next(script, answer.value), ..answer }
-        } else {
-            answer
-        }
-    }),
-    ("keeps what a freed record held", |list, count, day, series, script| {
-        let before = list.to_vec();
-        let answer = other::edit(list, count, day, series, script);
-        if answer.count < count && answer.number != 12 {
-            list[6 * answer.count..].copy_from_slice(&before[6 * answer.count..]);
-        }
-        answer
-    }),
-    (
-        "clears the record behind the list, as if it had taken back what UNDO strikes",
-        |list, count, day, series, script| {
-            let answer = other::edit(list, count, day, series, script);
-            let undone = first_undo(script) < script.len();
-            if answer.number == 0 && undone && list.len() >= 6 * (answer.count + 1) {
-                list[6 * answer.count..][..6].fill(0);
-            }
-            answer
-        },
-    ),
-    ("carries out an edit before UNDO strikes it", |list, count, day, series, script| {
-        let answer = other::edit(&mut list.to_vec(), count, day, series, &script[..first_undo(script)]);
-        if (5..=9).contains(&answer.number) {
-            answer
-        } else {
-            other::edit(list, count, day, series, script)
-        }
-    }),
-    ("says 4 where a broken form comes later", |list, count, day, series, script| {
-        let answer = other::edit(list, count, day, series, script);
-        let before = &script[..if answer.number == 3 { answer.value } else { 0 }];
-        let earlier = other::edit(&mut list.to_vec(), count, day, series, before);
-        if earlier.number == 4 {
-            earlier
-        } else {
-            answer
-        }
-    }),
-    ("takes the buffer alone for the limit", |list, count, day, series, script| {
-        let answer = other::edit(list, count, day, series, script);
-        if answer.number == 8 && answer.count < list.len() / 6 {
-            Answer { number: 0, value: answer.count + 1, count: answer.count + 1 }
-        } else {
-            answer
-        }
-    }),
-    ("looks for the id before the part", |list, count, day, series, script| {
-        let answer = other::edit(list, count, day, series, script);
-        let held = |id: &[u8]| list.chunks(6).take(answer.count).any(|record| record[0].to_be_bytes()[2..] == *id);
-        if answer.number == 9 && held(&script[answer.value + 1..][..2]) {
-            Answer { number: 6, ..answer }
-        } else {
-            answer
-        }
-    }),
-    ("takes back the edits before a refused one", |list, count, day, series, script| {
-        let before = list.to_vec();
-        let answer = other::edit(list, count, day, series, script);
-        if (5..=9).contains(&answer.number) {
-            list.copy_from_slice(&before);
-        }
-        answer
-    }),
-    ("names the offset in sixteen bits", |list, count, day, series, script| {
-        let answer = other::edit(list, count, day, series, script);
-        if (3..=9).contains(&answer.number) {
-            Answer { value: answer.value & 0xFFFF, ..answer }
-        } else {
-            answer
-        }
-    }),
-    ("drops the edits behind offset 2^20", |list, count, day, series, script| {
-        let answer = other::edit(&mut list.to_vec(), count, day, series, script);
-        let end = first(script, |offset, _| offset > 1 << 20);
-        let kept = if answer.number == 0 { &script[..end] } else { script };
-        other::edit(list, count, day, series, kept)
-    }),
-    ("strikes twice where 30,000 edits are unstruck", |list, count, day, series, script| {
-        let mut unstruck = 0;
-        let twice = first(script, |_, command| {
-            let is_undo = command == 0x04;
-            unstruck += if is_undo { -1 } else { 1 };
-            is_undo && unstruck == 29_999
-        });
-        let struck_again = if twice < script.len() { &[0x04][..] } else { &[] };
-        other::edit(list, count, day, series, &[&script[..twice], struck_again, &script[twice..]].concat())
-    }),
-    ("loses bit 20 of an id in a list", |list, count, day, series, script| {
-        let mut lost = list.to_vec();
-        lost.iter_mut().step_by(6).for_each(|id| *id &= !(1 << 20));
-        let answer = other::edit(&mut lost, count, day, series, script);
-        if answer.number != 12 {
-            list.copy_from_slice(&lost);
-        }
-        answer
-    }),
-];
+use crate::list_faults;
+use crate::other;
 
 const CRCS: [(&str, Crc); 2] = [
     ("inverts at the end", |bytes| !other::crc32(bytes)),
     ("reads 256 bytes at most", |bytes| other::crc32(&bytes[..bytes.len().min(256)])),
 ];
-
-/// The offset behind the command at this offset.
-fn next(script: &[u8], offset: usize) -> usize {
-    let width = match script.get(offset) {
-        Some(0x01) => 18,
-        Some(0x02) => 3,
-        Some(0x03) => 7,
-        _ => 1,
-    };
-    offset + width
-}
-
-/// The offset of the first command of which this holds, by its offset and its byte, or the script's length.
-fn first(script: &[u8], mut holds: impl FnMut(usize, u8) -> bool) -> usize {
-    let mut offset = 0;
-    while offset < script.len() && !holds(offset, script[offset]) {
-        offset = next(script, offset);
-    }
-    offset.min(script.len())
-}
-
-/// The offset of the first UNDO, or the script's length.
-fn first_undo(script: &[u8]) -> usize {
-    first(script, |_, command| command == 0x04)
-}
 
 /// The faults tried, or the one that the comparison did not show. Without a fault nothing shows.
 pub fn run(groups: impl Fn(&mut Comparison) -> Result<(), String>) -> Result<Vec<String>, String> {
@@ -169,7 +18,7 @@ pub fn run(groups: impl Fn(&mut Comparison) -> Result<(), String>) -> Result<Vec
     crcs::run(other::crc32)?;
     crcs::run(other::crc32_by_table)?;
     let mut shown = Vec::new();
-    for (fault, edit) in EDITS {
+    for (fault, edit) in edit_faults::ALL.into_iter().chain(list_faults::ALL) {
         shown.push(shows("Edit", fault, groups(&mut Comparison::new(edit)))?);
     }
     for (fault, crc) in CRCS {

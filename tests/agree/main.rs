@@ -8,6 +8,7 @@ mod chains;
 #[path = "../../bindings/rust/src/lib.rs"]
 mod chirdaluko;
 mod crcs;
+mod edit_faults;
 mod edits;
 mod faults;
 mod forms;
@@ -18,6 +19,7 @@ mod held;
 mod library;
 mod limits;
 mod lineup;
+mod list_faults;
 mod lists;
 mod long;
 mod mixed;
@@ -32,6 +34,7 @@ mod soundness;
 mod stock;
 mod tally;
 mod undo;
+mod unsound;
 
 use edits::Comparison;
 use std::process::ExitCode;

@@ -3,10 +3,11 @@
 use crate::breaking;
 use crate::edits::Comparison;
 use crate::held::Held;
-use crate::lists::{unsound, List};
+use crate::lists::List;
 use crate::pools::Pools;
 use crate::random::Random;
 use crate::scripts::{bytes, unstruck, Command};
+use crate::unsound::unsound;
 
 /// Edit's order per edit.
 const ORDER: [u32; 5] = [5, 9, 6, 7, 8];

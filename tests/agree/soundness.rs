@@ -2,10 +2,11 @@
 
 use crate::edits::Comparison;
 use crate::held::Held;
-use crate::lists::{at_limits, unsound, List, EVENTS_MAX, ID, START};
+use crate::lists::{at_limits, List, EVENTS_MAX, ID, START};
 use crate::pools::Pools;
 use crate::random::Random;
 use crate::scripts::bytes;
+use crate::unsound::unsound;
 
 pub fn run(comparison: &mut Comparison) -> Result<(), String> {
     let random = &mut comparison.groups.begin("soundness");

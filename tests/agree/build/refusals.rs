@@ -5,9 +5,10 @@ use super::comparison::{need, Comparison, ORDER};
 use super::request::{Request, BASE_DAY_MAX, VERSION_MAX};
 use super::segments::{nearby, with_neighbours};
 use crate::lineup::Lineup;
-use crate::lists::{at_limits, rising, unsound, List, EVENTS_MAX};
+use crate::lists::{at_limits, rising, List, EVENTS_MAX};
 use crate::pools::Pools;
 use crate::random::Random;
+use crate::unsound::unsound;
 
 pub fn run(comparison: &mut Comparison) -> Result<(), String> {
     let random = &mut comparison.groups.begin("refusals");

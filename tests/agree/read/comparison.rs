@@ -1,19 +1,17 @@
 //! One case of Read: the library, or what stands in for it, is compared with the other implementation.
 
 use super::file::File;
+use super::order::precedences;
 use crate::build::BuildCall;
 use crate::groups::Groups;
 use crate::guarded::Guarded;
 use crate::lists::{EVENTS_MAX, NUMBERS};
 use crate::other::{self, Reading};
 use crate::random::Random;
-use crate::tally::{in_order, Precedence, Tally};
+use crate::tally::Tally;
 
 const FIRST_SEED: u64 = 300_668;
 
-/// Read's order of checks in a section, and at the end.
-pub const SECTION_ORDER: [u32; 6] = [20, 21, 22, 23, 24, 26];
-pub const END_ORDER: [u32; 2] = [25, 27];
 const ANSWERS: [u32; 10] = [0, 1, 20, 21, 22, 23, 24, 25, 26, 27];
 
 pub const RECORDS_MAX: usize = NUMBERS * EVENTS_MAX;
@@ -169,19 +167,6 @@ impl Comparison<'_> {
             file.len(),
         )
     }
-}
-
-/// Every precedence of 01, "When a call says no": Read's order in a section, of two sections, at the end, and over the
-/// call.
-fn precedences() -> Vec<Precedence> {
-    let mut all = in_order("section", &SECTION_ORDER);
-    for first in SECTION_ORDER {
-        all.extend(SECTION_ORDER.map(|second| ("earlier section", first, second)));
-        all.extend(END_ORDER.map(|second| ("end", first, second)));
-    }
-    all.extend(in_order("end", &END_ORDER));
-    all.extend(SECTION_ORDER.iter().chain(&END_ORDER).map(|second| ("call", 1, *second)));
-    all
 }
 
 /// Numbers that differ from their neighbours and from one case to the next, so that one that is written shows.

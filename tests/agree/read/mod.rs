@@ -17,6 +17,7 @@ mod large;
 mod layout;
 mod noise;
 mod numbering;
+mod order;
 mod precedence;
 mod record_faults;
 mod rivals;

@@ -1,6 +1,6 @@
 //! Files that ask for several refusals: 01, "Checks run in this order".
 
-use super::comparison::{Comparison, END_ORDER, SECTION_ORDER};
+use super::comparison::Comparison;
 use super::ends::chunked;
 use super::event_fields::{put, DURATION, START, STATUS};
 use super::file::{
@@ -9,6 +9,7 @@ use super::file::{
 };
 use super::given::Given;
 use super::layout::Layout;
+use super::order::{END_ORDER, SECTION_ORDER};
 use crate::build::Section;
 use crate::lists::EVENTS_MAX;
 use crate::random::Random;

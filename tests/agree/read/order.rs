@@ -1,0 +1,18 @@
+//! Read's order of checks, and the precedences that must come up: 01, "When a call says no".
+
+use crate::tally::{in_order, Precedence};
+
+pub const SECTION_ORDER: [u32; 6] = [20, 21, 22, 23, 24, 26];
+pub const END_ORDER: [u32; 2] = [25, 27];
+
+/// Read's order in a section, of two sections, at the end, and over the call.
+pub fn precedences() -> Vec<Precedence> {
+    let mut all = in_order("section", &SECTION_ORDER);
+    for first in SECTION_ORDER {
+        all.extend(SECTION_ORDER.map(|second| ("earlier section", first, second)));
+        all.extend(END_ORDER.map(|second| ("end", first, second)));
+    }
+    all.extend(in_order("end", &END_ORDER));
+    all.extend(SECTION_ORDER.iter().chain(&END_ORDER).map(|second| ("call", 1, *second)));
+    all
+}
