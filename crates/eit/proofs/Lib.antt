@@ -12,7 +12,7 @@ pub mod TimeLaws
 pub mod Xor
 -- CRC_32: its own four bytes at the end of a section bring it to 0, and no others do
 pub mod Crc
--- chains are the bytes of descriptors
+-- chains are the bytes of descriptors with allowed tags
 pub mod Chain
 -- the chosen part of a pool, inside it and outside
 pub mod Pools

@@ -1,10 +1,12 @@
--- Soundness and events computed from raw numbers (01, "Event record and sound list"): each limit at its two sides, each
--- fault, and the order of a record's six numbers. The value is in proofs/Examples.antt. Assumes nothing.
+-- Chains, soundness and events computed from raw numbers (01, "Event record and sound list"; 02, W-202): each limit at
+-- its two sides, each fault, and the order of a record's six numbers. The value is in proofs/Examples.antt. Assumes
+-- nothing.
 use Prim.Native.Nat.{ℕ}
 use mathlib.Core.Path.{_≡_}
 use mathlib.Core.Bool.{Bool, true, false}
 use mathlib.Core.List.{List, [], _∷_}
 use lib.ListN.{replicate}
+use Rattle.eit.specs.Chain.{isChain}
 use Rattle.eit.specs.Sizes.{broadcast}
 use Rattle.eit.specs.Records.{EventList, lentList, recordsOf}
 use Rattle.eit.specs.Pools.{Pools, lentPools, poolOf}
@@ -41,6 +43,18 @@ pub record Examples : Type 0 where
   -- a chain that no section can hold: 2,034 descriptors without a byte
   pub long-chain :
       sound broadcast (lentPools (replicate 4_068 0) []) (lentList (0 ∷ 0 ∷ 1 ∷ 0 ∷ 0 ∷ 4_068 ∷ []) 1) ≡ true
+  -- tag 0xFF in the first, the second and the last descriptor; 0xFE; 0xFF inside a descriptor, and as its length
+  pub tag-first : isChain (0xFF ∷ 0 ∷ 0x4D ∷ 0 ∷ []) ≡ false
+  pub tag-second : isChain (0x4D ∷ 1 ∷ 9 ∷ 0xFF ∷ 0 ∷ 0x4E ∷ 0 ∷ []) ≡ false
+  pub tag-last : isChain (0x4D ∷ 1 ∷ 9 ∷ 0x4E ∷ 0 ∷ 0xFF ∷ 2 ∷ 9 ∷ 9 ∷ []) ≡ false
+  pub tag-below : isChain (0x4D ∷ 1 ∷ 9 ∷ 0xFE ∷ 0 ∷ 0x4E ∷ 0 ∷ []) ≡ true
+  pub byte-inside : isChain (0x4D ∷ 2 ∷ 0xFF ∷ 0xFF ∷ 0x4E ∷ 0 ∷ []) ≡ true
+  pub byte-as-length : isChain (0x4D ∷ 0xFF ∷ replicate 255 0xFF) ≡ true
+  -- in a list: the part with the tag, and the descriptor before it alone
+  pub tag-unsound :
+      sound broadcast (lentPools (0x4D ∷ 1 ∷ 9 ∷ 0xFF ∷ 0 ∷ []) []) (lentList (0 ∷ 0 ∷ 1 ∷ 0 ∷ 0 ∷ 5 ∷ []) 1) ≡ false
+  pub tag-outside :
+      sound broadcast (lentPools (0x4D ∷ 1 ∷ 9 ∷ 0xFF ∷ 0 ∷ []) []) (lentList (0 ∷ 0 ∷ 1 ∷ 0 ∷ 0 ∷ 3 ∷ []) 1) ≡ true
   pub overlap : isSound 2 (1 ∷ 0 ∷ 60 ∷ 0 ∷ 0 ∷ 0 ∷ 2 ∷ 1 ∷ 60 ∷ 0 ∷ 0 ∷ 0 ∷ []) ≡ true
   pub same-start : isSound 2 (1 ∷ 5 ∷ 60 ∷ 0 ∷ 0 ∷ 0 ∷ 2 ∷ 5 ∷ 60 ∷ 0 ∷ 0 ∷ 0 ∷ []) ≡ false
   pub same-id : isSound 2 (1 ∷ 0 ∷ 60 ∷ 0 ∷ 0 ∷ 0 ∷ 1 ∷ 5 ∷ 60 ∷ 0 ∷ 0 ∷ 0 ∷ []) ≡ false

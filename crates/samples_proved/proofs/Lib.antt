@@ -3,5 +3,7 @@
 pub mod Samples
 -- broadcast's limits, computed
 pub mod Limits
+-- descriptor tag 0xFF, computed
+pub mod ForbiddenTag
 -- what the demands speak of is there
 pub mod Carried

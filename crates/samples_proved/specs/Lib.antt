@@ -3,3 +3,4 @@ pub mod SampleLists  -- long chains, and lists that are computed with
 pub mod SampleCalls  -- and what is asked of them
 pub mod Samples  -- the samples marked P
 pub mod Limits  -- Build and Plan at broadcast's limits
+pub mod ForbiddenTag  -- what each call says of descriptor tag 0xFF

@@ -1,4 +1,4 @@
--- What specs/Samples.antt and specs/Limits.antt ask of Build, Plan and Edit at broadcast's sizes. Assumes nothing.
+-- What the tables of this crate ask of Build, Plan and Edit at broadcast's sizes. Assumes nothing.
 use Prim.Native.Nat.{ℕ, _+_, _*_}
 use mathlib.Core.List.{List, [], map}
 use lib.ListN.{length, take, drop}

@@ -1,6 +1,6 @@
--- Short files in raw bytes, for specs/Examples.antt and for the tables of crate samples_refusals. Where nothing else is
--- said, service, stream and network are 1, 2 and 3, the version is 0, and the base day is 49,273 (0xC079).
--- Assumes nothing.
+-- Short files in raw bytes, for specs/Examples.antt and for the tables of crates samples_refusals and samples_proved.
+-- Where nothing else is said, service, stream and network are 1, 2 and 3, the version is 0, and the base day is 49,273
+-- (0xC079). Assumes nothing.
 use Prim.Native.Nat.{ℕ, zero, suc, _+_}
 use mathlib.Core.List.{List, [], _∷_, _++_}
 use lib.ListN.{length}

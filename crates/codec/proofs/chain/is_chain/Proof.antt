@@ -5,7 +5,7 @@ use Prim.Native.Nat.{_+_, _≤_, _-_}
 use native.Mathlib.Omega.{arith}
 use lib.ListN.{length, drop}
 use Rattle.eit.specs.Chain.{isChain}
-use Rattle.codec.proofs.ChainSteps.{chain-end, chain-short, chain-runs-out, chain-goes-on}
+use Rattle.codec.proofs.ChainSteps.{chain-end, chain-short, chain-forbidden, chain-runs-out, chain-goes-on}
 use Rattle.codec.proofs.chain.is_chain.Statement.{statement}
 use Rattle.codec.proofs.chain.is_chain.Tie as tie
 
@@ -26,6 +26,14 @@ returns c =
     let loop = c .before .before .loop in
     sym (loop .inv .1 ∙ chain-short _ (loop .at) (omega arith) (omega arith))
 
+shared-slice-read-if2 : tie.Need-shared-slice-read-if2 Inv-loop μ-loop
+shared-slice-read-if2 c = omega arith
+
+returns-2 : tie.Need-returns-2 Inv-loop μ-loop
+returns-2 c =
+    let loop = c .before .before .before .before .loop in
+    sym (loop .inv .1 ∙ chain-forbidden _ (loop .at) (omega arith) (c .if2 .taken))
+
 add-n : tie.Need-add-n Inv-loop μ-loop
 add-n c = omega arith
 
@@ -33,17 +41,20 @@ shared-slice-read-n : tie.Need-shared-slice-read-n Inv-loop μ-loop
 shared-slice-read-n c = omega arith
 
 cast-n : tie.Need-cast-n Inv-loop μ-loop
-cast-n c = omega (arith, c .shared-slice-known .given (c .before .before .before .loop .at + 1))
+cast-n c =
+    let tag = c .before in
+    omega (arith, c .shared-slice-known2 .given (tag .before .before .before .before .loop .at + 1))
 
 add-at : tie.Need-add-at Inv-loop μ-loop
 add-at c = omega arith
 
-sub-if2 : tie.Need-sub-if2 Inv-loop μ-loop
-sub-if2 c = omega arith
+sub-if3 : tie.Need-sub-if3 Inv-loop μ-loop
+sub-if3 c = omega arith
 
-returns-2 : tie.Need-returns-2 Inv-loop μ-loop
-returns-2 c =
-    let loop = c .before .before .before .before .loop in
+returns-3 : tie.Need-returns-3 Inv-loop μ-loop
+returns-3 c =
+    let tag = c .before .before in
+    let loop = tag .before .before .before .before .loop in
     sym (loop .inv .1 ∙ chain-runs-out _ (loop .at) (omega arith) (omega arith))
 
 add-at-2 : tie.Need-add-at-2 Inv-loop μ-loop
@@ -54,11 +65,12 @@ loop-less c = omega arith
 
 loop-again : tie.Need-loop-again Inv-loop μ-loop
 loop-again c =
-    let loop = c .before .before .before .before .loop in
-    (omega arith, loop .inv .1 ∙ chain-goes-on _ (loop .at) (omega arith) (omega arith))
+    let tag = c .before .before in
+    let loop = tag .before .before .before .before .loop in
+    (omega arith, loop .inv .1 ∙ chain-goes-on _ (loop .at) (omega arith) (tag .if2 .left) (omega arith))
 
-returns-3 : tie.Need-returns-3 Inv-loop μ-loop
-returns-3 c = sym (c .before .loop .inv .1 ∙ chain-end _ (c .before .loop .at) (omega arith))
+returns-4 : tie.Need-returns-4 Inv-loop μ-loop
+returns-4 c = sym (c .before .loop .inv .1 ∙ chain-end _ (c .before .loop .at) (omega arith))
 
 pub is-chain-spec : {M : Type 1} → statement M
 is-chain-spec =
@@ -69,13 +81,15 @@ is-chain-spec =
     loop-holds
     sub-if1
     returns
+    shared-slice-read-if2
+    returns-2
     add-n
     shared-slice-read-n
     cast-n
     add-at
-    sub-if2
-    returns-2
+    sub-if3
+    returns-3
     add-at-2
     loop-less
     loop-again
-    returns-3)
+    returns-4)
