@@ -1,13 +1,25 @@
 //! Makers of edits that break chosen rules at once. A rule is named by the number of its refusal.
 
 use crate::held::Held;
-use crate::lists::{high_bit, record, DURATION, DURATION_MAX, ID, MARKS, OFFSET, START, START_END};
+use crate::lists::{high_bit, record, DURATION, DURATION_MAX, ID, MARKS, NUMBERS, OFFSET, START, START_END};
 use crate::pools::Pools;
 use crate::random::Random;
 use crate::scripts::Command;
 
 /// PUT that breaks these of 5, 9, 6 and 7, and no other; whether it breaks 8 lies with the list.
 pub fn put(random: &mut Random, pools: &Pools, held: &Held, broken: &[u32]) -> Command {
+    Command::Put(broken_record(random, pools, held, broken))
+}
+
+/// The same, and 9 is broken by the forbidden tag alone, which both pools have.
+pub fn put_tagged(random: &mut Random, pools: &Pools, held: &Held, broken: &[u32]) -> Command {
+    let mut record = broken_record(random, pools, held, broken);
+    let parts = pools.of_marks(record[MARKS]).with_forbidden_tag(random);
+    record[OFFSET..].copy_from_slice(&random.pick(&parts));
+    Command::Put(record)
+}
+
+fn broken_record(random: &mut Random, pools: &Pools, held: &Held, broken: &[u32]) -> [u32; NUMBERS] {
     let mut record = record(random, pools);
     record[ID] = if broken.contains(&6) { held.event(random).0 } else { held.new_id(random) };
     record[START] = if broken.contains(&7) { held.event(random).1 } else { held.new_start(random) };
@@ -31,7 +43,7 @@ pub fn put(random: &mut Random, pools: &Pools, held: &Held, broken: &[u32]) -> C
         let (field, value) = random.pick(&values[..usable]);
         record[field] = value;
     }
-    Command::Put(record)
+    record
 }
 
 /// MOVE that breaks these of 5, 6 and 7, and no other. 5 and 7 exclude each other.

@@ -6,6 +6,7 @@ use crate::lists::List;
 use crate::pools::{Pool, Pools};
 use crate::random::Random;
 use crate::scripts::{bytes, Command};
+use crate::stock::FORBIDDEN_TAG;
 
 pub fn run(comparison: &mut Comparison) -> Result<(), String> {
     let random = &mut comparison.groups.begin("chains");
@@ -25,7 +26,8 @@ pub fn run(comparison: &mut Comparison) -> Result<(), String> {
     far(comparison, random)
 }
 
-/// Parts of a pool of this length that are longer than PUT's length can be, in a list: whole, and broken at their end.
+/// Parts of a pool of this length that are longer than PUT's length can be, in a list: whole, broken at their end, and
+/// with the forbidden tag.
 fn beyond_put(comparison: &mut Comparison, random: &mut Random, length: usize) -> Result<(), String> {
     let chain = Pool::of_length(random, length);
     let descriptors = chain.descriptors();
@@ -33,8 +35,10 @@ fn beyond_put(comparison: &mut Comparison, random: &mut Random, length: usize) -
     for out in [0, 2, 8, 32].repeat(5) {
         let [first, end] = [random.below(out + 1), descriptors - random.below(out + 1)];
         let broken = chain.with_length_off(end - 1);
-        let parts = [(&chain, 0, (0, 1)), (&chain, -1, (12, 0)), (&chain, 1, (12, 0)), (&broken, 0, (12, 0))];
-        for (pool, more, answer) in parts {
+        let tagged = chain.with_tag(first + random.below(end - first), FORBIDDEN_TAG);
+        let no_chains = [(&chain, -1), (&chain, 1), (&broken, 0), (&tagged, 0)];
+        let no_chains = no_chains.map(|(pool, more)| (pool, more, (12, 0)));
+        for (pool, more, answer) in [(&chain, 0, (0, 1))].into_iter().chain(no_chains) {
             let [offset, length] = pool.between(first, end, more);
             let marks = random.pick(&[1, 6]);
             let pools = chosen(random, marks, pool.clone());

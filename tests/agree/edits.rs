@@ -10,6 +10,12 @@ use crate::tally::{in_order, Precedence, Tally};
 
 const FIRST_SEED: u64 = 300_468;
 
+/// Edit's order of checks per edit.
+pub const ORDER: [u32; 5] = [5, 9, 6, 7, 8];
+
+/// PUT where 9 is for the forbidden tag.
+pub const PUT_TAGGED: &str = "PUT, tag 0xFF";
+
 const ANSWERS: [u32; 9] = [0, 3, 4, 5, 6, 7, 8, 9, 12];
 
 /// What stands beside the buffer: a number that is nowhere in range, or zeros, which a list that is read too far takes
@@ -103,7 +109,9 @@ impl Comparison {
 /// Every precedence of 01, "When a call says no": Edit's order over the call, and per edit.
 fn precedences() -> Vec<Precedence> {
     let mut all = vec![("MOVE", 5, 6), ("MOVE", 6, 7)];
-    all.extend(in_order("PUT", &[5, 9, 6, 7, 8]));
+    all.extend(in_order("PUT", &ORDER));
+    let tagged = in_order(PUT_TAGGED, &ORDER);
+    all.extend(tagged.into_iter().filter(|(_, first, second)| *first == 9 || *second == 9));
     // Of two edits' refusals the earlier edit's comes, so the call orders 12, 3 and 4 alone.
     let call = in_order("call", &[12, 3, 4, 5, 9, 6, 7, 8]);
     all.extend(call.into_iter().filter(|(_, first, _)| [12, 3, 4].contains(first)));

@@ -3,7 +3,7 @@
 use crate::lists::{new_id, rising, List, DURATION_MAX, NUMBERS};
 use crate::pools::Pools;
 use crate::random::Random;
-use crate::stock::Stock;
+use crate::stock::{Stock, FORBIDDEN_TAG};
 use std::collections::HashSet;
 
 pub const SEGMENT_SECONDS: u32 = 10_800;
@@ -46,8 +46,12 @@ impl Lineup {
         }
     }
 
-    /// The pools, and the list in a buffer with a few numbers behind it.
+    /// The pools, and the list in a buffer with a few numbers behind it. Behind the chains of each pool stands a
+    /// descriptor with the forbidden tag.
     pub fn lend(mut self, random: &mut Random) -> (Pools, List) {
+        for pool in [&mut self.day, &mut self.series] {
+            pool.descriptor(FORBIDDEN_TAG, [].into_iter());
+        }
         let count = self.numbers.len() / NUMBERS;
         let numbers = self.numbers.len() + random.below(2 * NUMBERS);
         self.numbers.resize_with(numbers, || random.number());

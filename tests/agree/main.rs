@@ -32,9 +32,12 @@ mod read;
 mod scripts;
 mod soundness;
 mod stock;
+mod tagged;
+mod tags;
 mod tally;
 mod undo;
 mod unsound;
+mod wrong_chains;
 
 use edits::Comparison;
 use std::process::ExitCode;
@@ -95,6 +98,7 @@ fn all_groups(comparison: &mut Comparison) -> Result<(), String> {
     undo::run(comparison)?;
     forms::run(comparison)?;
     precedence::run(comparison)?;
+    tags::run(comparison)?;
     limits::run(comparison)?;
     chains::run(comparison)?;
     soundness::run(comparison)?;

@@ -1,16 +1,13 @@
 //! Which refusal comes where more than one could: 01, "Checks run in this order". Edits before the refused one stay.
 
 use crate::breaking;
-use crate::edits::Comparison;
+use crate::edits::{Comparison, ORDER, PUT_TAGGED};
 use crate::held::Held;
 use crate::lists::List;
 use crate::pools::Pools;
 use crate::random::Random;
 use crate::scripts::{bytes, unstruck, Command};
 use crate::unsound::unsound;
-
-/// Edit's order per edit.
-const ORDER: [u32; 5] = [5, 9, 6, 7, 8];
 
 pub fn run(comparison: &mut Comparison) -> Result<(), String> {
     let random = &mut comparison.groups.begin("precedence");
@@ -27,6 +24,10 @@ pub fn run(comparison: &mut Comparison) -> Result<(), String> {
             withdraw(comparison, random, &pools)?;
         }
     }
+    let pools = Pools::of_lengths(random, 3_000, 2_000);
+    for broken in [&[9][..], &[5, 9], &[9, 6], &[9, 7], &[9, 8], &[9, 6, 7, 8]].repeat(24) {
+        put_tagged(comparison, random, &pools, broken)?;
+    }
     Ok(())
 }
 
@@ -34,6 +35,12 @@ fn put(comparison: &mut Comparison, random: &mut Random, pools: &Pools, broken: 
     let ready = Ready::new(random, pools, broken.contains(&8));
     let edit = breaking::put(random, pools, &ready.held, broken);
     ready.refuse(comparison, random, pools, "PUT", edit, broken)
+}
+
+fn put_tagged(comparison: &mut Comparison, random: &mut Random, pools: &Pools, broken: &[u32]) -> Result<(), String> {
+    let ready = Ready::new(random, pools, broken.contains(&8));
+    let edit = breaking::put_tagged(random, pools, &ready.held, broken);
+    ready.refuse(comparison, random, pools, PUT_TAGGED, edit, broken)
 }
 
 fn move_one(comparison: &mut Comparison, random: &mut Random, pools: &Pools, broken: &[u32]) -> Result<(), String> {

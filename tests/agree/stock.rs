@@ -3,6 +3,10 @@
 use crate::pools::Pool;
 use crate::random::Random;
 
+/// A chain with this tag is no chain: 02, W-202. As a length byte, and in a body, it may have this byte.
+pub const FORBIDDEN_TAG: u8 = 0xFF;
+pub const HIGHEST_LEGAL_TAG: u8 = 0xFE;
+
 pub struct Stock {
     bytes: Vec<u8>,
     /// Where a descriptor starts, and last the end.
@@ -26,15 +30,25 @@ impl Stock {
                 // One byte would stay, which is no descriptor.
                 descriptor = if descriptor > 2 { descriptor - 1 } else { left };
             }
-            self.bytes.push(random.byte());
-            self.bytes.push((descriptor - 2) as u8);
-            self.bytes.extend((2..descriptor).map(|_| random.byte()));
-            self.cuts.push(self.bytes.len());
+            let tag = tag(random);
+            self.descriptor(tag, (2..descriptor).map(|_| random.byte()));
         }
         [offset as u32, length as u32]
+    }
+
+    /// Appends a descriptor, whose body has at most 255 bytes.
+    pub fn descriptor(&mut self, tag: u8, body: impl ExactSizeIterator<Item = u8>) {
+        self.bytes.extend([tag, body.len() as u8]);
+        self.bytes.extend(body);
+        self.cuts.push(self.bytes.len());
     }
 
     pub fn pool(self) -> Pool {
         Pool::new(&self.bytes, self.cuts)
     }
+}
+
+/// A tag that a chain may have.
+pub fn tag(random: &mut Random) -> u8 {
+    random.below(usize::from(HIGHEST_LEGAL_TAG) + 1) as u8
 }

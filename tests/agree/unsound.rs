@@ -57,3 +57,15 @@ fn out_of_order(random: &mut Random, list: &List) -> Vec<(&'static str, List)> {
     }
     lists
 }
+
+/// The sound list, of at least one event, made unsound by the forbidden tag alone, which both pools have.
+pub fn tagged(random: &mut Random, pools: &Pools, list: &List) -> Vec<List> {
+    let place = random.below(list.count);
+    let mut lists = Vec::new();
+    for marks in [5, 2] {
+        let parts = pools.of_marks(marks).with_forbidden_tag(random);
+        assert!(!parts.is_empty(), "a pool is without the forbidden tag");
+        lists.extend(parts.iter().map(|[offset, length]| list.with(place, MARKS, &[marks, *offset, *length])));
+    }
+    lists
+}

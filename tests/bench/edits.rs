@@ -32,7 +32,7 @@ const UNDOS: [(&str, Undo); 5] = [
 ];
 
 pub fn run(random: &mut Random) {
-    let pools = Pools::of_lengths(random, 20_000, 20_000);
+    let pools = Pools::of_chains(random, 20_000, 20_000);
     head("Edit, no script (soundness)");
     for (name, count) in LISTS {
         let list = List::sound(random, &pools, count, NUMBERS * EVENTS_MAX);
@@ -57,7 +57,7 @@ pub fn run(random: &mut Random) {
 
 /// One call of the library with a script of 1 MB, a third of it UNDO.
 pub fn once(random: &mut Random) {
-    let pools = Pools::of_lengths(random, 20_000, 20_000);
+    let pools = Pools::of_chains(random, 20_000, 20_000);
     let mut list = List::sound(random, &pools, EVENTS_MAX / 2, NUMBERS * EVENTS_MAX);
     let script = script(random, &pools, &list, 1_024 * KB, Undo::Third { run: SHORT_RUN });
     let (day, series) = (pools.day.bytes(), pools.series.bytes());

@@ -1,6 +1,6 @@
 //! Build: 01, "Build, Read" and "When a call says no".
 
-use super::list::{Event, Pools};
+use super::list::{is_chain, Event, IsChain, Pools};
 use super::schedule::{pack, Lent, Schedule, SECTIONS_MAX, SEGMENTS};
 use super::section::{Header, Identity};
 
@@ -27,22 +27,31 @@ pub type Segment<'a> = Vec<&'a [Event]>;
 /// How a segment's events are cut into sections; nothing if they cannot be.
 type Packing = fn(&[Event]) -> Option<Segment<'_>>;
 
-pub fn build(lent: &Lent, base_day: u32, identity: Identity, output: &mut [u8]) -> Built {
-    build_by(pack, lent, base_day, identity, output)
+/// Which parts are chains, and the packing rule.
+#[derive(Clone, Copy)]
+pub struct Method {
+    pub is_chain: IsChain,
+    pub packing: Packing,
 }
 
-/// Build by another packing rule than the paper's: the self-check's faults have their own.
-pub fn build_by(packing: Packing, lent: &Lent, base_day: u32, identity: Identity, output: &mut [u8]) -> Built {
+pub const PAPERS: Method = Method { is_chain, packing: pack };
+
+pub fn build(lent: &Lent, base_day: u32, identity: Identity, output: &mut [u8]) -> Built {
+    build_by(PAPERS, lent, base_day, identity, output)
+}
+
+/// Build by another method than the papers': the self-check's faults have their own.
+pub fn build_by(method: Method, lent: &Lent, base_day: u32, identity: Identity, output: &mut [u8]) -> Built {
     if base_day > BASE_DAY_MAX {
         return Built { number: BASE_DAY_ABOVE, value: 0 };
     }
     if identity.version > VERSION_MAX {
         return Built { number: VERSION_ABOVE, value: 0 };
     }
-    let Some(schedule) = Schedule::of(lent) else {
+    let Some(schedule) = Schedule::of(lent, method.is_chain) else {
         return Built { number: UNSOUND, value: 0 };
     };
-    let tables = match packed(packing, &schedule) {
+    let tables = match packed(method.packing, &schedule) {
         Ok(tables) => tables,
         Err(index) => return Built { number: NOT_PACKABLE, value: index },
     };

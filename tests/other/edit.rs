@@ -1,6 +1,6 @@
 //! Edit: 01, "Edit" and "When a call says no".
 
-use super::list::{start_in_range, Event, List, Pools, EVENTS_MAX, NUMBERS};
+use super::list::{is_chain, start_in_range, Event, IsChain, List, Pools, EVENTS_MAX, NUMBERS};
 
 const UNKNOWN_OR_CUT: u32 = 3;
 const NOTHING_TO_STRIKE: u32 = 4;
@@ -35,7 +35,19 @@ type At<T> = (usize, T);
 
 /// Carries out the script on the list, which is read from the buffer and written back to it once.
 pub fn edit(buffer: &mut [u32], count: usize, day: &[u8], series: &[u8], script: &[u8]) -> Answer {
-    let pools = Pools { day, series };
+    edit_by(is_chain, buffer, count, day, series, script)
+}
+
+/// Edit with other chains than the papers': the self-check's faults have their own.
+pub fn edit_by(
+    is_chain: IsChain,
+    buffer: &mut [u32],
+    count: usize,
+    day: &[u8],
+    series: &[u8],
+    script: &[u8],
+) -> Answer {
+    let pools = Pools { day, series, is_chain };
     let Some(mut list) = List::read(buffer, count, pools) else {
         return Answer { number: UNSOUND, value: 0, count };
     };

@@ -1,4 +1,4 @@
-//! Records, pools, chains and sound lists: 01, "Event record and sound list".
+//! Records, pools, chains and sound lists: 01, "Event record and sound list", and 02, W-202.
 
 use std::collections::{BTreeMap, HashMap};
 
@@ -10,6 +10,9 @@ const START_END: u32 = 5_529_600;
 const DURATION_MAX: u32 = 359_999;
 const MARKS_MAX: u32 = 7;
 const SERIES_POOL: u32 = 2;
+
+/// 02, W-202: a chain with this tag is no chain.
+const FORBIDDEN_TAG: u8 = 0xFF;
 
 #[derive(Clone, Copy)]
 pub struct Event {
@@ -49,17 +52,21 @@ pub fn start_in_range(start: u32) -> bool {
     start < START_END
 }
 
-/// The two lent pools.
+/// Whether bytes are a chain.
+pub type IsChain = fn(&[u8]) -> bool;
+
+/// The two lent pools, and which of their parts are chains.
 #[derive(Clone, Copy)]
 pub struct Pools<'a> {
     pub day: &'a [u8],
     pub series: &'a [u8],
+    pub is_chain: IsChain,
 }
 
 impl<'a> Pools<'a> {
     /// Whether the event's part lies in its pool and is a chain.
     pub fn hold_chain_of(&self, event: &Event) -> bool {
-        self.part(event).is_some_and(is_chain)
+        self.part(event).is_some_and(self.is_chain)
     }
 
     /// The event's part of its pool, if it lies in it.
@@ -71,13 +78,13 @@ impl<'a> Pools<'a> {
     }
 }
 
-/// Whether the bytes are descriptors (tag, length, that many bytes) up to their very end.
+/// Whether the bytes are descriptors (tag, length, that many bytes) up to their very end, none with the forbidden tag.
 pub fn is_chain(mut bytes: &[u8]) -> bool {
-    while let [_tag, length, rest @ ..] = bytes {
-        let Some(next) = rest.get(usize::from(*length)..) else {
-            return false;
-        };
-        bytes = next;
+    while let [tag, length, rest @ ..] = bytes {
+        match rest.get(usize::from(*length)..) {
+            Some(next) if *tag != FORBIDDEN_TAG => bytes = next,
+            _ => return false,
+        }
     }
     bytes.is_empty()
 }

@@ -1,5 +1,5 @@
-//! Another implementation of document 01, written from the paper alone and in a shape of its own. The library's answers
-//! are compared with it.
+//! Another implementation of document 01, with W-202 of document 02, written from the papers alone and in a shape of
+//! its own. The library's answers are compared with it.
 
 mod build;
 mod crc;
@@ -13,12 +13,12 @@ mod rules;
 mod schedule;
 mod section;
 
-pub use build::{build, build_by, file, Built};
+pub use build::{build, build_by, file, Built, Method, PAPERS};
 pub use crc::crc32;
 pub use crc_table::crc32_by_table;
-pub use edit::{edit, Answer};
-pub use list::Event;
-pub use plan::{plan, Plan};
+pub use edit::{edit, edit_by, Answer};
+pub use list::{is_chain, Event, IsChain};
+pub use plan::{plan, plan_by, Plan};
 pub use read::{check, check_by, read, read_by, refused, Asked, Reading};
 pub use received::{frame, frame_within, Frame, Received, SECTION_LENGTHS, TABLE_IDS};
 pub use rules::{Before, Rule, RULES};

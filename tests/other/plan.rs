@@ -1,5 +1,6 @@
 //! Plan: 01, "Build, Read".
 
+use super::list::{is_chain, IsChain};
 use super::schedule::{pack, Lent, Schedule, SEGMENTS};
 
 const UNSOUND: u8 = 254;
@@ -9,7 +10,12 @@ const UNPACKABLE: u8 = 255;
 pub type Plan = [u8; 512];
 
 pub fn plan(lent: &Lent) -> Plan {
-    let Some(schedule) = Schedule::of(lent) else {
+    plan_by(is_chain, lent)
+}
+
+/// Plan with other chains than the papers': the self-check's faults have their own.
+pub fn plan_by(is_chain: IsChain, lent: &Lent) -> Plan {
+    let Some(schedule) = Schedule::of(lent, is_chain) else {
         return [UNSOUND; 512];
     };
     let mut plan = [0; 512];

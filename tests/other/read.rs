@@ -35,18 +35,18 @@ struct Carried {
     records: Vec<[u32; NUMBERS]>,
 }
 
-const PAPER: Asked = Asked { frame, rules: &RULES };
+const PAPERS: Asked = Asked { frame, rules: &RULES };
 
 pub fn read(file: &[u8], base_day: u32, buffer: &mut [u32]) -> Reading {
-    read_by(&PAPER, file, base_day, buffer)
+    read_by(&PAPERS, file, base_day, buffer)
 }
 
 /// Read without a record buffer.
 pub fn check(file: &[u8], base_day: u32) -> Reading {
-    check_by(&PAPER, file, base_day)
+    check_by(&PAPERS, file, base_day)
 }
 
-/// Read by other rules than the paper's: the self-check's faults have their own.
+/// Read by other rules than the papers': the self-check's faults have their own.
 pub fn read_by(asked: &Asked, file: &[u8], base_day: u32, buffer: &mut [u32]) -> Reading {
     match carried(asked, file, base_day) {
         Ok(carried) => {

@@ -1,7 +1,7 @@
 //! A list's events by segment, the range of each table, and the packing rule: 01, "The file of sections" and "Build,
 //! Read".
 
-use super::list::{Event, List, Pools};
+use super::list::{is_chain, Event, IsChain, List, Pools};
 use std::collections::BTreeMap;
 
 /// A table's segments, and the section numbers of each.
@@ -24,7 +24,7 @@ pub struct Lent<'a> {
 
 impl<'a> Lent<'a> {
     pub fn pools(&self) -> Pools<'a> {
-        Pools { day: self.day, series: self.series }
+        Pools { day: self.day, series: self.series, is_chain }
     }
 }
 
@@ -34,8 +34,9 @@ pub struct Schedule {
 }
 
 impl Schedule {
-    pub fn of(lent: &Lent) -> Option<Schedule> {
-        let list = List::read(lent.list, lent.count, lent.pools())?;
+    /// The lent list's, if it is sound.
+    pub fn of(lent: &Lent, is_chain: IsChain) -> Option<Schedule> {
+        let list = List::read(lent.list, lent.count, Pools { is_chain, ..lent.pools() })?;
         let mut by_segment: BTreeMap<usize, Vec<Event>> = BTreeMap::new();
         for event in list.events() {
             by_segment.entry((event.start / SEGMENT_SECONDS) as usize).or_default().push(*event);

@@ -2,12 +2,13 @@
 
 use super::comparison::BuildCall;
 use super::sections::section_length;
-use crate::other::{build, plan, Built, Identity, Lent};
+use crate::other::{build, build_by, plan, Built, Identity, Lent, Method, PAPERS};
+use crate::wrong_chains;
 
 /// The shortest file.
 const FILE_MIN: usize = 18;
 
-pub const ALL: [(&str, BuildCall); 17] = [
+pub const ALL: [(&str, BuildCall); 23] = [
     // The output.
     ("writes to an output that is short", |lent, base_day, identity, output| {
         let built = build(lent, base_day, identity, output);
@@ -115,6 +116,31 @@ pub const ALL: [(&str, BuildCall); 17] = [
         let mut list = lent.list.to_vec();
         list.iter_mut().step_by(6).for_each(|id| *id &= !(1 << 20));
         build(&Lent { list: &list, ..*lent }, base_day, identity, output)
+    }),
+    // The forbidden tag.
+    ("takes tag 0xFF", |lent, base_day, identity, output| {
+        build_by(Method { is_chain: wrong_chains::of_any_tags, ..PAPERS }, lent, base_day, identity, output)
+    }),
+    ("takes tag 0xFF behind the first descriptor", |lent, base_day, identity, output| {
+        build_by(Method { is_chain: wrong_chains::by_first_tag, ..PAPERS }, lent, base_day, identity, output)
+    }),
+    ("takes tag 0xFF in the first descriptor", |lent, base_day, identity, output| {
+        build_by(Method { is_chain: wrong_chains::by_later_tags, ..PAPERS }, lent, base_day, identity, output)
+    }),
+    ("takes tag 0xFF in the last descriptor", |lent, base_day, identity, output| {
+        build_by(Method { is_chain: wrong_chains::by_earlier_tags, ..PAPERS }, lent, base_day, identity, output)
+    }),
+    ("takes no byte 0xFF in a chain", |lent, base_day, identity, output| {
+        build_by(Method { is_chain: wrong_chains::without_the_byte, ..PAPERS }, lent, base_day, identity, output)
+    }),
+    ("takes no tag 0xFE", |lent, base_day, identity, output| {
+        build_by(
+            Method { is_chain: wrong_chains::without_highest_legal_tag, ..PAPERS },
+            lent,
+            base_day,
+            identity,
+            output,
+        )
     }),
 ];
 

@@ -8,12 +8,16 @@ use crate::lists::{List, LENGTH};
 use crate::other::{self, Built, Identity, Lent, Plan, EVENT_FRONT};
 use crate::pools::Pools;
 use crate::random::Random;
-use crate::tally::{in_order, Tally};
+use crate::tally::{in_order, Precedence, Tally};
 
 const FIRST_SEED: u64 = 300_568;
 
 /// Build's order of checks.
 pub const ORDER: [u32; 5] = [1, 2, 12, 10, 11];
+
+/// Build where 12 is for the forbidden tag.
+pub const BUILD_TAGGED: &str = "Build, tag 0xFF";
+
 const ANSWERS: [u32; 6] = [0, 1, 2, 10, 11, 12];
 const ENTRIES: [u32; 11] = [0, 1, 2, 3, 4, 5, 6, 7, 8, 254, 255];
 
@@ -44,7 +48,7 @@ impl Comparison {
     pub fn new(subject: Subject) -> Comparison {
         Comparison {
             subject,
-            tally: Tally::new(&ANSWERS, in_order("Build", &ORDER)),
+            tally: Tally::new(&ANSWERS, precedences()),
             entries: Tally::new(&ENTRIES, Vec::new()),
             groups: Groups::new(FIRST_SEED),
             guards: Random::new(FIRST_SEED),
@@ -152,6 +156,12 @@ impl Comparison {
         let (group, case) = (self.groups.running(), self.tally.cases);
         format!("{fault}\n  {group}, case {case}\n  {}\n  {request:?}", list.describe(pools))
     }
+}
+
+fn precedences() -> Vec<Precedence> {
+    let tagged = in_order(BUILD_TAGGED, &ORDER);
+    let tagged = tagged.into_iter().filter(|(_, first, second)| *first == 12 || *second == 12);
+    in_order("Build", &ORDER).into_iter().chain(tagged).collect()
 }
 
 /// The list and the pools as a call gets them, with the list's numbers in this buffer.

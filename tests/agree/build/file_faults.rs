@@ -4,7 +4,7 @@
 use super::comparison::BuildCall;
 use super::packings;
 use super::rewritten::{each_event, each_section, each_section_raw, seal, sections_by_table};
-use crate::other::{build, build_by, pack_within, Built};
+use crate::other::{build, build_by, pack_within, Built, Method, PAPERS};
 
 // Where a section has its fields, and an event in it.
 const VERSION: usize = 5;
@@ -40,10 +40,10 @@ pub const ALL: [(&str, BuildCall); 19] = [
         })
     }),
     ("begins a section at each programme", |lent, base_day, identity, output| {
-        build_by(packings::one_each, lent, base_day, identity, output)
+        build_by(Method { packing: packings::one_each, ..PAPERS }, lent, base_day, identity, output)
     }),
     ("balances the sections of a segment", |lent, base_day, identity, output| {
-        build_by(packings::balanced, lent, base_day, identity, output)
+        build_by(Method { packing: packings::balanced, ..PAPERS }, lent, base_day, identity, output)
     }),
     ("takes an event's day from its table", |lent, base_day, identity, output| {
         let built = build(lent, base_day, identity, output);
@@ -54,16 +54,16 @@ pub const ALL: [(&str, BuildCall); 19] = [
     }),
     // Packing.
     ("fills a section with one byte too many", |lent, base_day, identity, output| {
-        build_by(|events| pack_within(4_079, events), lent, base_day, identity, output)
+        build_by(Method { packing: |events| pack_within(4_079, events), ..PAPERS }, lent, base_day, identity, output)
     }),
     ("leaves a section's last byte", |lent, base_day, identity, output| {
-        build_by(|events| pack_within(4_077, events), lent, base_day, identity, output)
+        build_by(Method { packing: |events| pack_within(4_077, events), ..PAPERS }, lent, base_day, identity, output)
     }),
     ("cuts one event early", |lent, base_day, identity, output| {
-        build_by(packings::one_event_early, lent, base_day, identity, output)
+        build_by(Method { packing: packings::one_event_early, ..PAPERS }, lent, base_day, identity, output)
     }),
     ("refuses a ninth event in a segment", |lent, base_day, identity, output| {
-        build_by(packings::at_most_eight_events, lent, base_day, identity, output)
+        build_by(Method { packing: packings::at_most_eight_events, ..PAPERS }, lent, base_day, identity, output)
     }),
     ("leaves empty segments out", |lent, base_day, identity, output| {
         let built = build(lent, base_day, identity, output);

@@ -16,6 +16,7 @@ mod rewritten;
 mod samples;
 mod sections;
 mod segments;
+mod tags;
 
 pub use comparison::{BuildCall, Comparison, Subject};
 pub use request::{Request, BASE_DAY_MAX};
@@ -28,6 +29,7 @@ use crate::other;
 
 pub fn all_groups(comparison: &mut Comparison) -> Result<(), String> {
     samples::run(comparison)?;
+    tags::run(comparison)?;
     fills::run(comparison)?;
     refusals::run(comparison)?;
     outputs::run(comparison)?;

@@ -2,8 +2,9 @@
 
 use super::comparison::PlanCall;
 use crate::other::{self, Plan};
+use crate::wrong_chains;
 
-pub const ALL: [(&str, PlanCall); 11] = [
+pub const ALL: [(&str, PlanCall); 17] = [
     ("ends each table's range one segment short", |lent, plan| {
         changed(other::plan(lent), plan, |table| {
             if let Some(last) = table.iter_mut().rev().find(|count| **count != 0) {
@@ -58,6 +59,15 @@ pub const ALL: [(&str, PlanCall); 11] = [
     ("says at most 7", |lent, plan| {
         changed_counts(other::plan(lent), plan, |count| if count == 8 { 7 } else { count });
     }),
+    // The forbidden tag.
+    ("takes tag 0xFF", |lent, plan| *plan = other::plan_by(wrong_chains::of_any_tags, lent)),
+    ("takes tag 0xFF behind the first descriptor", |lent, plan| {
+        *plan = other::plan_by(wrong_chains::by_first_tag, lent)
+    }),
+    ("takes tag 0xFF in the first descriptor", |lent, plan| *plan = other::plan_by(wrong_chains::by_later_tags, lent)),
+    ("takes tag 0xFF in the last descriptor", |lent, plan| *plan = other::plan_by(wrong_chains::by_earlier_tags, lent)),
+    ("takes no byte 0xFF in a chain", |lent, plan| *plan = other::plan_by(wrong_chains::without_the_byte, lent)),
+    ("takes no tag 0xFE", |lent, plan| *plan = other::plan_by(wrong_chains::without_highest_legal_tag, lent)),
 ];
 
 /// The plan with each table changed.

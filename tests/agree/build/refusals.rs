@@ -1,14 +1,14 @@
 //! Base days, versions and lists that are refused, those at the limits that are not, and which refusal comes where more
 //! than one could: 01, "Checks run in this order".
 
-use super::comparison::{need, Comparison, ORDER};
+use super::comparison::{need, Comparison, BUILD_TAGGED, ORDER};
 use super::request::{Request, BASE_DAY_MAX, VERSION_MAX};
 use super::segments::{nearby, with_neighbours};
 use crate::lineup::Lineup;
 use crate::lists::{at_limits, rising, List, EVENTS_MAX};
 use crate::pools::Pools;
 use crate::random::Random;
-use crate::unsound::unsound;
+use crate::unsound::{tagged, unsound};
 
 pub fn run(comparison: &mut Comparison) -> Result<(), String> {
     let random = &mut comparison.groups.begin("refusals");
@@ -74,7 +74,8 @@ fn versions(comparison: &mut Comparison, random: &mut Random, pools: &Pools, lis
 /// A call that asks for these refusals gets the first of them.
 fn precedence(comparison: &mut Comparison, random: &mut Random, broken: &[u32]) -> Result<(), String> {
     let index = random.below(512);
-    let lengths = if broken.contains(&10) { vec![4_067] } else { vec![200, 300] };
+    // Of two events that no section holds one stays if the other's part changes.
+    let lengths = if broken.contains(&10) { [4_067; 2] } else { [200, 300] };
     let (pools, list) = with_neighbours(random, index, &lengths);
     let need = need(&pools, &list);
     // An output of 17 bytes is too short for every file.
@@ -86,18 +87,26 @@ fn precedence(comparison: &mut Comparison, random: &mut Random, broken: &[u32]) 
     if broken.contains(&2) {
         request.identity.version = random.pick(&[32, 33, 64, 255]);
     }
-    let lists = if broken.contains(&12) { unsound(random, &pools, &list) } else { vec![("sound", list)] };
+    let lists = if broken.contains(&12) {
+        let kinds = unsound(random, &pools, &list).into_iter().map(|(_, list)| list);
+        kinds.chain(tagged(random, &pools, &list)).collect()
+    } else {
+        vec![list]
+    };
     let first = broken[0];
     let value = match first {
         10 => index,
         11 => need,
         _ => 0,
     };
-    for (_, list) in &lists {
+    for list in &lists {
         comparison.answers((first, value), &pools, list, request)?;
     }
     for second in &broken[1..] {
         comparison.tally.precedence(("Build", first, *second));
+        if first == 12 || *second == 12 {
+            comparison.tally.precedence((BUILD_TAGGED, first, *second));
+        }
     }
     Ok(())
 }

@@ -64,7 +64,7 @@ fn sample(comparison: &mut Comparison, random: &mut Random, (events, wanted): Sa
 /// The 18 bytes of no events; and an event of EN 300 468's date in its place, an off-air one with free_CA_mode and the
 /// last day that there is.
 fn known_bytes(comparison: &mut Comparison, random: &mut Random) -> Result<(), String> {
-    let pools = Pools::of_lengths(random, 0, 4);
+    let pools = Pools::of_chains(random, 0, 4);
     let chain = pools.series.bytes().to_vec();
     let mut no_events = vec![0x50, 0xF0, 0x0F, 0x00, 0x01, 0xC1, 0x00, 0x00, 0x00, 0x02, 0x00, 0x03, 0x00, 0x50];
     no_events.extend([0x78, 0xAE, 0x5B, 0xF0]);

@@ -41,7 +41,7 @@ pub fn run(comparison: &mut Comparison) -> Result<(), String> {
 }
 
 /// Build, Read and Build again, unless the list is unpackable.
-fn round_trip(comparison: &mut Comparison, random: &mut Random, mut given: Given) -> Result<(), String> {
+pub fn round_trip(comparison: &mut Comparison, random: &mut Random, mut given: Given) -> Result<(), String> {
     given.base_day = random.pick(&[given.base_day, given.base_day, 0, BASE_DAY_MAX]);
     let Some(file) = given.built() else {
         return Ok(());

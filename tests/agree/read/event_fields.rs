@@ -49,3 +49,23 @@ pub fn set_chain_length(section: &mut [u8], event: usize, length: usize) {
 pub fn chain_length(section: &[u8], event: usize) -> usize {
     usize::from(section[event + STATUS] & 0x0F) << 8 | usize::from(section[event + STATUS + 1])
 }
+
+/// Where the descriptors of the event there start.
+pub fn descriptors(section: &[u8], event: usize) -> Vec<usize> {
+    let mut starts = Vec::new();
+    let mut at = event + EVENT_FRONT;
+    let end = at + chain_length(section, event);
+    while at < end {
+        starts.push(at);
+        at += 2 + usize::from(section[at + 1]);
+    }
+    starts
+}
+
+/// Puts a descriptor with this tag and without a body in front of the event's others.
+pub fn put_descriptor(section: &mut Vec<u8>, event: usize, tag: u8) {
+    let chain = event + EVENT_FRONT;
+    let length = 2 + chain_length(section, event);
+    section.splice(chain..chain, [tag, 0]);
+    set_chain_length(section, event, length);
+}

@@ -22,6 +22,7 @@ mod precedence;
 mod record_faults;
 mod rivals;
 mod rule_faults;
+mod tags;
 
 pub use comparison::{Comparison, Subject};
 
@@ -35,6 +36,7 @@ pub fn all_groups(comparison: &mut Comparison) -> Result<(), String> {
     headers::run(comparison)?;
     frames::run(comparison)?;
     event_loops::run(comparison)?;
+    tags::run(comparison)?;
     precedence::run(comparison)?;
     numbering::run(comparison)?;
     ends::run(comparison)?;

@@ -5,7 +5,10 @@ use crate::tally::{in_order, Precedence};
 pub const SECTION_ORDER: [u32; 6] = [20, 21, 22, 23, 24, 26];
 pub const END_ORDER: [u32; 2] = [25, 27];
 
-/// Read's order in a section, of two sections, at the end, and over the call.
+/// A section where 24 is for the forbidden tag.
+pub const TAGGED: &str = "tag 0xFF";
+
+/// Read's order in a section, of two sections, at the end, and over the call; and around the forbidden tag.
 pub fn precedences() -> Vec<Precedence> {
     let mut all = in_order("section", &SECTION_ORDER);
     for first in SECTION_ORDER {
@@ -14,5 +17,9 @@ pub fn precedences() -> Vec<Precedence> {
     }
     all.extend(in_order("end", &END_ORDER));
     all.extend(SECTION_ORDER.iter().chain(&END_ORDER).map(|second| ("call", 1, *second)));
+
+    let tagged = in_order(TAGGED, &SECTION_ORDER);
+    all.extend(tagged.into_iter().filter(|(_, first, second)| *first == 24 || *second == 24));
+    all.extend(END_ORDER.map(|second| (TAGGED, 24, second)));
     all
 }

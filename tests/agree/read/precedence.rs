@@ -2,7 +2,7 @@
 
 use super::comparison::Comparison;
 use super::ends::chunked;
-use super::event_fields::{put, DURATION, START, STATUS};
+use super::event_fields::{put, put_descriptor, DURATION, START, STATUS};
 use super::file::{
     close, File, CRC, LAST_SECTION_NUMBER, LAST_TABLE_ID, SECTION_LENGTH, SECTION_NUMBER, SEGMENT_LAST_SECTION_NUMBER,
     SERVICE_ID, TABLE_ID, TRANSPORT_STREAM_ID, VERSION,
@@ -13,6 +13,7 @@ use super::order::{END_ORDER, SECTION_ORDER};
 use crate::build::Section;
 use crate::lists::EVENTS_MAX;
 use crate::random::Random;
+use crate::stock::FORBIDDEN_TAG;
 
 /// The events of a section that is broken.
 const VICTIM: usize = 6;
@@ -38,15 +39,16 @@ pub fn run(comparison: &mut Comparison) -> Result<(), String> {
 
 /// A file with two sections to be broken, and sections behind them. Event 2,049 is in the first of them, in the second,
 /// or missing.
-struct Scene {
-    file: File,
+#[derive(Clone)]
+pub struct Scene {
+    pub file: File,
     /// The places of the two.
-    victims: [usize; 2],
+    pub victims: [usize; 2],
 }
 
 impl Scene {
     /// Which of the two has event 2,049, if one has.
-    fn new(random: &mut Random, limit_in: Option<usize>) -> Scene {
+    pub fn new(random: &mut Random, limit_in: Option<usize>) -> Scene {
         let before = match limit_in {
             Some(0) => EVENTS_MAX - random.below(VICTIM),
             Some(_) => EVENTS_MAX - VICTIM - random.below(VICTIM),
@@ -62,7 +64,7 @@ impl Scene {
     }
 
     /// Breaks these rules in one of the two sections. 26 is broken by what the file holds.
-    fn broken(self, random: &mut Random, victim: usize, numbers: &[u32]) -> Scene {
+    pub fn broken(self, random: &mut Random, victim: usize, numbers: &[u32]) -> Scene {
         let file = self.file.with_raw(self.victims[victim], |section| {
             numbers.iter().rev().for_each(|number| break_rule(random, section, *number));
             close(section);
@@ -73,10 +75,21 @@ impl Scene {
         });
         Scene { file, ..self }
     }
+
+    /// Gives some event of one of the two sections a descriptor with this tag.
+    pub fn with_tag(self, random: &mut Random, victim: usize, tag: u8) -> Scene {
+        let file = self.file.with(self.victims[victim], |section| put_tag(random, section, tag));
+        Scene { file, ..self }
+    }
+}
+
+fn put_tag(random: &mut Random, section: &mut Vec<u8>, tag: u8) {
+    let event = random.pick(&Section { bytes: section }.events());
+    put_descriptor(section, event, tag);
 }
 
 /// Breaks one of 20, 22, 23 and 24 in a section, and leaves the rules of a lower number as they are.
-fn break_rule(random: &mut Random, section: &mut [u8], number: u32) {
+fn break_rule(random: &mut Random, section: &mut Vec<u8>, number: u32) {
     match number {
         20 => section[TABLE_ID] = random.pick(&[0x00, 0x4E, 0x4F, 0x60, 0x61, 0xFF]),
         22 => {
@@ -105,9 +118,10 @@ fn break_rule(random: &mut Random, section: &mut [u8], number: u32) {
         }
         24 => {
             let event = random.pick(&Section { bytes: section }.events());
-            match random.below(3) {
+            match random.below(4) {
                 0 => put(section, event + DURATION, &[0; 3]),
                 1 => section[event + START + 2] = 0x60,
+                2 => put_descriptor(section, event, FORBIDDEN_TAG),
                 _ => section[event + STATUS] = section[event + STATUS] & 0x1F | 0x20,
             }
         }

@@ -1,6 +1,7 @@
 //! Faults of what Read asks of a section: the other implementation with other rules stands in for the library.
 
-use crate::other::{frame, frame_within, Before, Frame, Received, Rule, RULES, SECTION_LENGTHS, TABLE_IDS};
+use crate::other::{frame, frame_within, Before, Frame, IsChain, Received, Rule, RULES, SECTION_LENGTHS, TABLE_IDS};
+use crate::wrong_chains;
 use std::collections::HashSet;
 
 /// The order of the checks that can change places: 20 finds the section.
@@ -18,7 +19,7 @@ pub const FRAMES: [(&str, Frame); 6] = [
 /// What a fault asks, and the rule in whose place it does.
 type Replaced = (&'static str, &'static str, fn(&Received, &Before) -> bool);
 
-const REPLACED: [Replaced; 21] = [
+const REPLACED: [Replaced; 27] = [
     ("takes any bits before the version but 00", "bits 11", |section, _| section.bytes[5] >> 6 != 0),
     ("takes last_table_ids below 0x50", "last_table_id in range", |section, _| section.header.last_table_id < 0x60),
     ("takes last_table_ids above 0x5F", "last_table_id in range", |section, _| section.header.last_table_id > 0x4F),
@@ -53,6 +54,16 @@ const REPLACED: [Replaced; 21] = [
             .iter()
             .all(|event| event.chain.get(1).is_none_or(|length| usize::from(*length) + 2 <= event.chain.len()))
     }),
+    ("takes tag 0xFF", "chains", |section, _| are_chains(section, wrong_chains::of_any_tags)),
+    ("takes tag 0xFF behind the first descriptor", "chains", |section, _| {
+        are_chains(section, wrong_chains::by_first_tag)
+    }),
+    ("takes tag 0xFF in the first descriptor", "chains", |section, _| are_chains(section, wrong_chains::by_later_tags)),
+    ("takes tag 0xFF in the last descriptor", "chains", |section, _| {
+        are_chains(section, wrong_chains::by_earlier_tags)
+    }),
+    ("takes no byte 0xFF in a chain", "chains", |section, _| are_chains(section, wrong_chains::without_the_byte)),
+    ("takes no tag 0xFE", "chains", |section, _| are_chains(section, wrong_chains::without_highest_legal_tag)),
     ("takes a start of this segment in any table", "starts in the section's segment", |section, _| {
         let segment = i64::from(section.header.section_number / 8);
         section.events.iter().all(|event| event.start.div_euclid(10_800).rem_euclid(32) == segment)
@@ -85,6 +96,10 @@ const REPLACED: [Replaced; 21] = [
     }),
     ("refuses event 2,048", "at most 2,048 events", |section, before| before.events + section.events.len() < 2_048),
 ];
+
+fn are_chains(section: &Received, is_chain: IsChain) -> bool {
+    section.events.iter().all(|event| is_chain(event.chain))
+}
 
 /// Each rule left out, each two numbers in the wrong order, and rules that are not the paper's.
 pub fn rules() -> Vec<(String, Vec<Rule>)> {
