@@ -22,9 +22,9 @@
 
 /* The version of this face, by semantic versioning of its names, values and calls; the Rust wrapper has the same. */
 #define CHIRDALUKO_VERSION_MAJOR 2
-#define CHIRDALUKO_VERSION_MINOR 0
+#define CHIRDALUKO_VERSION_MINOR 1
 #define CHIRDALUKO_VERSION_PATCH 0
-#define CHIRDALUKO_VERSION "2.0.0"
+#define CHIRDALUKO_VERSION "2.1.0"
 
 #ifdef __cplusplus
 extern "C" {
@@ -78,7 +78,7 @@ static inline const char *eit_cause(uint32_t number) {
     case EIT_REFUSED_LIST_FULL:
         return "PUT: the list is at its limit";
     case EIT_REFUSED_NO_CHAIN:
-        return "PUT: the descriptors lie outside their pool, or do not end where their part ends";
+        return "PUT: the descriptors lie outside their pool, do not end where their part ends, or one has tag 0xFF";
     case EIT_REFUSED_UNPACKABLE:
         return "a segment needs a ninth section, or has an event with over 4,066 bytes of descriptors";
     case EIT_REFUSED_OUTPUT_SHORT:
@@ -106,7 +106,7 @@ static inline const char *eit_cause(uint32_t number) {
     }
 }
 
-/* Limits: .._MAX is the greatest legal value. */
+/* Limits: .._MAX is the greatest legal value, EIT_FORBIDDEN_TAG the one tag that is not legal. */
 enum {
     EIT_RECORD = 6,               /* numbers in a record */
     EIT_EVENTS_MAX = 2048,        /* events in a list or file */
@@ -114,6 +114,7 @@ enum {
     EIT_ID_MAX = 65535,           /* a record's id */
     EIT_WINDOW_SECONDS = 5529600, /* 64 days in seconds: a record's start is below */
     EIT_DURATION_MAX = 359999,    /* a record's duration, 99:59:59; the least is 1 */
+    EIT_FORBIDDEN_TAG = 0xFF,     /* no descriptor's tag: NorDig Rules of Operation, Table 1, forbid it */
     EIT_BASE_DAY_MAX = 65472,     /* a Modified Julian Date: all 64 days then fit its 16 bits */
     EIT_VERSION_MAX = 31,         /* version_number has 5 bits */
     EIT_SEGMENT_SECONDS = 10800,  /* seconds in a segment: three hours */
@@ -136,7 +137,8 @@ enum {
  *
  * Descriptors lie in one of two pools of bytes that the caller lends with the list: the day pool, or with
  * EIT_SERIES_POOL the series pool. They are a chain: each a tag byte, a length byte and that many bytes, the last one
- * ending where the part ends.
+ * ending where the part ends, and none with tag EIT_FORBIDDEN_TAG. 0xFF as a length or among those bytes is legal.
+ * docs/MANUAL.md, "Tag 0xFF", says what to do about a list or file that has the tag.
  *
  * A list is sound if count is at most EIT_EVENTS_MAX, the buffer has six numbers for each record, every value is in
  * range, every part lies in its pool (offset + length at most the pool's length) and is a chain, starts rise strictly,

@@ -4,7 +4,7 @@
 #include <stdio.h>
 #include <string.h>
 
-/* The names stand for document 01's numbers. */
+/* The names stand for the numbers of documents 01 and 02. */
 _Static_assert(EIT_SUCCESS == 0 && EIT_REFUSED_BASE_DAY == 1 && EIT_REFUSED_VERSION == 2
                    && EIT_REFUSED_BROKEN_SCRIPT == 3 && EIT_REFUSED_NOTHING_TO_UNDO == 4
                    && EIT_REFUSED_OUT_OF_RANGE == 5 && EIT_REFUSED_WRONG_ID == 6
@@ -18,7 +18,7 @@ _Static_assert(EIT_REFUSED_FRAME == 20 && EIT_REFUSED_CRC == 21 && EIT_REFUSED_H
                "refusals of Read");
 _Static_assert(EIT_RECORD == 6 && EIT_EVENTS_MAX == 2048 && EIT_NUMBERS_MAX == 12288 && EIT_ID_MAX == 65535
                    && EIT_WINDOW_SECONDS == 64 * 86400 && EIT_DURATION_MAX == 359999 && EIT_BASE_DAY_MAX == 65472
-                   && EIT_VERSION_MAX == 31,
+                   && EIT_FORBIDDEN_TAG == 0xFF && EIT_VERSION_MAX == 31,
                "limits of a list, a base day and a version");
 _Static_assert(EIT_SEGMENT_SECONDS == 10800 && EIT_TABLE_SEGMENTS == 32 && EIT_SEGMENTS == 16 * 32
                    && EIT_SEGMENT_SECTIONS_MAX == 8 && EIT_SECTION_MAX == 3 + 4093 && EIT_CHAIN_MAX == 4078 - 12
@@ -37,11 +37,12 @@ static void expect(const char *what, unsigned long long got, unsigned long long 
     }
 }
 
-/* Edits an empty list with room for two records, behind which a number stays. */
-static void edit(const char *script_name, const uint8_t *script, size_t script_length, EitEdited wanted) {
-    static const uint32_t left[13] = {258, 86400, 3600, 5, 1, 4, 0, 0, 0, 0, 0, 0, 77};
-    /* The day pool has one chain at 1, of two descriptors; the series pool has none there. */
-    static const uint8_t day[6] = {0xFF, 0x4D, 0x00, 0x54, 0x00, 0xFF};
+/* Edits an empty list with room for two records, behind which a number stays. A PUT has two descriptors, the second
+ * with this tag; at most one PUT is carried out. */
+static void edit(const char *script_name, uint8_t tag, const uint8_t *script, size_t script_length, EitEdited wanted) {
+    static const uint32_t record[6] = {258, 86400, 3600, 5, 1, 4};
+    /* The day pool has the two descriptors at 1; the series pool has no chain there. */
+    const uint8_t day[6] = {0xFF, 0x4D, 0x00, tag, 0x00, 0xFF};
     static const uint8_t series[2] = {0x4D, 0x00};
     uint32_t list[13] = {0};
     list[12] = 77;
@@ -49,9 +50,10 @@ static void edit(const char *script_name, const uint8_t *script, size_t script_l
     expect(script_name, got.number, wanted.number);
     expect("its value", got.value, wanted.value);
     expect("its count", got.count, wanted.count);
-    for (size_t place = 0; place < 13; place++) {
-        expect("a number of the list", list[place], left[place]);
+    for (size_t place = 0; place < 12; place++) {
+        expect("a number of the list", list[place], place < 6 * wanted.count ? record[place] : 0);
     }
+    expect("the number behind the list", list[12], 77);
 }
 
 /* Builds the empty list into 20 bytes, of which those that the file does not reach stay. */
@@ -143,8 +145,9 @@ int main(void) {
     uint8_t twice[36];
     memcpy(twice, put, 18);
     memcpy(twice + 18, put, 18);
-    edit("the answer to PUT", put, 18, (EitEdited){0, 1, 1});
-    edit("the answer to PUT twice", twice, 36, (EitEdited){6, 18, 1});
+    edit("the answer to PUT", 0xFE, put, 18, (EitEdited){0, 1, 1});
+    edit("the answer to PUT twice", 0xFE, twice, 36, (EitEdited){6, 18, 1});
+    edit("the answer to PUT with tag 0xFF", 0xFF, put, 18, (EitEdited){9, 0, 0});
 
     build("the answer to no events", 49273, 0, 18, (EitBuilt){0, 18});
     build("the answer to more room", 49273, 0, 20, (EitBuilt){0, 18});

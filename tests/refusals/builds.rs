@@ -1,7 +1,7 @@
 //! Build's refusals, and what Plan says in their place.
 
 use crate::chirdaluko::{build, plan, BuildRefusal, Identity, Planned, Pools, Record};
-use crate::inputs::{chain, event, numbers};
+use crate::inputs::{chain, event, numbers, tagged, TAGGED};
 use crate::{Rows, ALL, NEED, SEGMENT, ZERO};
 
 const SEGMENT_SECONDS: u32 = 10_800;
@@ -15,11 +15,12 @@ pub fn run(rows: &mut Rows) {
 
     // Segment 1 holds its event in one section; 2 and 4 have each an event that no section holds; 3 would need a ninth
     // section.
-    let large = |id, start, chain_length| Record { chain_length, ..event(id, start) };
+    let held = |id, start| Record { marks: Record::SERIES_POOL, chain_length: 4_066, ..event(id, start) };
+    let large = |id, start| Record { chain_length: 4_067, ..event(id, start) };
     let at = |segment| SEGMENT_SECONDS * segment;
-    let mut records = vec![large(1, at(1), 4_066), large(2, at(2), 4_067)];
-    records.extend((0..9).map(|place| large(10 + place, at(3) + place, 4_066)));
-    records.push(large(3, at(4), 4_067));
+    let mut records = vec![held(1, at(1)), large(2, at(2))];
+    records.extend((0..9).map(|place| held(10 + place, at(3) + place)));
+    records.push(large(3, at(4)));
     refused(rows, &records, 65_472, 31, BuildRefusal::Unpackable { segment: 2 }, SEGMENT);
     planned(&records, [1, 1, 255, 255, 255]);
     records.remove(1);
@@ -29,15 +30,24 @@ pub fn run(rows: &mut Rows) {
     planned(&records, [1, 1, 1, 8, 255]);
     planned(&one, [1, 0, 0, 0, 0]);
     planned(&[event(1, 100), event(1, 200)], [254; 5]);
+    forbidden_tag(rows);
 }
 
-/// The day pool is a chain of 4,067 bytes, whose first 4,066 are no chain; the series pool is one of 4,066.
+/// The parts behind the day pool's large chain: with tag 0xFE a chain, with tag 0xFF none.
+fn forbidden_tag(rows: &mut Rows) {
+    let part = |offset| Record { offset, chain_length: TAGGED, ..event(1, 100) };
+    let (legal, forbidden) = ([part(4_067)], [part(4_067 + TAGGED)]);
+    refused(rows, &legal, 65_472, 31, BuildRefusal::OutputShort { needed: 37 }, NEED);
+    planned(&legal, [1, 0, 0, 0, 0]);
+    refused(rows, &forbidden, 65_472, 31, BuildRefusal::Unsound, ZERO);
+    planned(&forbidden, [254; 5]);
+}
+
+/// The day pool has a chain of 4,067 bytes, whose first 4,066 are no chain, and behind it the parts with tags 0xFE and
+/// 0xFF; the series pool is a chain of 4,066.
 fn with_pools<T>(records: &[Record], call: impl FnOnce(&[u32], Pools) -> T) -> T {
-    let mut records = records.to_vec();
-    for record in &mut records {
-        record.marks = if record.chain_length == 4_066 { Record::SERIES_POOL } else { 0 };
-    }
-    call(&numbers(&records), Pools { day: &chain(4_067), series: &chain(4_066) })
+    let day = [&chain(4_067)[..], &tagged(0xFE), &tagged(0xFF)].concat();
+    call(&numbers(records), Pools { day: &day, series: &chain(4_066) })
 }
 
 /// The output has 29 bytes, and each stays.

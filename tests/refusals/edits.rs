@@ -1,7 +1,7 @@
 //! Edit's refusals.
 
 use crate::chirdaluko::{edit, EditRefusal, Pools, Record};
-use crate::inputs::{event, numbers, put, shift, withdraw, DAY, UNDO};
+use crate::inputs::{event, numbers, put, shift, tagged, withdraw, DAY, TAGGED, UNDO};
 use crate::{Rows, ALL, COMMAND, EARLIER, ZERO};
 
 const CALL: &str = "Edit";
@@ -29,6 +29,7 @@ pub fn run(rows: &mut Rows) {
     for (marks, offset, chain_length) in [(0, 4, 0), (0, 0, 4), (0, 0, 3), (0, 1, 1), (2, 0, 1)] {
         refused(rows, &put(Record { marks, offset, chain_length, ..event(3, 300) }), no_chain);
     }
+    forbidden_tag(rows);
 
     let wrong_id = |offset, count| EditRefusal::WrongId { offset, count };
     refused(rows, &put(event(1, 300)), wrong_id);
@@ -42,16 +43,24 @@ pub fn run(rows: &mut Rows) {
     list_full(rows);
 }
 
-/// A count that the buffer has no records for, and a start that does not rise.
+/// A count that the buffer has no records for, a start that does not rise, and a chain with tag 0xFF, of which not even
+/// the event's WITHDRAW is carried out; with tag 0xFE it is.
 fn unsound(rows: &mut Rows) {
-    let twice = numbers(&[event(1, 100), event(2, 100)]);
-    for (count, script) in [(3, vec![0x05]), (2, vec![UNDO])] {
-        let mut list = twice.clone();
+    let mut at = |lent: &[u32], count, day: &[u8], script: &[u8]| {
+        let mut list = lent.to_vec();
         let refusal = EditRefusal::Unsound { count };
-        assert_eq!(edit(&mut list, count, POOLS, &script), Err(refusal));
-        assert_eq!(list, twice);
+        assert_eq!(edit(&mut list, count, Pools { day, series: &[] }, script), Err(refusal));
+        assert_eq!(list, lent);
         rows.add(CALL, refusal.number(), ZERO, ALL);
-    }
+    };
+    let twice = numbers(&[event(1, 100), event(2, 100)]);
+    at(&twice, 3, &DAY, &[0x05]);
+    at(&twice, 2, &DAY, &[UNDO]);
+
+    let mut list = numbers(&[Record { chain_length: TAGGED, ..event(1, 100) }]);
+    at(&list, 1, &tagged(0xFF), &withdraw(1));
+    assert_eq!(edit(&mut list, 1, Pools { day: &tagged(0xFE), series: &[] }, &withdraw(1)), Ok(0));
+    assert_eq!(list, [0; 6]);
 }
 
 /// 3 and 4: behind an edit that would succeed, and which is not carried out.
@@ -69,18 +78,34 @@ fn form(rows: &mut Rows) {
     at(&[UNDO, UNDO], EditRefusal::NothingToUndo { offset: BEFORE + 1, count: 1 });
 }
 
-/// A refused command between one that is carried out and one that is not.
-fn refused(rows: &mut Rows, command: &[u8], case: impl Fn(usize, usize) -> EditRefusal) {
-    refused_in(rows, 4, command, case);
+/// 9 by tag 0xFF in the pool that the marks choose; the same part of the other pool has tag 0xFE, and is taken.
+fn forbidden_tag(rows: &mut Rows) {
+    let (legal, forbidden) = (tagged(0xFE), tagged(0xFF));
+    let from = |marks| Record { marks, chain_length: TAGGED, ..event(3, 300) };
+    let (day, series) = (from(0), from(Record::SERIES_POOL));
+    for (pools, refused, taken) in [
+        (Pools { day: &forbidden, series: &legal }, day, series),
+        (Pools { day: &legal, series: &forbidden }, series, day),
+    ] {
+        refused_in(rows, pools, 4, &put(refused), |offset, count| EditRefusal::NoChain { offset, count });
+        let mut list = [77; 7];
+        assert_eq!(edit(&mut list, 0, pools, &put(taken)), Ok(1));
+        assert_eq!((&list[..6], list[6]), (&numbers(&[taken])[..], 77));
+    }
 }
 
 fn list_full(rows: &mut Rows) {
-    refused_in(rows, 2, &put(event(3, 300)), |offset, count| EditRefusal::ListFull { offset, count });
+    refused_in(rows, POOLS, 2, &put(event(3, 300)), |offset, count| EditRefusal::ListFull { offset, count });
 }
 
-/// The same in a buffer with room for so many records and a number over. It holds one record, and behind it what is no
-/// zero.
-fn refused_in(rows: &mut Rows, room: usize, command: &[u8], case: impl Fn(usize, usize) -> EditRefusal) {
+/// A refused command between one that is carried out and one that is not.
+fn refused(rows: &mut Rows, command: &[u8], case: impl Fn(usize, usize) -> EditRefusal) {
+    refused_in(rows, POOLS, 4, command, case);
+}
+
+/// The same with these pools, in a buffer with room for so many records and a number over. It holds one record, and
+/// behind it what is no zero.
+fn refused_in(rows: &mut Rows, pools: Pools, room: usize, command: &[u8], case: impl Fn(usize, usize) -> EditRefusal) {
     let mut list = vec![77; 6 * room + 1];
     list[..6].copy_from_slice(&numbers(&[event(1, 100)]));
     let mut left = list.clone();
@@ -88,7 +113,7 @@ fn refused_in(rows: &mut Rows, room: usize, command: &[u8], case: impl Fn(usize,
 
     let script = [&put(event(2, 200)), command, &put(event(4, 400))].concat();
     let refusal = case(BEFORE, 2);
-    assert_eq!(edit(&mut list, 1, POOLS, &script), Err(refusal));
+    assert_eq!(edit(&mut list, 1, pools, &script), Err(refusal));
     assert_eq!(list, left);
     rows.add(CALL, refusal.number(), COMMAND, EARLIER);
 }

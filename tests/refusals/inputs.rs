@@ -5,6 +5,9 @@ use crate::chirdaluko::Record;
 /// One descriptor without bytes, and a byte that begins none that is whole.
 pub const DAY: [u8; 3] = [0x4D, 0x00, 0x4D];
 
+/// How many bytes `tagged` has.
+pub const TAGGED: u32 = 7;
+
 pub const UNDO: u8 = 0x04;
 
 /// An event of an hour without marks and descriptors.
@@ -47,4 +50,10 @@ pub fn chain(mut length: usize) -> Vec<u8> {
         length -= descriptor;
     }
     bytes
+}
+
+/// Two descriptors, a chain unless the tag is 0xFF: a content_descriptor, and one with this tag, whose one byte is
+/// 0xFF.
+pub fn tagged(tag: u8) -> [u8; TAGGED as usize] {
+    [0x54, 0x02, 0x10, 0x00, tag, 0x01, 0xFF]
 }

@@ -49,7 +49,7 @@ impl Rows {
     }
 }
 
-/// The wrapper's limits are document 01's.
+/// The wrapper's limits are those of documents 01 and 02.
 const _: () = assert!(
     chirdaluko::RECORD == 6
         && chirdaluko::EVENTS_MAX == 2_048
@@ -57,6 +57,7 @@ const _: () = assert!(
         && chirdaluko::ID_MAX == 65_535
         && chirdaluko::WINDOW_SECONDS == 64 * 86_400
         && chirdaluko::DURATION_MAX == 359_999
+        && chirdaluko::FORBIDDEN_TAG == 0xFF
         && chirdaluko::BASE_DAY_MAX == 65_472
         && chirdaluko::VERSION_MAX == 31
         && chirdaluko::SEGMENT_SECONDS == 10_800

@@ -2,7 +2,7 @@
 //! to it.
 
 use crate::chirdaluko::{build, check, crc32, read, Identity, Pools, ReadRefusal, Reading, Record};
-use crate::inputs::{event, numbers};
+use crate::inputs::{event, numbers, tagged, TAGGED};
 use crate::{Rows, ALL, EVENTS, FILE, SECTION, ZERO};
 use std::ops::Range;
 
@@ -15,18 +15,19 @@ const THIRD: usize = 60;
 const END: usize = 90;
 
 pub fn run(rows: &mut Rows) {
-    let file = built(&[event(1, 100), event(2, 345_600), event(3, 356_400)]);
+    let file = built(&[event(1, 100), event(2, 345_600), event(3, 356_400)], &[]);
     assert_eq!(file.len(), END);
     frames(rows, &file);
     headers(rows, &file);
     numbering(rows, &file);
     event_loops(rows, &file);
+    forbidden_tag(rows);
     ends(rows, &file);
     event_limit(rows);
 }
 
-fn built(records: &[Record]) -> Vec<u8> {
-    let pools = Pools { day: &[], series: &[] };
+fn built(records: &[Record], day: &[u8]) -> Vec<u8> {
+    let pools = Pools { day, series: &[] };
     let mut out = vec![0; 65_536];
     let length = build(&numbers(records), records.len(), pools, BASE_DAY, IDENTITY, &mut out).expect("a sound list");
     out.truncate(length);
@@ -136,7 +137,7 @@ fn event_loops(rows: &mut Rows, file: &[u8]) {
     with(24, 0x20);
     with(25, 0x01);
     // Two events, the second with the start of the first.
-    let two = changed(&built(&[event(1, 100), event(2, 160)]), 0..42, |section| section[31] = 0x01);
+    let two = changed(&built(&[event(1, 100), event(2, 160)], &[]), 0..42, |section| section[31] = 0x01);
     events(&two, BASE_DAY, 0);
     // The third section's segment has a second section, and the third section no events.
     let mut empty = file[..THIRD].to_vec();
@@ -145,6 +146,18 @@ fn event_loops(rows: &mut Rows, file: &[u8]) {
     seal(&mut third);
     empty = changed(&empty, SECOND, |section| section[7] = 9);
     events(&[empty, third].concat(), BASE_DAY, THIRD);
+}
+
+/// The second section's event has a descriptor with tag 0xFE, which is accepted; then with tag 0xFF.
+fn forbidden_tag(rows: &mut Rows) {
+    let file = built(&[event(1, 100), Record { chain_length: TAGGED, ..event(2, 345_600) }], &tagged(0xFE));
+    let section = SECOND.start..file.len();
+    let accepted = Ok(Reading { count: 2, identity: IDENTITY });
+    assert_eq!(read(&file, BASE_DAY, &mut [77; 12]), accepted);
+    assert_eq!(check(&file, BASE_DAY), accepted);
+    // The tag stands behind the section's 14 bytes, the event's 12 and the first descriptor's 4.
+    let forbidden = changed(&file, section, |section| section[30] = 0xFF);
+    refused(rows, &forbidden, BASE_DAY, ReadRefusal::EventLoop { offset: SECOND.start }, SECTION);
 }
 
 fn ends(rows: &mut Rows, file: &[u8]) {
@@ -169,7 +182,7 @@ fn ends(rows: &mut Rows, file: &[u8]) {
 /// 2,048 events in segment 0, and one more in its last section.
 fn event_limit(rows: &mut Rows) {
     let records: Vec<_> = (0..2_048).map(|place| event(place, 5 * place)).collect();
-    let mut file = built(&records);
+    let mut file = built(&records, &[]);
     assert_eq!(check(&file, BASE_DAY), Ok(Reading { count: 2_048, identity: IDENTITY }));
     let last = 6 * (18 + 339 * 12);
     let mut section = file.split_off(last);

@@ -2,9 +2,9 @@
 
 use crate::chirdaluko::{build, check, edit, plan, BuildRefusal, EditRefusal, Identity, Pools, Record};
 use crate::details::Detail;
-use crate::inputs::{chain, event, numbers, put, shift, withdraw, UNDO};
+use crate::inputs::{chain, event, numbers, put, shift, tagged, withdraw, TAGGED, UNDO};
 
-pub const ALL: [Detail; 12] = [
+pub const ALL: [Detail; 15] = [
     (
         "The offset that Edit returns is that of the refused command's own byte, whichever operand is wrong.",
         command_offset,
@@ -23,6 +23,17 @@ pub const ALL: [Detail; 12] = [
     ("Events may overlap: no call looks at it.", overlap),
     ("PUT takes over 4,066 bytes of descriptors; Build then says 10, and Plan 255.", large_chain),
     ("An event without descriptors has its offset looked at, too: above the pool's length it is 9.", empty_part),
+    (
+        "A descriptor with tag 0xFF makes a chain none, wherever it stands; \
+         0xFF as a length or within a descriptor does not.",
+        forbidden_tag,
+    ),
+    ("Only the part that a record chooses is looked at: elsewhere in the pool a tag may be 0xFF.", chosen_part),
+    (
+        "A list that has tag 0xFF is 12 also for the WITHDRAW of its event, \
+         until the tag in the pool is another or the record's length ends before it.",
+        tag_mended,
+    ),
 ];
 
 pub const NO_POOLS: Pools = Pools { day: &[], series: &[] };
@@ -116,4 +127,38 @@ fn large_chain() -> bool {
 fn empty_part() -> bool {
     let at = |offset| edited(&[put(Record { offset, ..event(1, 0) })]).0.map_err(EditRefusal::number);
     at(0) == Ok(1) && at(1) == Err(9)
+}
+
+/// What Edit says to a PUT of this part of a day pool.
+fn put_part(day: &[u8], offset: usize, length: usize) -> Result<usize, u32> {
+    let record = Record { offset: offset as u32, chain_length: length as u32, ..event(1, 0) };
+    edit(&mut [0; 6], 0, Pools { day, series: &[] }, &put(record)).map_err(EditRefusal::number)
+}
+
+/// Each of three descriptors with the tag; then descriptors with 0xFF as length and within.
+fn forbidden_tag() -> bool {
+    let three = [0x4D, 0x01, 0x09, 0x54, 0x00, 0xFE, 0x01, 0x20];
+    let length = chain(257);
+    put_part(&three, 0, 8) == Ok(1)
+        && [0, 3, 5].iter().all(|&tag| {
+            let mut bytes = three;
+            bytes[tag] = 0xFF;
+            put_part(&bytes, 0, 8) == Err(9)
+        })
+        && length[1] == 0xFF
+        && put_part(&length, 0, 257) == Ok(1)
+        && put_part(&[0x4D, 0x02, 0xFF, 0xFF], 0, 4) == Ok(1)
+}
+
+fn chosen_part() -> bool {
+    let day = [0xFF, 0x00, 0x4D, 0x00, 0xFF, 0x00];
+    put_part(&day, 2, 2) == Ok(1) && put_part(&day, 0, 4) == Err(9) && put_part(&day, 2, 4) == Err(9)
+}
+
+fn tag_mended() -> bool {
+    let said = |tag, chain_length| {
+        let mut list = numbers(&[Record { chain_length, ..event(1, 0) }]);
+        edit(&mut list, 1, Pools { day: &tagged(tag), series: &[] }, &withdraw(1)).map_err(EditRefusal::number)
+    };
+    said(0xFF, TAGGED) == Err(12) && said(0xFE, TAGGED) == Ok(0) && said(0xFF, 4) == Ok(0) && said(0xFF, 0) == Ok(0)
 }

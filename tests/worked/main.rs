@@ -9,6 +9,7 @@ mod chirdaluko;
 mod details;
 mod edit_details;
 mod file_details;
+mod forbidden_tag;
 #[allow(dead_code)]
 #[path = "../refusals/inputs.rs"]
 mod inputs;
@@ -59,6 +60,7 @@ fn main() {
             crc("all of section 32 of table 0x50", section),
         ],
     );
+    block("What the calls say, by the second tag:", &forbidden_tag::lines());
     details::print();
     tables::print();
 }

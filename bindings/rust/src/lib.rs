@@ -49,6 +49,9 @@ pub const ID_MAX: u32 = 65_535;
 pub const WINDOW_SECONDS: u32 = 5_529_600;
 /// A record's duration, 99:59:59; the least is 1.
 pub const DURATION_MAX: u32 = 359_999;
+/// The one tag that no descriptor may have: NorDig Rules of Operation, Table 1, forbid it. docs/MANUAL.md, "Tag 0xFF",
+/// says what to do about a list or file that has it.
+pub const FORBIDDEN_TAG: u8 = 0xFF;
 /// The last base day: a Modified Julian Date.
 pub const BASE_DAY_MAX: u32 = 65_472;
 /// The last version.
@@ -89,7 +92,7 @@ pub struct Record {
     pub marks: u32,
     /// Where its descriptors begin in their pool.
     pub offset: u32,
-    /// How many bytes they have.
+    /// How many bytes they have: whole descriptors, none with [`FORBIDDEN_TAG`].
     pub chain_length: u32,
 }
 
@@ -137,7 +140,7 @@ pub fn cause(number: u32) -> &'static str {
         6 => "PUT: the list has the id already; WITHDRAW, MOVE: it has not",
         7 => "PUT, MOVE: another event has the start",
         8 => "PUT: the list is at its limit",
-        9 => "PUT: the descriptors lie outside their pool, or do not end where their part ends",
+        9 => "PUT: the descriptors lie outside their pool, do not end where their part ends, or one has tag 0xFF",
         10 => "a segment needs a ninth section, or has an event with over 4,066 bytes of descriptors",
         11 => "the output is shorter than the file",
         12 => "the list is not sound",
@@ -160,7 +163,7 @@ pub fn cause(number: u32) -> &'static str {
 /// one made it.
 #[derive(Clone, Copy, Debug, PartialEq, Eq)]
 pub enum EditRefusal {
-    /// 12: the list is not sound.
+    /// 12: the list is not sound; one descriptor with [`FORBIDDEN_TAG`] is enough.
     Unsound { count: usize },
     /// 3: the script has an unknown command, or ends within a command's operands.
     BrokenScript { offset: usize, count: usize },
@@ -168,7 +171,7 @@ pub enum EditRefusal {
     NothingToUndo { offset: usize, count: usize },
     /// 5: PUT, MOVE: start, duration or marks out of range.
     OutOfRange { offset: usize, count: usize },
-    /// 9: PUT: the descriptors lie outside their pool, or do not end where their part ends.
+    /// 9: PUT: the descriptors lie outside their pool, do not end where their part ends, or one has tag 0xFF.
     NoChain { offset: usize, count: usize },
     /// 6: PUT: the list has the id already; WITHDRAW, MOVE: it has not.
     WrongId { offset: usize, count: usize },
@@ -215,7 +218,7 @@ pub enum BuildRefusal {
     BaseDay,
     /// 2: the version is above 31.
     Version,
-    /// 12: the list is not sound.
+    /// 12: the list is not sound; one descriptor with [`FORBIDDEN_TAG`] is enough.
     Unsound,
     /// 10: the lowest segment index, 0 to 511, that needs a ninth section, or has an event with over 4,066 bytes of
     /// descriptors.
@@ -259,7 +262,7 @@ pub enum ReadRefusal {
     Header { offset: usize },
     /// 23: a section is missing, doubled or out of order, or its table is past last_table_id.
     Numbering { offset: usize },
-    /// 24: a section's events break a rule.
+    /// 24: a section's events break a rule; a descriptor with [`FORBIDDEN_TAG`] does.
     EventLoop { offset: usize },
     /// 26: the file has more than 2,048 events; the section has event 2,049.
     EventLimit { offset: usize },
