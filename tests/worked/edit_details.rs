@@ -1,10 +1,10 @@
 //! Details of Edit.
 
-use crate::chirdaluko::{build, check, edit, plan, BuildRefusal, EditRefusal, Identity, Pools, Record};
+use crate::chirdaluko::{build, check, edit, plan, BuildRefusal, EditRefusal, Identity, Pools, Record, SEGMENTS};
 use crate::details::Detail;
 use crate::inputs::{chain, event, numbers, put, shift, tagged, withdraw, TAGGED, UNDO};
 
-pub const ALL: [Detail; 15] = [
+pub const ALL: [Detail; 16] = [
     (
         "The offset that Edit returns is that of the refused command's own byte, whichever operand is wrong.",
         command_offset,
@@ -34,6 +34,7 @@ pub const ALL: [Detail; 15] = [
          until the tag in the pool is another or the record's length ends before it.",
         tag_mended,
     ),
+    ("The least count with which Plan gives 254 ends with the record at fault.", fault_found),
 ];
 
 pub const NO_POOLS: Pools = Pools { day: &[], series: &[] };
@@ -161,4 +162,25 @@ fn tag_mended() -> bool {
         edit(&mut list, 1, Pools { day: &tagged(tag), series: &[] }, &withdraw(1)).map_err(EditRefusal::number)
     };
     said(0xFF, TAGGED) == Err(12) && said(0xFE, TAGGED) == Ok(0) && said(0xFF, 4) == Ok(0) && said(0xFF, 0) == Ok(0)
+}
+
+/// Five records, and each but the first at fault in turn: by the tag, by a start that does not rise, by an id.
+fn fault_found() -> bool {
+    let sound: Vec<_> = (1..=5).map(|id| event(id, 3_600 * id)).collect();
+    let day = tagged(0xFF);
+    let is_sound = |records: &[Record], count| {
+        let mut counts = [0; SEGMENTS];
+        plan(&numbers(records), count, Pools { day: &day, series: &[] }, &mut counts);
+        counts != [254; SEGMENTS]
+    };
+    let faults: [fn(&mut Record); 3] =
+        [|record| record.chain_length = TAGGED, |record| record.start = 3_600, |record| record.id = 1];
+    is_sound(&sound, 5)
+        && (1..5).all(|place| {
+            faults.iter().all(|fault| {
+                let mut records = sound.clone();
+                fault(&mut records[place]);
+                (0..=5).all(|count| is_sound(&records, count) == (count <= place))
+            })
+        })
 }
