@@ -1,6 +1,7 @@
 // Plan and Build (01, "Build, Read").
 use build_answer::BuildAnswer;
 use build_counts::count;
+use eit::Caller;
 use eit::Identity;
 use eit::Sizes;
 use eit::limits::BASE_DAY_MAX;
@@ -9,7 +10,7 @@ use eit::limits::TABLE_SEGMENTS;
 use eit::limits::TABLES;
 use eit::limits::VERSION_MAX;
 ghost use mathlib.Core.Path.{_≡_};
-ghost use Rattle.eit.specs.Sizes.{broadcast};
+ghost use Rattle.eit.specs.Sizes.{sizesOf};
 ghost use Rattle.eit.specs.Pools.{lentPools};
 ghost use Rattle.eit.specs.Records.{lentList};
 ghost use Rattle.schedule.specs.Plan.{plan};
@@ -37,15 +38,18 @@ fn plan_within<'a>(
 
 // 01's Plan: sixteen tables of thirty-two section counts, each that of the definition.
 pub fn plan<'a>(
+    caller: Caller,
     list: &[u32],
     count: usize,
     day: &'a [u8],
     series: &'a [u8],
 ) -> [[u8; TABLE_SEGMENTS]; TABLES]
     ensures { λ r. ⌜
-        r ≡ plan broadcast (lentPools (now (day .entry)) (now (series .entry))) (lentList (now (list .entry)) count) ⌝ }
+        r
+        ≡ plan (sizesOf caller) (lentPools (now (day .entry)) (now (series .entry)))
+        (lentList (now (list .entry)) count) ⌝ }
 {
-    plan_within(list, count, day, series, Sizes::BROADCAST)
+    plan_within(list, count, day, series, Sizes::of(caller))
 }
 
 // Build under any sizes. Its refusals in their order, 1, 2, 12, 10, 11, come before anything is written.
@@ -98,6 +102,7 @@ fn build_within<'a>(
 
 // 01's Build: number, value and every byte of the output are those of the definition.
 pub fn build<'a>(
+    caller: Caller,
     list: &[u32],
     count: usize,
     day: &'a [u8],
@@ -107,9 +112,8 @@ pub fn build<'a>(
     out: &mut [u8],
 ) -> BuildAnswer
     ensures { λ r. ⌜
-        build broadcast (lentPools (now (day .entry)) (now (series .entry))) (lentList (now (list .entry)) count)
-        «base_day» identity
-        (now (out .entry))
+        build (sizesOf caller) (lentPools (now (day .entry)) (now (series .entry)))
+        (lentList (now (list .entry)) count) «base_day» identity (now (out .entry))
         ≡ outcomeOf r (now (out .exit)) ⌝ }
 {
     build_within(
@@ -120,6 +124,6 @@ pub fn build<'a>(
         base_day,
         identity,
         out,
-        Sizes::BROADCAST,
+        Sizes::of(caller),
     )
 }

@@ -1,0 +1,2 @@
+-- which numbers name which caller
+pub mod CallerNumbers

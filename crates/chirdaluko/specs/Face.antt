@@ -1,7 +1,11 @@
--- What the face's numbers say: the identity that a call is given, and a struct and the lent buffer as the outcome of
--- the call's definition. Assumes nothing.
+-- What the face's numbers say: the caller and the identity that a call is given, and a struct and the lent buffer as
+-- the outcome of the call's definition. Assumes nothing.
+use mathlib.Core.Bool.{true, false}
 use mathlib.Core.List.{List}
 use Prim.Native.Nat.{ℕ}
+use lib.Dec.{eqb}
+use Rattle.eit.specs.declared.Caller.{Caller}
+use Rattle.eit.specs.declared.Caller.the-variants.{Broadcast, Cable}
 use Rattle.eit.specs.Records.{lentList}
 use Rattle.eit.specs.declared.Identity.{Identity}
 use Rattle.script.specs.Edit.{Edited}
@@ -10,6 +14,10 @@ use Rattle.schedule.specs.Build.{Built}
 use Rattle.chirdaluko.specs.declared.EitEdited.{EitEdited}
 use Rattle.chirdaluko.specs.declared.EitBuilt.{EitBuilt}
 use Rattle.chirdaluko.specs.declared.EitReading.{EitReading}
+
+-- 02, W-206: "which of the two callers it serves": 0 is broadcast, every other number cable
+abbrev pub callerOf : ℕ → Caller
+callerOf number = elim (eqb number 0) [ true ↦ Broadcast | false ↦ Cable ]
 
 abbrev pub givenIdentity : ℕ → ℕ → ℕ → ℕ → Identity
 givenIdentity service stream network version =

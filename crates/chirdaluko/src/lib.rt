@@ -1,5 +1,6 @@
 // The face for C and Rust (include/chirdaluko.h, bindings/rust): numbers and slices only. Each call turns an answer
 // into document 01's numbers, and has the same equation as the call behind it.
+use eit::Caller;
 use eit::Identity;
 use eit::Triplet;
 use eit::limits::SEGMENTS;
@@ -7,7 +8,7 @@ use read_answer::ReadResult;
 ghost use mathlib.Core.Path.{_≡_};
 ghost use mathlib.Core.List.{flatten};
 ghost use Rattle.eit.specs.Crc.{crc32};
-ghost use Rattle.eit.specs.Sizes.{broadcast};
+ghost use Rattle.eit.specs.Sizes.{sizesOf};
 ghost use Rattle.eit.specs.Pools.{lentPools};
 ghost use Rattle.eit.specs.Records.{lentList};
 ghost use Rattle.script.specs.Edit.{edit};
@@ -15,7 +16,7 @@ ghost use Rattle.sections.specs.Read.{checkFile, read};
 ghost use Rattle.schedule.specs.Plan.{plan};
 ghost use Rattle.schedule.specs.Build.{build};
 ghost use Rattle.read_answer.specs.Outcome.{outcomeOf};
-ghost use Rattle.chirdaluko.specs.Face.{editedOf, builtOf, givenIdentity, answerOf, readingOf};
+ghost use Rattle.chirdaluko.specs.Face.{callerOf, editedOf, builtOf, givenIdentity, answerOf, readingOf};
 
 // What Edit returns: document 01's number and value, and the count then held.
 #[repr(C)]
@@ -45,9 +46,21 @@ pub struct EitReading {
     pub version: u8,
 }
 
+// Whom a number names: 0 broadcast, any other cable.
+fn caller_of(caller: u8) -> Caller
+    ensures { λ r. ⌜ r ≡ callerOf caller ⌝ }
+{
+    if caller == 0 {
+        Caller::Broadcast
+    } else {
+        Caller::Cable
+    }
+}
+
 // Edit: number, value, count and every number of the list are those of the definition.
 #[no_mangle]
 pub extern "C" fn eit_edit<'a>(
+    caller: u8,
     list: &mut [u32],
     count: usize,
     day: &'a [u8],
@@ -55,11 +68,11 @@ pub extern "C" fn eit_edit<'a>(
     script: &[u8],
 ) -> EitEdited
     ensures { λ r. ⌜
-        edit broadcast (lentPools (now (day .entry)) (now (series .entry))) (lentList (now (list .entry)) count)
-        (now (script .entry))
+        edit (sizesOf (callerOf caller)) (lentPools (now (day .entry)) (now (series .entry)))
+        (lentList (now (list .entry)) count) (now (script .entry))
         ≡ editedOf r (now (list .exit)) ⌝ }
 {
-    let r = edit::edit(list, count, day, series, script);
+    let r = edit::edit(caller_of(caller), list, count, day, series, script);
     let answer = r.answer;
     let held = r.count;
     EitEdited {
@@ -72,6 +85,7 @@ pub extern "C" fn eit_edit<'a>(
 // Build: number, value and every byte of the output are those of the definition.
 #[no_mangle]
 pub extern "C" fn eit_build<'a>(
+    caller: u8,
     list: &[u32],
     count: usize,
     day: &'a [u8],
@@ -84,8 +98,8 @@ pub extern "C" fn eit_build<'a>(
     out: &mut [u8],
 ) -> EitBuilt
     ensures { λ r. ⌜
-        build broadcast (lentPools (now (day .entry)) (now (series .entry))) (lentList (now (list .entry)) count)
-        «base_day»
+        build (sizesOf (callerOf caller)) (lentPools (now (day .entry)) (now (series .entry)))
+        (lentList (now (list .entry)) count) «base_day»
         (givenIdentity «service_id» «transport_stream_id» «original_network_id» version) (now (out .entry))
         ≡ builtOf r (now (out .exit)) ⌝ }
 {
@@ -95,7 +109,16 @@ pub extern "C" fn eit_build<'a>(
         original_network_id,
     };
     let identity = Identity { triplet, version };
-    let answer = build::build(list, count, day, series, base_day, identity, out);
+    let answer = build::build(
+        caller_of(caller),
+        list,
+        count,
+        day,
+        series,
+        base_day,
+        identity,
+        out,
+    );
     EitBuilt {
         number: build_answer::number_of(answer),
         value: build_answer::value_of(answer),
@@ -105,6 +128,7 @@ pub extern "C" fn eit_build<'a>(
 // Plan: its sixteen tables of thirty-two section counts, one behind the other.
 #[no_mangle]
 pub extern "C" fn eit_plan<'a>(
+    caller: u8,
     list: &[u32],
     count: usize,
     day: &'a [u8],
@@ -113,10 +137,10 @@ pub extern "C" fn eit_plan<'a>(
 )
     ensures { λ _. ⌜
         now (counts .exit)
-        ≡ flatten (plan broadcast (lentPools (now (day .entry)) (now (series .entry)))
+        ≡ flatten (plan (sizesOf (callerOf caller)) (lentPools (now (day .entry)) (now (series .entry)))
         (lentList (now (list .entry)) count)) ⌝ }
 {
-    *counts = build_plan::flat_of(build::plan(list, count, day, series));
+    *counts = build_plan::flat_of(build::plan(caller_of(caller), list, count, day, series));
 }
 
 // An answer of Read as numbers.
@@ -139,19 +163,25 @@ fn reading_of(checked: ReadResult) -> EitReading
 
 // Read: number, value, count, identity and every number of the record buffer are those of the definition.
 #[no_mangle]
-pub extern "C" fn eit_read(file: &[u8], base_day: u32, records: &mut [u32]) -> EitReading
+pub extern "C" fn eit_read(
+    caller: u8,
+    file: &[u8],
+    base_day: u32,
+    records: &mut [u32],
+) -> EitReading
     ensures { λ r. ⌜
-        read broadcast «base_day» (now (file .entry)) (now (records .entry)) ≡ readingOf r (now (records .exit)) ⌝ }
+        read (sizesOf (callerOf caller)) «base_day» (now (file .entry)) (now (records .entry))
+        ≡ readingOf r (now (records .exit)) ⌝ }
 {
-    reading_of(read::read(file, base_day, records))
+    reading_of(read::read(caller_of(caller), file, base_day, records))
 }
 
 // Read without a record buffer.
 #[no_mangle]
-pub extern "C" fn eit_check(file: &[u8], base_day: u32) -> EitReading
-    ensures { λ r. ⌜ checkFile broadcast «base_day» (now (file .entry)) ≡ answerOf r ⌝ }
+pub extern "C" fn eit_check(caller: u8, file: &[u8], base_day: u32) -> EitReading
+    ensures { λ r. ⌜ checkFile (sizesOf (callerOf caller)) «base_day» (now (file .entry)) ≡ answerOf r ⌝ }
 {
-    reading_of(read_check::check(file, base_day))
+    reading_of(read_check::check(caller_of(caller), file, base_day))
 }
 
 // CRC_32.

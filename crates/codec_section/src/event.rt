@@ -43,7 +43,7 @@ fn write_chain(out: &mut [u8], at: usize, chain: &[u8])
     }
 }
 
-// The event of a record, with the chain that the caller has chosen. A field holds only the bits that it has room for:
+// The event of a record, with the chain that was chosen for it. A field holds only the bits that it has room for:
 // of an id above 65,535 the low 16, and a chain length above 4,095 reaches into the bits above it.
 pub fn write_event(out: &mut [u8], at: usize, base_day: u32, event: Record, chain: &[u8])
     ensures { λ _. ⌜

@@ -4,10 +4,11 @@ use edit_answer::EditAnswer;
 use edit_answer::Edited;
 use edit_scan::scan;
 use edit_scan::scan::Form;
+use eit::Caller;
 use eit::Sizes;
 ghost use mathlib.Core.Path.{_≡_};
 ghost use Prim.Native.Nat.{_≤_};
-ghost use Rattle.eit.specs.Sizes.{broadcast};
+ghost use Rattle.eit.specs.Sizes.{sizesOf};
 ghost use Rattle.eit.specs.Pools.{lentPools};
 ghost use Rattle.eit.specs.Records.{lentList};
 ghost use Rattle.script.specs.Edit.{edit};
@@ -52,6 +53,7 @@ fn edit_within<'a>(
 
 // 01's Edit: number, value, count and every number of the list are those of the definition.
 pub fn edit<'a>(
+    caller: Caller,
     list: &mut [u32],
     count: usize,
     day: &'a [u8],
@@ -59,9 +61,9 @@ pub fn edit<'a>(
     script: &[u8],
 ) -> Edited
     ensures { λ r. ⌜
-        edit broadcast (lentPools (now (day .entry)) (now (series .entry))) (lentList (now (list .entry)) count)
-        (now (script .entry))
+        edit (sizesOf caller) (lentPools (now (day .entry)) (now (series .entry)))
+        (lentList (now (list .entry)) count) (now (script .entry))
         ≡ outcomeOf r (now (list .exit)) ⌝ }
 {
-    edit_within(list, count, day, series, script, Sizes::BROADCAST)
+    edit_within(list, count, day, series, script, Sizes::of(caller))
 }

@@ -10,7 +10,7 @@ use edit_answer::Edited;
 use edit_scan::command;
 use edit_scan::scan;
 use eit::Sizes;
-use eit::limits::EVENT_LIMIT;
+use eit::limits::EVENTS_MAX;
 use list_records::records::RECORD_SIZE;
 ghost use mathlib.Core.Path.{_≡_};
 ghost use Prim.Native.Nat.{ℕ, _*_, _≤_};
@@ -148,7 +148,7 @@ pub fn run_live<'a>(
         ≡ outcomeOf r (now (list .exit))) ⌝ }
 {
     let mut slots = [0u32; SLOT_LIMIT * RECORD_SIZE];
-    let mut order = [0u16; EVENT_LIMIT];
+    let mut order = [0u16; EVENTS_MAX];
     let mut ids = [0u16; IDS];
     index::load(list, count, &mut slots, &mut order, &mut ids);
     let r = run_indexed(

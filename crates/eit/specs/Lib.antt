@@ -1,5 +1,5 @@
 -- Definitions, in the order of document 01.
-pub mod Sizes  -- bytes in a section, events in a list
+pub mod Sizes  -- bytes in a section, events in a list, by the caller
 pub mod Limits  -- ranges of a record's values, base day and version
 pub mod Identity  -- the identity of zeros
 pub mod Fields  -- big-endian fields

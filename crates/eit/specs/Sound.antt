@@ -44,7 +44,8 @@ startsOf rs = map (λ (r : Record). r .start) rs
 unfoldable pub soundRecords : Pools → List Record → Bool
 soundRecords pools rs = allValid pools rs && (rising (eventsIn pools rs) && allDiffer (idsOf rs))
 
--- 01's term: sound. The count is at most 2,048, the buffer has at least 6 × count numbers, and the records are as above
+-- 01's term: sound. The count is at most 2,048 (02, W-206: for cable 12 uses 256), the buffer has at least 6 × count
+-- numbers, and the records are as above
 unfoldable pub sound : Sizes → Pools → EventList → Bool
 unfolding soundRecords
 sound sizes pools list =

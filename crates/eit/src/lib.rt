@@ -1,10 +1,11 @@
-// The types that the calls share, the least start behind an event, the time type, and the limits that several crates
-// ask for. Everything else of this crate is definitions (specs/) and laws (proofs/).
-use crate::limits::EVENT_LIMIT;
+// The types that the calls share, the least start behind an event, a caller's sizes, the time type, and the limits that
+// several crates ask for. Everything else of this crate is definitions (specs/) and laws (proofs/).
+use crate::limits::EVENTS_MAX;
 ghost use mathlib.Core.Path.{_≡_};
 ghost use mathlib.Core.Bool.{_&&_};
 ghost use mathlib.Core.List.{[]};
 ghost use lib.Dec.{ltb, leb};
+ghost use Rattle.eit.specs.Sizes.{sizesOf};
 ghost use Rattle.eit.specs.Limits.{windowSeconds, durationMin, durationMax};
 ghost use Rattle.eit.specs.Time.{timeOf};
 ghost use Rattle.eit.specs.Events.{eventWith, leastBehind};
@@ -61,19 +62,40 @@ pub fn zero_identity() -> Identity
     }
 }
 
-// The two sizes that document 01 fixes for broadcast.
+// Whom a call serves (02, W-206): it decides the sizes.
+pub enum Caller {
+    Broadcast,
+    // The head-end whose multiplexer takes short sections.
+    Cable,
+}
+
+// The two sizes of a caller.
 pub struct Sizes {
-    // The most bytes of a whole section ("The file of sections").
+    // The most bytes of a whole section (01, "The file of sections").
     pub section_limit: u16,
-    // The most events of a list or a file ("Event record and sound list", "The file of sections").
+    // The most events of a list or a file (01, "Event record and sound list", "The file of sections").
     pub event_limit: usize,
 }
 
 impl Sizes {
     pub const BROADCAST: Self = Sizes {
         section_limit: 4_096,
-        event_limit: EVENT_LIMIT,
+        event_limit: EVENTS_MAX,
     };
+
+    pub const CABLE: Self = Sizes {
+        section_limit: 1_024,
+        event_limit: 256,
+    };
+
+    pub fn of(caller: Caller) -> Self
+        ensures { λ r. ⌜ r ≡ sizesOf caller ⌝ }
+    {
+        match caller {
+            Caller::Broadcast => Self::BROADCAST,
+            Caller::Cable => Self::CABLE,
+        }
+    }
 }
 
 // A time of day or a duration, as its six BCD digits show it.

@@ -1,7 +1,7 @@
 // Limits of document 01 that several crates ask for.
 
-// Events in a list or a file at most ("Event record and sound list", "The file of sections").
-pub const EVENT_LIMIT: usize = 2_048;
+// Events in a list or a file at most, for any caller ("Event record and sound list", "The file of sections").
+pub const EVENTS_MAX: usize = 2_048;
 
 // A record's id is at most 65,535, its marks are 0 to 7 ("Event record and sound list").
 pub const ID_MAX: u32 = 65_535;

@@ -1,5 +1,6 @@
 // Program plan (01, "Samples with the cuts marked"): the sections of the schedule that a script on standard input
 // makes.
+use eit::Caller;
 use libc::STDERR_FILENO;
 use libc::STDIN_FILENO;
 use libc::STDOUT_FILENO;
@@ -31,7 +32,16 @@ fn write_built(list: &[u32], count: usize, output: &mut [u8], text: &mut [u8]) -
         (4 * length (now (output .entry)) + 64) ⌝ }
 {
     let identity = eit::zero_identity();
-    let built = build::build(list, count, b"", b"", BASE_DAY, identity, output);
+    let built = build::build(
+        Caller::Broadcast,
+        list,
+        count,
+        b"",
+        b"",
+        BASE_DAY,
+        identity,
+        output,
+    );
     let number = build_answer::number_of(built);
     if number != 0 {
         return plan_listing::write_refused(text, number);
@@ -49,7 +59,7 @@ fn write_within(script: &[u8], list: &mut [u32], output: &mut [u8], text: &mut [
     if SCRIPT_MAX < script.len() {
         return plan_listing::write_too_long(text);
     }
-    let edited = edit::edit(list, 0, b"", b"", script);
+    let edited = edit::edit(Caller::Broadcast, list, 0, b"", b"", script);
     let answer = edited.answer;
     let count = edited.count;
     let number = edit_answer::number_of(answer);

@@ -5,7 +5,7 @@ use mathlib.Core.List.{List}
 use Prim.Native.Nat.{ℕ, _*_, _/_, _≤_, _<_}
 use native.Mathlib.Omega.{arith}
 use lib.ListN.{length}
-use Rattle.eit.specs.Sizes.{broadcast}
+use Rattle.eit.specs.declared.Sizes.{Sizes}
 use Rattle.eit.specs.Identity.{zeroIdentity}
 use Rattle.eit.specs.Overwrite.{overwrite}
 use Rattle.eit.specs.Records.{recordSize, numbersOfAll}
@@ -17,44 +17,44 @@ use Rattle.read_answer.specs.declared.ReadResult.{ReadResult}
 use Rattle.read_answer.specs.declared.ReadAnswer.the-variants.{RecordsShort}
 use Rattle.read.specs.ReadOutcome.{readOutcome}
 
-module _ (base : ℕ) (file buffer : List ℕ) (checked : ReadResult)
-    (is : checkFile broadcast base file ≡ outcomeOf checked) where
-  number-is : checkFile broadcast base file .number ≡ answerNumber (checked .answer)
+module _ (sizes : Sizes) (base : ℕ) (file buffer : List ℕ) (checked : ReadResult)
+    (is : checkFile sizes base file ≡ outcomeOf checked) where
+  number-is : checkFile sizes base file .number ≡ answerNumber (checked .answer)
   number-is = ap (λ (a : Answer). a .number) is
 
-  count-is : checkFile broadcast base file .count ≡ answerCount (checked .answer)
+  count-is : checkFile sizes base file .count ≡ answerCount (checked .answer)
   count-is = ap (λ (a : Answer). a .count) is
 
   pub read-stops : {number : ℕ} → number ≡ answerNumber (checked .answer) → (number ≡ 0 → ⊥)
-      → read broadcast base file buffer ≡ readOutcome checked buffer
+      → read sizes base file buffer ≡ readOutcome checked buffer
   read-stops made refused =
-      read-refused broadcast base file buffer (λ zero. refused (made ∙ sym number-is ∙ zero))
+      read-refused sizes base file buffer (λ zero. refused (made ∙ sym number-is ∙ zero))
       ∙ ap (λ (a : Answer). record { answer = a; buffer = buffer }) is
 
   module _ {number count : ℕ} (number-made : number ≡ answerNumber (checked .answer)) (zero : number ≡ 0)
       (count-made : count ≡ answerCount (checked .answer)) where
-    pub accepted : checkFile broadcast base file .number ≡ 0
+    pub accepted : checkFile sizes base file .number ≡ 0
     accepted = number-is ∙ sym number-made ∙ zero
 
-    same-count : checkFile broadcast base file .count ≡ count
+    same-count : checkFile sizes base file .count ≡ count
     same-count = count-is ∙ sym count-made
 
     pub read-27 : length buffer / recordSize < count
-        → read broadcast base file buffer
+        → read sizes base file buffer
         ≡ readOutcome (record { answer = RecordsShort count; identity = zeroIdentity }) buffer
     read-27 short =
-        read-short broadcast base file buffer accepted (omega (arith, same-count))
+        read-short sizes base file buffer accepted (omega (arith, same-count))
         ∙ ap (λ (n : ℕ). record { answer = refusal 27 n; buffer = buffer }) same-count
 
     pub records-fit : count ≤ length buffer / recordSize → length (fileRecords base file) * recordSize ≤ length buffer
     records-fit enough =
-        let events : checkFile broadcast base file .count ≡ length (fileRecords base file) =
-        ap (λ (a : Answer). a .count) (accepted-answer broadcast base file accepted) in
+        let events : checkFile sizes base file .count ≡ length (fileRecords base file) =
+        ap (λ (a : Answer). a .count) (accepted-answer sizes base file accepted) in
         omega (arith, events, same-count)
 
     pub read-fills : count ≤ length buffer / recordSize → {out : List ℕ}
         → out ≡ overwrite buffer 0 (numbersOfAll (fileRecords base file))
-        → read broadcast base file buffer ≡ readOutcome checked out
+        → read sizes base file buffer ≡ readOutcome checked out
     read-fills enough {out} filled =
-        read-succeeds broadcast base file buffer accepted (omega (arith, same-count))
+        read-succeeds sizes base file buffer accepted (omega (arith, same-count))
         ∙ (λ i. record { answer = is i; buffer = sym filled i })

@@ -1,12 +1,11 @@
 -- Every section of an accepted file can be filled in, and its offsets have 32 bits: what passed is the bytes of the
--- section that it shows (`section-forth`), and a file has at most 16 × 256 × 4,096 bytes (`accepted-size`).
+-- section that it shows (`section-forth`), and a file has at most 16 × 256 sections (`accepted-size`).
 -- Assumes nothing.
 use mathlib.Core.Path.{_≡_, sym, ap, subst, _∙_}
 use mathlib.Core.List.{List, [], _∷_, flatten}
-use Prim.Native.Nat.{ℕ, _^_, _<_}
+use Prim.Native.Nat.{ℕ, _^_, _≤_, _<_}
 use native.Mathlib.Omega.{arith}
 use lib.ListN.{length}
-use Rattle.eit.specs.Sizes.{broadcast}
 use Rattle.eit.specs.declared.Sizes.{Sizes}
 use Rattle.eit.specs.Fields.{Bytes}
 use Rattle.eit.proofs.Fields.{bytes-parts}
@@ -44,11 +43,11 @@ module _ (sizes : Sizes) (base : ℕ) where
       let (front, others) = bytes-parts bs (flatten rest) bytes in
       (passed-fills p bs front (all .0), all-fill (behind base p bs) rest others (all .1))
 
-module _ (base : ℕ) (file : List ℕ) (bytes : Bytes file) (accepted : checkFile broadcast base file .number ≡ 0) where
-  pub accepted-fills : Every (Fillable base) (splitFile file)
-  accepted-fills =
-      let (legal, all, complete) = check-succeeded broadcast base file accepted in
-      all-fill broadcast base atStart (splitFile file) (subst Bytes (sym (file-joined file)) bytes) all
+  module _ (file : List ℕ) (bytes : Bytes file) (accepted : checkFile sizes base file .number ≡ 0) where
+    pub accepted-fills : Every (Fillable base) (splitFile file)
+    accepted-fills =
+        let (legal, all, complete) = check-succeeded sizes base file accepted in
+        all-fill atStart (splitFile file) (subst Bytes (sym (file-joined file)) bytes) all
 
-  pub accepted-below : length file < 2 ^ 32
-  accepted-below = omega (arith, accepted-size broadcast base file (omega arith) bytes accepted)
+    pub accepted-below : sizes .«section_limit» ≤ 4_096 → length file < 2 ^ 32
+    accepted-below most = omega (arith, accepted-size sizes base file bytes accepted)

@@ -21,7 +21,7 @@ pub enum ReadAnswer {
     EventLoop(usize),
     // 25: the file ends early, or is empty; the file's length.
     EarlyEnd(usize),
-    // 26: event 2,049; the section's offset.
+    // 26: event 2,049, for cable event 257; the section's offset.
     EventLimit(usize),
     // 27: the record buffer is short; the number of events.
     RecordsShort(usize),

@@ -2,6 +2,7 @@
 // writes nothing.
 use crate::section::SectionVerdict;
 use crate::section::WalkState;
+use eit::Caller;
 use eit::Identity;
 use eit::Sizes;
 use eit::limits::BASE_DAY_MAX;
@@ -12,7 +13,7 @@ use read_checks::header::HeaderBefore;
 ghost use mathlib.Core.Path.{_≡_};
 ghost use mathlib.Core.List.{List};
 ghost use Prim.Native.Nat.{ℕ};
-ghost use Rattle.eit.specs.Sizes.{broadcast};
+ghost use Rattle.eit.specs.Sizes.{sizesOf};
 ghost use Rattle.sections.specs.Read.{atEnd, checkFile};
 ghost use Rattle.sections.specs.Walk.{Progress, passed};
 ghost use Rattle.read_answer.specs.Outcome.{outcomeOf};
@@ -79,8 +80,8 @@ fn check_within(file: &[u8], base_day: u32, sizes: Sizes) -> ReadResult
 }
 
 // Answer, identity and number of events are those of the definition. It never says 27.
-pub fn check(file: &[u8], base_day: u32) -> ReadResult
-    ensures { λ r. ⌜ checkFile broadcast «base_day» (now (file .entry)) ≡ outcomeOf r ⌝ }
+pub fn check(caller: Caller, file: &[u8], base_day: u32) -> ReadResult
+    ensures { λ r. ⌜ checkFile (sizesOf caller) «base_day» (now (file .entry)) ≡ outcomeOf r ⌝ }
 {
-    check_within(file, base_day, Sizes::BROADCAST)
+    check_within(file, base_day, Sizes::of(caller))
 }

@@ -8,7 +8,7 @@ use Prim.Native.Nat.{ℕ, _≤_, _<_}
 use native.Mathlib.Omega.{arith}
 use lib.Dec.{T, T-not}
 use lib.ListN.{length}
-use Rattle.eit.specs.Sizes.{broadcast}
+use Rattle.eit.specs.Sizes.{sizesOf}
 use Rattle.eit.specs.declared.Sizes.{Sizes}
 use Rattle.eit.specs.Limits.{baseDayMax}
 use Rattle.eit.specs.Fields.{Bytes}
@@ -18,6 +18,7 @@ use Rattle.eit.specs.Events.{Event}
 use Rattle.eit.specs.Sound.{eventsOf}
 use Rattle.eit.specs.declared.Record.{Record}
 use Rattle.eit.specs.declared.Identity.{Identity}
+use Rattle.eit.proofs.Numbers.{caller-least, caller-most, caller-few}
 use Rattle.eit.proofs.Test.{le-or-lt, test-or}
 use Rattle.eit.proofs.Sound.{sound-list, events-length}
 use Rattle.script.specs.Edit.{Edited, Stopped}
@@ -53,7 +54,8 @@ use Rattle.schedule.proofs.Only.{built-only}
 use Rattle.schedule.proofs.Plan.{plan-sound, plan-unsound, tabled-at, count-sections, count-inside}
 use Rattle.schedule.proofs.Plan.{count-outside}
 use Rattle.schedule.proofs.Plan.{count-unpackable}
-use Rattle.schedule.proofs.Given.{LegalSizes, shown-rules, facts, ownSections, ownFile, build-or, own-rules}
+use Rattle.schedule.proofs.Given.{LegalSizes, legal-sizes}
+use Rattle.schedule.proofs.Given.{shown-rules, facts, ownSections, ownFile, build-or, own-rules}
 use Rattle.schedule.proofs.Given.{own-events}
 use Rattle.schedule.proofs.Given.{own-carries, writes, rival-eight, own-counted}
 
@@ -243,8 +245,7 @@ module _ (sizes : Sizes) (legal : LegalSizes sizes) where
             λ base file buffer identity rs day bytes. read-exact sizes base file buffer identity rs (legal .most) day
             bytes;
         accepted-size =
-            λ base file bytes accepted. accepted-size sizes base file (legal .most) bytes
-            (accepted-check sizes base file accepted);
+            λ base file bytes accepted. accepted-size sizes base file bytes (accepted-check sizes base file accepted);
         check-agrees = λ base file buffer not-27. read-agrees sizes base file buffer not-27;
         check-never-27 = λ base file number-is. omega (arith, check-below-27 sizes base file);
         accepted-sound =
@@ -273,6 +274,8 @@ module _ (sizes : Sizes) (legal : LegalSizes sizes) where
         refused = leaves sizes;
       }
 
--- and so for broadcast
+-- and so for each caller
 pub demands : Demands
-demands = demands-for broadcast (record { least = omega arith; most = omega arith; few = omega arith })
+demands caller =
+    let sizes : Sizes = sizesOf caller in
+    demands-for sizes (legal-sizes sizes (caller-least caller) (caller-most caller) (caller-few caller))

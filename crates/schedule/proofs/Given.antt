@@ -110,6 +110,12 @@ pub record LegalSizes (sizes : Sizes) : Type 0 where
   pub most : sizes .«section_limit» ≤ 4_096
   pub few : sizes .«event_limit» * recordSize ≤ acceptedNumbers
 
+-- 02, W-206: "any section size from 30 to 4,096", with at most 2,048 events
+pub legal-sizes : (sizes : Sizes) → 30 ≤ sizes .«section_limit» → sizes .«section_limit» ≤ 4_096
+    → sizes .«event_limit» ≤ 2_048
+    → LegalSizes sizes
+legal-sizes sizes least most few = record { least = omega arith; most = most; few = omega arith }
+
 module _ {sizes : Sizes} (legal : LegalSizes sizes) (g : Given sizes) where
   pub own-rules : Fits g → Rules sizes (g .identity) (ownSections g)
   own-rules fits = built-rules sizes (g .identity) (events g) (legal .least) (g .legalIdentity) (facts g) fits

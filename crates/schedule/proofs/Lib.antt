@@ -38,6 +38,8 @@ pub mod BestFile
 pub mod Only
 -- demands 2 and 3, and demand 1's refusals
 pub mod Demands
+-- what W-206 claims
+pub mod Callers
 -- three laws of Build's file
 pub mod BuiltFile
 -- the examples and answers, computed

@@ -1,6 +1,6 @@
 -- Demands 2 and 3, and what demand 1 says of refusals (specs/Refused.antt): one record type, its fields in groups, each
 -- group under the clauses that it states. The value is `demands` of proofs/Demands.antt. Everything is said of what the
--- calls return and leave: `read`, `checkFile`, `build`, `plan`, `edit`; what the fields speak of is in
+-- calls return and leave for one caller: `read`, `checkFile`, `build`, `plan`, `edit`; what the fields speak of is in
 -- specs/Given.antt. Which refusal comes, and with which value, is in the definitions of the calls, as Edit's plain
 -- machine is; each call's contract equates it with its definition. A segment is its index: table 0x50 + index ÷ 32,
 -- segment index mod 32. "In 2 and 3 base day and version are legal, the base day is the same for both, and Read's
@@ -12,8 +12,9 @@ use Prim.Native.Nat.{ℕ, _*_, _≤_, _<_}
 use mathlib.Core.List.{List}
 use lib.Dec.{T}
 use lib.ListN.{length}
-use Rattle.eit.specs.Sizes.{broadcast}
+use Rattle.eit.specs.Sizes.{sizesOf}
 use Rattle.eit.specs.declared.Sizes.{Sizes}
+use Rattle.eit.specs.declared.Caller.{Caller}
 use Rattle.eit.specs.Limits.{baseDayMax}
 use Rattle.eit.specs.Fields.{Bytes}
 use Rattle.eit.specs.Pools.{Pools}
@@ -44,9 +45,9 @@ pub record DemandsFor (sizes : Sizes) : Type 0 where
       → Bytes file
       → (read sizes base file buffer ≡ readingOf buffer identity rs)
       ↔ (FollowsRules sizes base file identity rs × (length rs * recordSize ≤ length buffer))
-  -- 16 tables of 256 sections of 4,096 bytes: how long a buffer for any accepted file must be
+  -- 16 tables of 256 sections: how long a buffer for any accepted file must be
   pub accepted-size : (base : ℕ) (file : List ℕ) → Bytes file → Accepted sizes base file
-      → length file ≤ 16 * 256 * 4_096
+      → length file ≤ 16 * 256 * sizes .«section_limit»
   -- Read without a record buffer agrees in all but 27, which it never says
   pub check-agrees : (base : ℕ) (file buffer : List ℕ) → (read sizes base file buffer .answer .number ≡ 27 → ⊥)
       → read sizes base file buffer .answer ≡ checkFile sizes base file
@@ -123,6 +124,7 @@ pub record DemandsFor (sizes : Sizes) : Type 0 where
   -- ---- Demand 1: "A refusal leaves them untouched, except that a refused edit keeps the edits before it"
   pub refused : RefusedFor sizes
 
--- for broadcast: sections of at most 4,096 bytes, at most 2,048 events
+-- 02, W-206: "Demand 3, whole, then ranges over lists and files within that caller's sizes. A claim over several calls
+-- has one caller."
 abbrev pub Demands : Type 0
-Demands = DemandsFor broadcast
+Demands = (caller : Caller) → DemandsFor (sizesOf caller)

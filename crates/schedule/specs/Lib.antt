@@ -7,6 +7,7 @@ pub mod Build  -- Build
 pub mod Given  -- what the demands speak of
 pub mod Refused  -- what demand 1 says of refusals
 pub mod Demands  -- demands 2 and 3, and demand 1's refusals, as one record type
+pub mod Callers  -- what W-206 claims: any section size, and the two callers
 pub mod ExampleLists  -- lists to compute with
 pub mod ExampleCalls  -- and what is asked of them
 pub mod Examples  -- Build and Plan computed on short lists

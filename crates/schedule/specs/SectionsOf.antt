@@ -21,6 +21,7 @@ abbrev pub segmentSectionsMax : ℕ
 segmentSectionsMax = 8
 
 -- 01's term: unpackable. A segment that would need a ninth section, or that has an event with over 4,066 chain bytes
+-- (02, W-206: for cable over 994)
 unfoldable pub isUnpackable : Sizes → List Event → ℕ → Bool
 unfolding reach
 isUnpackable sizes es index = unpackable eventSize (room sizes) segmentSectionsMax (segmentEvents index es)

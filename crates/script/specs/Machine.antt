@@ -15,7 +15,7 @@ use Rattle.eit.specs.Sound.{inRange, hasChain, idsOf, startsOf}
 use Rattle.eit.specs.declared.Record.{Record}
 use Rattle.script.specs.Form.{Act, put, withdraw, move}
 
--- 01's term: limit. The list's limit is buffer length ÷ 6, rounded down, at most 2,048
+-- 01's term: limit. The list's limit is buffer length ÷ 6, rounded down, at most 2,048; 02, W-206: for cable 8 uses 256
 abbrev pub limitOf : Sizes → EventList → ℕ
 limitOf sizes list = min (length (list .buffer) / recordSize) (sizes .«event_limit»)
 

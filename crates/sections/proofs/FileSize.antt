@@ -1,9 +1,10 @@
--- An accepted file has at most 16 × 256 sections, and so at most 16 × 256 × 4,096 bytes: table and section_number, read
+-- An accepted file has at most 16 × 256 sections, and so at most as many bytes as these: table and section_number, read
 -- as one number, rise from each section to the next. By induction over the sections. Assumes nothing.
 use mathlib.Core.Path.{_≡_, sym, ap, _∙_}
 use mathlib.Core.Logic.{⊎-elim}
 use Prim.Native.Nat.{ℕ, _+_, _*_, _≤_, _<_}
 use native.Mathlib.Omega.{arith}
+use native.Mathlib.Nat.{mul-le-mul-right}
 use mathlib.Core.List.{List, [], _∷_}
 use lib.ListN.{length}
 use Rattle.eit.specs.declared.Sizes.{Sizes}
@@ -50,10 +51,10 @@ module _ (sizes : Sizes) (identity : Identity) (lastTableId : ℕ) (most : lastT
       next-later (s .header) (t .header) (h .numbered) (h .byte) (succeeding .0) in
       omega (arith, behind-few t ss (rules .1) (succeeding .1))
 
-  sizes-few : sizes .«section_limit» ≤ 4_096 → (ss : List Section) → Every (SectionRules sizes identity lastTableId) ss
-      → sectionSizes ss ≤ length ss * 4_096
-  sizes-few lengthFits [] rules = omega arith
-  sizes-few lengthFits (s ∷ ss) rules = omega (arith, rules .0 .size, sizes-few lengthFits ss (rules .1))
+  sizes-few : (ss : List Section) → Every (SectionRules sizes identity lastTableId) ss
+      → sectionSizes ss ≤ length ss * sizes .«section_limit»
+  sizes-few [] rules = omega arith
+  sizes-few (s ∷ ss) rules = omega (arith, rules .0 .size, sizes-few ss (rules .1))
 
 pub sections-few : (sizes : Sizes) (identity : Identity) (ss : List Section) → Rules sizes identity ss
     → length ss ≤ 16 * 256
@@ -67,19 +68,17 @@ sections-few sizes identity (s ∷ ss) rules =
       behind-few sizes identity (rules .lastTableId) (rules .lastTable) s ss (rules .sections) (rules .ordered .1),
     )
 
--- an accepted file has at most 16 × 256 × 4,096 bytes
+-- an accepted file has at most as many bytes as 16 × 256 sections
 pub accepted-size : (sizes : Sizes) (base : ℕ) (file : List ℕ)
-    → sizes .«section_limit» ≤ 4_096
     → Bytes file
     → checkFile sizes base file .number ≡ 0
-    → length file ≤ 16 * 256 * 4_096
-accepted-size sizes base file lengthFits bytes zero =
+    → length file ≤ 16 * 256 * sizes .«section_limit»
+accepted-size sizes base file bytes zero =
     let ss : List Section = sectionsIn base file in
     let identity : Identity = checkFile sizes base file .identity in
     let (rules, joined) = accepted-rules sizes base file bytes zero in
     let size : length file ≡ sectionSizes ss = sym (ap length joined) ∙ file-length base ss in
-    omega (
-      arith,
-      sections-few sizes identity ss rules,
-      sizes-few sizes identity (rules .lastTableId) (rules .lastTable) lengthFits ss (rules .sections),
-    )
+    let few : length ss ≤ 16 * 256 = sections-few sizes identity ss rules in
+    let most : sectionSizes ss ≤ length ss * sizes .«section_limit» =
+    sizes-few sizes identity (rules .lastTableId) (rules .lastTable) ss (rules .sections) in
+    omega (arith, mul-le-mul-right (sizes .«section_limit») few)

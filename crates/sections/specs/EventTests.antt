@@ -55,13 +55,13 @@ abbrev pub areNew : List Event → List Event → Bool
 areNew seen [] = true
 areNew seen (e ∷ es) = isNew seen e && areNew (e ∷ seen) es
 
--- 24: event loop breaks a rule, the 2,048 aside
+-- 24: event loop breaks a rule, the limit of events aside
 unfoldable pub isEventLoop : ℕ → List Event → List ℕ → Bool
 isEventLoop base seen bs =
     let events = splitEvents bs in
     areEvents base (headerIn bs) events
     && (isFilledOrAlone (headerIn bs) events && areNew seen (map (eventIn base) events))
 
--- 26: event 2,049
+-- 26: event 2,049; 02, W-206: for cable event 257
 unfoldable pub isWithinLimit : Sizes → List Event → List ℕ → Bool
 isWithinLimit sizes seen bs = leb (length seen + length (splitEvents bs)) (sizes .«event_limit»)

@@ -14,7 +14,7 @@ use Rattle.sections.specs.Count.{sectionsCounted, eventsCounted}
 use Rattle.sections.specs.Read.{checkFile, read}
 use Rattle.sections.specs.Files.{section, withBits, eventAt, withEvent, startAtOne, oneHour, noDescriptors}
 use Rattle.sections.specs.Files.{planSampleFile, rival, full}
-use Rattle.sections.specs.Files.{checkAnswer, acceptedWith, refusedWith}
+use Rattle.sections.specs.FileAnswers.{checkAnswer, acceptedWith, refusedWith}
 
 -- the table of a start, and the first section of its segment
 abbrev pub tableAndSection : ℕ → ℕ × ℕ

@@ -1,26 +1,29 @@
--- Short files in raw bytes, for specs/Examples.antt and for the tables of crates samples_refusals and samples_proved.
+-- Short files in raw bytes, for specs/Examples.antt and for the tables of crates samples_refusals and samples_proved;
+-- what is asked of them is in specs/FileAnswers.antt.
 -- Where nothing else is said, service, stream and network are 1, 2 and 3, the version is 0, and the base day is 49,273
 -- (0xC079). Assumes nothing.
 use Prim.Native.Nat.{ℕ, zero, suc, _+_}
 use mathlib.Core.List.{List, [], _∷_, _++_}
 use lib.ListN.{length}
-use Rattle.eit.specs.Sizes.{broadcast}
 use Rattle.eit.specs.Fields.{bigEndian}
 use Rattle.eit.specs.Crc.{crc32}
-use Rattle.sections.specs.Read.{Answer, checkFile}
 
 -- some bytes with their CRC_32 behind them
 abbrev pub withCrc : List ℕ → List ℕ
 withCrc bs = bs ++ bigEndian 4 (crc32 bs)
 
--- a section with its version byte: table_id, section_number, last_section_number, segment_last_section_number,
--- last_table_id, events
+-- a section before its CRC_32: version byte, table_id, section_number, last_section_number,
+-- segment_last_section_number, last_table_id, events
+abbrev pub covered : ℕ → ℕ → ℕ → ℕ → ℕ → ℕ → List ℕ → List ℕ
+covered version table number last segmentLast lastTable events =
+    (table ∷ [])
+    ++ bigEndian 2 (0xF000 + 15 + length events)
+    ++ (0x00 ∷ 0x01 ∷ version ∷ number ∷ last ∷ 0x00 ∷ 0x02 ∷ 0x00 ∷ 0x03 ∷ segmentLast ∷ lastTable ∷ [])
+    ++ events
+
 abbrev pub sectionWithVersion : ℕ → ℕ → ℕ → ℕ → ℕ → ℕ → List ℕ → List ℕ
 sectionWithVersion version table number last segmentLast lastTable events =
-    withCrc
-    ((table ∷ 0xF0 ∷ (15 + length events) ∷ 0x00 ∷ 0x01 ∷ version ∷ number ∷ last ∷ 0x00 ∷ 0x02 ∷ 0x00 ∷ 0x03
-    ∷ segmentLast ∷ lastTable ∷ [])
-    ++ events)
+    withCrc (covered version table number last segmentLast lastTable events)
 
 abbrev pub section : ℕ → ℕ → ℕ → ℕ → ℕ → List ℕ → List ℕ
 section table number last segmentLast lastTable events =
@@ -93,35 +96,3 @@ full =
     ++ sectionWithVersion 0xFF 0x50 6 7 7 0x5F (eventAt 7 0x01 0x00)
     ++ sectionWithVersion 0xFF 0x50 7 7 7 0x5F (eventAt 8 0x02 0x59)
     ++ emptyTables 0x51 15
-
--- check's answer
-abbrev pub checkAnswer : List ℕ → Answer
-checkAnswer file = checkFile broadcast 49_273 file
-
--- an answer apart from Read's own words for it: success with so many events under the identity above
-abbrev pub acceptedWith : ℕ → Answer
-acceptedWith events =
-    record {
-      number = 0;
-      value = events;
-      identity =
-          record {
-            triplet = record { «service_id» = 1; «transport_stream_id» = 2; «original_network_id» = 3 };
-            version = 0;
-          };
-      count = events;
-    }
-
--- a refusal with its number and value
-abbrev pub refusedWith : ℕ → ℕ → Answer
-refusedWith number value =
-    record {
-      number = number;
-      value = value;
-      identity =
-          record {
-            triplet = record { «service_id» = 0; «transport_stream_id» = 0; «original_network_id» = 0 };
-            version = 0;
-          };
-      count = 0;
-    }

@@ -20,7 +20,8 @@ use Rattle.sections.specs.Decode.{statedSectionSize, headerIn}
 abbrev pub isTable : ℕ → Bool
 isTable table = leb tableFirst table && leb table tableMax
 
--- 20: section cut, table_id or length out of range. section_length, 15 to 4,093, counts all bytes but the first three
+-- 20: section cut, table_id or length out of range. section_length, 15 to 4,093, counts all bytes but the first three;
+-- 02, W-206: for cable a section over 1,024 bytes is out of range
 unfoldable pub isFramed : Sizes → List ℕ → Bool
 isFramed sizes bs =
     eqb (length bs) (statedSectionSize bs)

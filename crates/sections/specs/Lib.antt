@@ -14,5 +14,6 @@ pub mod Walk  -- Read's walk over the sections
 pub mod Read  -- Read and check
 pub mod Exact  -- what "Read is exact" speaks of
 pub mod Files  -- short files in raw bytes
+pub mod FileAnswers  -- and what is asked of them
 pub mod Examples  -- sections and files computed
 pub mod Broken  -- sections that break one of the rules

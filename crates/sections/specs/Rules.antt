@@ -108,7 +108,7 @@ pub record Alone (h : Header) : Type 0 where
   pub number : h .sectionNumber ≡ firstOf (h .sectionNumber)
   pub last : h .segmentLastSectionNumber ≡ firstOf (h .sectionNumber)
 
--- a section is at most as long as its length field may say (section_length at most 4,093)
+-- a section is at most as long as its length field may say (section_length at most 4,093; 02, W-206: cable's 1,021)
 pub record SectionRules (sizes : Sizes) (identity : Identity) (lastTableId : ℕ) (s : Section) : Type 0 where
   pub headerRules : HeaderRules identity lastTableId (s .header)
   pub eventRules : Every (EventRules (s .header)) (s .events)
@@ -124,7 +124,7 @@ pub record Rules (sizes : Sizes) (identity : Identity) (ss : List Section) : Typ
   pub lastTable : lastTableId ≤ tableMax
   pub sections : Every (SectionRules sizes identity lastTableId) ss
   pub ordered : Ordered (headersOf ss)
-  -- over the file starts rise strictly, ids differ, and events are at most 2,048
+  -- over the file starts rise strictly, ids differ, and events are at most 2,048 (02, W-206: cable's 256)
   pub rises : T (rising (sectionEvents ss))
   pub differ : T (allDiffer (eventIds (sectionEvents ss)))
   pub few : length (sectionEvents ss) ≤ sizes .«event_limit»

@@ -1,6 +1,8 @@
 -- `read` meets its contract: check decides, then the length of the record buffer. Assumes nothing.
 use mathlib.Core.Path.{sym, ap, _∙_}
 use denote.Ref.{now}
+use Rattle.eit.specs.Sizes.{sizesOf}
+use Rattle.eit.proofs.Numbers.{caller-most}
 use Rattle.eit.proofs.Fields.{bytes-all}
 use Rattle.read_answer.specs.declared.ReadResult.{ReadResult}
 use Rattle.read.specs.ReadOutcome.{readOutcome}
@@ -19,7 +21,8 @@ number-of-requires c κs = search needs
 returns : tie.Need-returns
 returns c =
     let checked = c .before .before in
-    read-stops _ _ _ (checked .check .result) (checked .check .ensures) (c .before .number-of .ensures) (c .if1 .taken)
+    read-stops _ _ _ _ (checked .check .result) (checked .check .ensures) (c .before .number-of .ensures)
+    (c .if1 .taken)
 
 count-of-requires : tie.Need-count-of-requires
 count-of-requires c κs = search needs
@@ -32,7 +35,7 @@ returns-2 c =
     let counted = c .before .before in
     let numbered = counted .before .before in
     let checked = numbered .before in
-    read-27 _ _ _ (checked .check .result) (checked .check .ensures) (numbered .number-of .ensures)
+    read-27 _ _ _ _ (checked .check .result) (checked .check .ensures) (numbered .number-of .ensures)
     (counted .before .if1 .left)
     (counted .count-of .ensures) (c .before .if2 .taken)
     ∙ sym (ap (λ (r : ReadResult). readOutcome r (now (checked .before .before .before .args .records)))
@@ -46,14 +49,16 @@ fill-file-requires c κs =
     let checked = numbered .before in
     let known = checked .before .before in
     let a = known .before .args in
+    let sizes = sizesOf (a .caller) in
+    let file = now (a .file) in
     let zero =
-    accepted (a .base-day) (now (a .file)) (now (a .records)) (checked .check .result) (checked .check .ensures)
+    accepted sizes (a .base-day) file (now (a .records)) (checked .check .result) (checked .check .ensures)
     (numbered .number-of .ensures) (counted .before .if1 .left) (counted .count-of .ensures) in
-    let bytes = bytes-all (now (a .file)) (λ k. known .shared-slice-known .given k .fits) in (
-      accepted-fills (a .base-day) (now (a .file)) bytes zero,
-      records-fit (a .base-day) (now (a .file)) (now (a .records)) (checked .check .result) (checked .check .ensures)
+    let bytes = bytes-all file (λ k. known .shared-slice-known .given k .fits) in (
+      accepted-fills sizes (a .base-day) file bytes zero,
+      records-fit sizes (a .base-day) file (now (a .records)) (checked .check .result) (checked .check .ensures)
           (numbered .number-of .ensures) (counted .before .if1 .left) (counted .count-of .ensures) (room .if2 .left),
-      accepted-below (a .base-day) (now (a .file)) bytes zero,
+      accepted-below sizes (a .base-day) file bytes zero (caller-most (a .caller)),
     )
 
 same-length : tie.Need-same-length
@@ -66,7 +71,7 @@ returns-3 c =
     let counted = room .before in
     let numbered = counted .before .before in
     let checked = numbered .before in
-    read-fills _ _ _ (checked .check .result) (checked .check .ensures) (numbered .number-of .ensures)
+    read-fills _ _ _ _ (checked .check .result) (checked .check .ensures) (numbered .number-of .ensures)
     (counted .before .if1 .left)
     (counted .count-of .ensures) (room .if2 .left) (filled .fill-file .ensures)
 

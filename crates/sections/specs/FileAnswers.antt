@@ -1,0 +1,37 @@
+-- What the tables ask of check, and answers in raw numbers, apart from Read's own words for them. Assumes nothing.
+use Prim.Native.Nat.{ℕ}
+use mathlib.Core.List.{List}
+use Rattle.eit.specs.Sizes.{broadcast}
+use Rattle.sections.specs.Read.{Answer, checkFile}
+
+-- check's answer, for broadcast
+abbrev pub checkAnswer : List ℕ → Answer
+checkAnswer file = checkFile broadcast 49_273 file
+
+-- success with so many events under the identity of specs/Files.antt
+abbrev pub acceptedWith : ℕ → Answer
+acceptedWith events =
+    record {
+      number = 0;
+      value = events;
+      identity =
+          record {
+            triplet = record { «service_id» = 1; «transport_stream_id» = 2; «original_network_id» = 3 };
+            version = 0;
+          };
+      count = events;
+    }
+
+-- a refusal with its number and value
+abbrev pub refusedWith : ℕ → ℕ → Answer
+refusedWith number value =
+    record {
+      number = number;
+      value = value;
+      identity =
+          record {
+            triplet = record { «service_id» = 0; «transport_stream_id» = 0; «original_network_id» = 0 };
+            version = 0;
+          };
+      count = 0;
+    }
