@@ -54,22 +54,17 @@ pub fn write_put(
     fields::write_field(script, at + 16, 2, chain_length);
 }
 
-// PUTs of n events a second apart from `start` on, with ids from 1 on and equal chains. Returns how many bytes they
-// are.
-pub fn write_row(script: &mut [u8], start: u32, n: usize, chain_length: usize) -> usize
+// PUTs of n events from `start` on, each `apart` seconds behind the one before, with ids from 1 on and equal chains.
+// Returns how many bytes they are.
+pub fn write_row(script: &mut [u8], start: u32, apart: u32, n: usize, chain_length: usize) -> usize
     requires { ⌜ n ≤ 340 ⌝ }
     ensures { λ r. ⌜ r ≡ n * 18 ⌝ }
 {
+    let mut next = start as usize;
     let mut i = 0;
     while i < n {
-        write_put(
-            script,
-            i * PUT_SIZE,
-            i + 1,
-            start as usize + i,
-            0,
-            chain_length,
-        );
+        write_put(script, i * PUT_SIZE, i + 1, next, 0, chain_length);
+        next += apart as usize;
         i += 1;
     }
     n * PUT_SIZE

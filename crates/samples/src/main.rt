@@ -1,8 +1,9 @@
-// Program samples: the test program of document 01 ("Samples with the cuts marked"). It carries the samples out by the
-// calls of the library, and prints what they say and how the files are cut.
+// Program samples: the test program of document 01 ("Samples with the cuts marked"), with the samples of document 02,
+// W-206. It carries the samples out by the calls of the library, and prints what they say and how the files are cut.
 use libc::STDERR_FILENO;
 use libc::STDOUT_FILENO;
 
+mod cable;
 mod lists;
 mod others;
 mod paper;
@@ -24,6 +25,10 @@ fn main() {
     others::rule_eight();
     others::crc();
     others::days();
+    cable::chains();
+    cable::many();
+    cable::most();
+    cable::exchanged();
     // Where lines could not be written, this one cannot, either.
     if !io::write_all(STDOUT_FILENO, b"\nend\n") {
         io::write_all(

@@ -2,6 +2,7 @@
 use crate::lists;
 use crate::rows;
 use codec::fields;
+use eit::Caller;
 use samples_report::lines;
 use samples_report::show;
 
@@ -31,7 +32,7 @@ pub fn rule_eight() {
     lines::print_heading(
         b"OP-58, rule 8: segment 0 from 00:00:00 to 02:59:59, segment 1 from 03:00:00 to 05:59:59; 0x50 has four days",
     );
-    show::show_script(&script, b"", b"");
+    show::show_script(Caller::Broadcast, &script, b"", b"");
 }
 
 pub fn crc() {

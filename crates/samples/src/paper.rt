@@ -1,9 +1,11 @@
-// The samples of document 01, "Samples with the cuts marked".
+// The samples of document 01, "Samples with the cuts marked", for broadcast.
 use crate::lists;
 use crate::rows;
 use codec_time::TimeRead;
+use eit::Caller;
 use samples_report::lines;
 use samples_report::show;
+ghost use Prim.Native.Nat.{_≤_};
 
 // The seconds that bytes showed.
 fn print_read(read: TimeRead) {
@@ -44,44 +46,51 @@ pub fn times() {
     show_duration(6_330);
 }
 
+// So many events a second apart.
+fn show_row(heading: &[u8], start: u32, n: usize, day: &[u8])
+    requires { ⌜ n ≤ 340 ⌝ }
+{
+    rows::show_row(Caller::Broadcast, heading, start, 1, n, day);
+}
+
 // One event without descriptors, at the ends of segments and tables.
 pub fn segments() {
-    rows::show_row(b"start 10,799: segment 0", 10_799, 1, b"");
-    rows::show_row(b"10,800: section 8", 10_800, 1, b"");
-    rows::show_row(b"345,599: 0x50, segment 31", 345_599, 1, b"");
-    rows::show_row(
+    show_row(b"start 10,799: segment 0", 10_799, 1, b"");
+    show_row(b"10,800: section 8", 10_800, 1, b"");
+    show_row(b"345,599: 0x50, segment 31", 345_599, 1, b"");
+    show_row(
         b"345,600: 0x51, section 0; 0x50 has one empty section, last_section_number 0",
         345_600,
         1,
         b"",
     );
-    rows::show_row(b"5,529,599: 0x5F, segment 31", 5_529_599, 1, b"");
-    rows::show_row(b"5,529,600: refusal 5", 5_529_600, 1, b"");
+    show_row(b"5,529,599: 0x5F, segment 31", 5_529_599, 1, b"");
+    show_row(b"5,529,600: refusal 5", 5_529_600, 1, b"");
 }
 
 pub fn no_events() {
     lines::print_heading(
         b"no events, ids 1, 2, 3, version 0: 18 bytes, first 14 are 50 F0 0F 00 01 C1 00 00 00 02 00 03 00 50",
     );
-    show::show_script(b"", b"", b"");
-    show::show_bytes(b"", 0, 18);
+    show::show_script(Caller::Broadcast, b"", b"", b"");
+    show::show_bytes(Caller::Broadcast, b"", 0, 18);
 }
 
 // Events with long chains.
 pub fn chains() {
     let mut longest = [0u8; 4_066];
     lists::fill_pool(&mut longest);
-    rows::show_row(b"chain of 4,066: one section", 0, 1, &longest);
+    show_row(b"chain of 4,066: one section", 0, 1, &longest);
     let mut above = [0u8; 4_067];
     lists::fill_pool(&mut above);
-    rows::show_row(b"chain of 4,067: refusal 10", 0, 1, &above);
-    rows::show_row(
+    show_row(b"chain of 4,067: refusal 10", 0, 1, &above);
+    show_row(
         b"eight chains of 4,066 in a segment: eight sections",
         0,
         8,
         &longest,
     );
-    rows::show_row(b"nine chains of 4,066 in a segment: 10", 0, 9, &longest);
+    show_row(b"nine chains of 4,066 in a segment: 10", 0, 9, &longest);
 }
 
 pub fn pairs() {
@@ -105,13 +114,13 @@ pub fn pairs() {
 
 // Many events without descriptors.
 pub fn many() {
-    rows::show_row(
+    show_row(
         b"339 events without descriptors in a segment: one section",
         0,
         339,
         b"",
     );
-    rows::show_row(
+    show_row(
         b"340 events without descriptors in a segment: two, of 339 and 1",
         0,
         340,
@@ -127,9 +136,9 @@ pub fn undo() {
     script[21] = 0x04;
     script[22] = 0x04;
     lines::print_heading(b"PUT, WITHDRAW, UNDO, UNDO: empty list");
-    show::show_script(&script, b"", b"");
+    show::show_script(Caller::Broadcast, &script, b"", b"");
     lines::print_heading(b"UNDO alone: 4");
-    show::show_script(&[0x04], b"", b"");
+    show::show_script(Caller::Broadcast, &[0x04], b"", b"");
 }
 
 // The sample of program plan, and its event in the file.
@@ -155,6 +164,6 @@ pub fn program() {
         0x00,
     ];
     lines::print_heading(b"01 0001 0000B34C 000018BA 00 00000000 0000, the script of program plan");
-    show::show_script(&script, b"", b"");
-    show::show_bytes(&script, 86, 98);
+    show::show_script(Caller::Broadcast, &script, b"", b"");
+    show::show_bytes(Caller::Broadcast, &script, 86, 98);
 }

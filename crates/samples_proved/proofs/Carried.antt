@@ -1,8 +1,13 @@
--- What the demands speak of is there: a list without events, and the file that carries it. Assumes nothing.
+-- What the demands speak of is there for both callers: a list without events, and the file that carries it.
+-- Assumes nothing.
 use mathlib.Core.Path.{refl}
 use native.Mathlib.Omega.{arith}
+use lib.Dec.{T}
 use lib.ListN.{replicate}
-use Rattle.eit.specs.Sizes.{broadcast}
+use Rattle.eit.specs.Sizes.{sizesOf}
+use Rattle.eit.specs.declared.Sizes.{Sizes}
+use Rattle.eit.specs.declared.Caller.{Caller}
+use Rattle.eit.specs.declared.Caller.the-variants.{Broadcast, Cable}
 use Rattle.eit.specs.Crc.{crc32}
 use Rattle.eit.specs.Records.{recordsOf}
 use Rattle.eit.specs.Sound.{sound, eventsOf}
@@ -14,9 +19,8 @@ use Rattle.schedule.specs.ExampleCalls.{identityWith}
 use Rattle.schedule.proofs.Demands.{demands}
 use Rattle.samples_proved.specs.SampleLists.{emptyFile}
 
-pub nothing : Given broadcast
-unfolding sound recordsOf row
-nothing =
+given : (sizes : Sizes) → T (sound sizes (plainEvents 0 0 .pools) (plainEvents 0 0 .list)) → Given sizes
+given sizes isSound =
     record {
       pools = plainEvents 0 0 .pools;
       list = plainEvents 0 0 .list;
@@ -24,7 +28,7 @@ nothing =
       identity = identityWith 0;
       dayBytes = tt;
       seriesBytes = tt;
-      isSound = tt;
+      isSound = isSound;
       legalBase = omega arith;
       legalIdentity =
           record {
@@ -33,6 +37,12 @@ nothing =
           };
     }
 
-pub carried : Carries nothing emptyFile
-unfolding build sound eventsOf recordsOf crc32 versionOf row nothing
-carried = demands .built-carries nothing (replicate 18 0xAA) refl
+pub nothing : (caller : Caller) → Given (sizesOf caller)
+unfolding sound recordsOf row
+nothing Broadcast = given (sizesOf Broadcast) tt
+nothing Cable = given (sizesOf Cable) tt
+
+pub carried : (caller : Caller) → Carries (nothing caller) emptyFile
+unfolding build sound eventsOf recordsOf crc32 versionOf row given nothing
+carried Broadcast = demands Broadcast .built-carries (nothing Broadcast) (replicate 18 0xAA) refl
+carried Cable = demands Cable .built-carries (nothing Cable) (replicate 18 0xAA) refl

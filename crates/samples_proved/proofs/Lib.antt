@@ -5,5 +5,7 @@ pub mod Samples
 pub mod Limits
 -- descriptor tag 0xFF, computed
 pub mod ForbiddenTag
+-- cable's sizes, computed
+pub mod Cable
 -- what the demands speak of is there
 pub mod Carried

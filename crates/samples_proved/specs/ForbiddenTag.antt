@@ -8,7 +8,8 @@ use Rattle.eit.specs.Sizes.{broadcast}
 use Rattle.eit.specs.Pools.{Pools}
 use Rattle.eit.specs.Records.{EventList}
 use Rattle.script.specs.Edit.{Edited, edit}
-use Rattle.sections.specs.Files.{section, checkAnswer, acceptedWith, refusedWith}
+use Rattle.sections.specs.Files.{section}
+use Rattle.sections.specs.FileAnswers.{checkAnswer, acceptedWith, refusedWith}
 use Rattle.sections.specs.Read.{read}
 use Rattle.schedule.specs.ExampleLists.{Case}
 use Rattle.schedule.specs.ExampleCalls.{padded}

@@ -1,8 +1,10 @@
--- What the tables of this crate ask of Build, Plan and Edit at broadcast's sizes. Assumes nothing.
+-- What the tables of this crate ask of Build, Plan and Edit, where nothing else is said at broadcast's sizes.
+-- Assumes nothing.
 use Prim.Native.Nat.{ℕ, _+_, _*_}
 use mathlib.Core.List.{List, [], map}
 use lib.ListN.{length, take, drop}
 use Rattle.eit.specs.Sizes.{broadcast, sectionOverhead}
+use Rattle.eit.specs.declared.Sizes.{Sizes}
 use Rattle.script.specs.Edit.{Edited, edit}
 use Rattle.sections.specs.Section.{Section, headerSize, eventOverhead}
 use Rattle.schedule.specs.Build.{Built, fileOf}
@@ -33,8 +35,12 @@ abbrev pub planOf : Case → List (List ℕ)
 planOf c = planWith broadcast c
 
 -- of each section that Build writes: table_id, section_number and number of events; S, G, L and last_table_id
+abbrev pub cutsWith : Sizes → Case → List (ℕ × ℕ × ℕ)
+cutsWith sizes c =
+    sectionsWith (λ (s : Section). (s .header .tableId, s .header .sectionNumber, length (s .events))) sizes c
+
 abbrev pub cuts : Case → List (ℕ × ℕ × ℕ)
-cuts c = sectionsWith (λ (s : Section). (s .header .tableId, s .header .sectionNumber, length (s .events))) broadcast c
+cuts c = cutsWith broadcast c
 
 abbrev pub numbers : Case → List (ℕ × ℕ × ℕ × ℕ)
 numbers c =

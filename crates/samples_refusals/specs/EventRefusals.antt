@@ -4,8 +4,8 @@ use mathlib.Core.Path.{_≡_}
 use mathlib.Core.List.{[], _∷_, _++_}
 use Rattle.eit.specs.Sizes.{broadcast}
 use Rattle.sections.specs.Read.{checkFile, read}
-use Rattle.sections.specs.Files.{section, eventAt, withEvent, startAtOne, oneHour, noDescriptors, checkAnswer}
-use Rattle.sections.specs.Files.{refusedWith}
+use Rattle.sections.specs.Files.{section, eventAt, withEvent, startAtOne, oneHour, noDescriptors}
+use Rattle.sections.specs.FileAnswers.{checkAnswer, refusedWith}
 
 pub record EventRefusals : Type 0 where
   pub event-kept : checkAnswer (withEvent startAtOne oneHour noDescriptors) .number ≡ 0

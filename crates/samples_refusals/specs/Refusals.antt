@@ -6,7 +6,8 @@ use lib.ListN.{take}
 use Rattle.eit.specs.Sizes.{broadcast}
 use Rattle.sections.specs.Read.{checkFile}
 use Rattle.sections.specs.Files.{withCrc, section, withBits, withIdentity, eventAt, withEvent, startAtOne, oneHour}
-use Rattle.sections.specs.Files.{noDescriptors, checkAnswer, refusedWith}
+use Rattle.sections.specs.Files.{noDescriptors}
+use Rattle.sections.specs.FileAnswers.{checkAnswer, refusedWith}
 
 pub record Refusals : Type 0 where
   pub base : checkFile broadcast 65_473 [] ≡ refusedWith 1 0

@@ -1,6 +1,6 @@
--- `samples::lists::write_row` meets its contract: each turn writes one PUT more, and the script keeps its length.
--- Assumes nothing.
-use Prim.Native.Nat.{_≤_, _-_}
+-- `samples::lists::write_row` meets its contract: each turn writes one PUT more, and the script keeps its length. No
+-- start wraps, since it grows by less than 2 ^ 32 in a turn. Assumes nothing.
+use Prim.Native.Nat.{_+_, _*_, _^_, _-_, _≤_}
 use mathlib.Core.Path.{_≡_}
 use borrow.Author.Needs.{needs}
 use lib.ListN.{length}
@@ -8,10 +8,11 @@ use Rattle.samples.proofs.lists.write_row.Statement.{statement}
 use Rattle.samples.proofs.lists.write_row.Tie as tie
 
 abbrev Inv-loop : tie.InvT-loop
-Inv-loop script₀ start n chain-length i₀ script i = (i ≤ n) × (length script ≡ length script₀)
+Inv-loop script₀ start apart n chain-length next₀ i₀ script next i =
+    (i ≤ n) × (next ≤ (i + 1) * 2 ^ 32) × (length script ≡ length script₀)
 
 abbrev μ-loop : tie.MeasureT-loop
-μ-loop script₀ start n chain-length i₀ script i = n - i
+μ-loop script₀ start apart n chain-length next₀ i₀ script next i = n - i
 
 loop-holds : tie.Need-loop-holds Inv-loop μ-loop
 loop-holds c = search needs
@@ -22,11 +23,11 @@ mul-write-put c = search needs
 add-write-put : tie.Need-add-write-put Inv-loop μ-loop
 add-write-put c = search needs
 
-add-write-put-2 : tie.Need-add-write-put-2 Inv-loop μ-loop
-add-write-put-2 c = search needs
-
 write-put-requires : tie.Need-write-put-requires Inv-loop μ-loop
 write-put-requires c κs = search needs
+
+add-next : tie.Need-add-next Inv-loop μ-loop
+add-next c = search needs
 
 add-i : tie.Need-add-i Inv-loop μ-loop
 add-i c = search needs
@@ -55,8 +56,8 @@ write-row-spec =
     loop-holds
     mul-write-put
     add-write-put
-    add-write-put-2
     write-put-requires
+    add-next
     add-i
     loop-less
     loop-again

@@ -2,7 +2,7 @@
 use native.Mathlib.Omega.{arith}
 use denote.Ref.{now}
 use borrow.Author.Needs.{needs}
-use Rattle.eit.specs.Sizes.{broadcast}
+use Rattle.eit.specs.Sizes.{sizesOf}
 use Rattle.eit.specs.Pools.{lentPools}
 use Rattle.eit.specs.Records.{lentList}
 use Rattle.build_answer.proofs.Inside.{built-inside}
@@ -32,7 +32,8 @@ returns c success =
     omega (
       arith,
       builds .build .kept,
-      built-inside broadcast (lentPools (now (a .day)) (now (a .series))) (lentList (now (a .list)) (a .count)) 49_273
+      built-inside (sizesOf (a .caller)) (lentPools (now (a .day)) (now (a .series)))
+          (lentList (now (a .list)) (a .count)) 49_273
           (a .identity)
           (now (a .file)) _ (builds .build .ensures) (c .before .number-of .ensures) (c .value-of .ensures) success,
     )

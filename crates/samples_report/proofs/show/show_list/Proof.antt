@@ -30,8 +30,11 @@ show-plan-requires c κs = search needs
 array-share-prefix-file : tie.Need-array-share-prefix-file
 array-share-prefix-file c = built (c .before) .build-list .ensures (c .if1 .taken)
 
-slice-aggregate-show-file : tie.Need-slice-aggregate-show-file
-slice-aggregate-show-file c = sym (length-take-le _ _ (array-share-prefix-file (c .before)))
+slice-aggregate-made : tie.Need-slice-aggregate-made
+slice-aggregate-made c = sym (length-take-le _ _ (array-share-prefix-file (c .before)))
+
+print-cuts-requires : tie.Need-print-cuts-requires
+print-cuts-requires c κs = search needs
 
 show-file-requires : tie.Need-show-file-requires
 show-file-requires c κs = search needs
@@ -53,7 +56,8 @@ show-list-spec =
     print-answer-requires
     show-plan-requires
     array-share-prefix-file
-    slice-aggregate-show-file
+    slice-aggregate-made
+    print-cuts-requires
     show-file-requires
     returns
     returns-2)

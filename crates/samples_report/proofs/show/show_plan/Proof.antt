@@ -13,6 +13,18 @@ abbrev μ-loop : tie.MeasureT-loop
 plan-requires : tie.Need-plan-requires Inv-loop μ-loop
 plan-requires c κs = search needs
 
+is-unsound-requires : tie.Need-is-unsound-requires Inv-loop μ-loop
+is-unsound-requires c κs = search needs
+
+slice-aggregate-print : tie.Need-slice-aggregate-print Inv-loop μ-loop
+slice-aggregate-print c = search needs
+
+print-requires : tie.Need-print-requires Inv-loop μ-loop
+print-requires c κs = search needs
+
+returns : tie.Need-returns Inv-loop μ-loop
+returns c = search needs
+
 loop-holds : tie.Need-loop-holds Inv-loop μ-loop
 loop-holds c = search needs
 
@@ -37,8 +49,8 @@ loop-less c = search needs
 loop-again : tie.Need-loop-again Inv-loop μ-loop
 loop-again c = search needs
 
-returns : tie.Need-returns Inv-loop μ-loop
-returns c = search needs
+returns-2 : tie.Need-returns-2 Inv-loop μ-loop
+returns-2 c = search needs
 
 pub show-plan-spec : {M : Type 1} → statement M
 show-plan-spec =
@@ -47,6 +59,10 @@ show-plan-spec =
     Inv-loop
     μ-loop
     plan-requires
+    is-unsound-requires
+    slice-aggregate-print
+    print-requires
+    returns
     loop-holds
     mul-counts
     array-copy-out-counts
@@ -55,4 +71,4 @@ show-plan-spec =
     add-i
     loop-less
     loop-again
-    returns)
+    returns-2)
