@@ -6,6 +6,8 @@
 #include <stdio.h>
 #include <string.h>
 
+/* Whom every call serves. */
+enum { CALLER = EIT_BROADCAST };
 /* 1993-10-13. Starts count from its midnight UTC: a local time has to be turned into UTC first. */
 enum { BASE_DAY = 49273, SERVICE = 1, STREAM = 2, NETWORK = 3, VERSION = 0 };
 
@@ -138,26 +140,27 @@ int main(int argument_count, char **arguments) {
     static Bytes script, day, series;
 
     write_script(&script, &day, &series);
-    EitEdited edited = eit_edit(list, EIT_NUMBERS_MAX, 0, day.bytes, day.length, series.bytes, series.length,
+    EitEdited edited = eit_edit(CALLER, list, EIT_NUMBERS_MAX, 0, day.bytes, day.length, series.bytes, series.length,
                                 script.bytes, script.length);
     if (!succeeded("edit", edited.number, edited.value)) {
         return 1;
     }
 
-    eit_plan(list, EIT_NUMBERS_MAX, edited.count, day.bytes, day.length, series.bytes, series.length, plan);
+    eit_plan(CALLER, list, EIT_NUMBERS_MAX, edited.count, day.bytes, day.length, series.bytes, series.length, plan);
     printf("plan %zu\n", sections(plan));
 
-    EitBuilt built = eit_build(list, EIT_NUMBERS_MAX, edited.count, day.bytes, day.length, series.bytes, series.length,
-                               BASE_DAY, SERVICE, STREAM, NETWORK, VERSION, file, sizeof file);
+    EitBuilt built =
+        eit_build(CALLER, list, EIT_NUMBERS_MAX, edited.count, day.bytes, day.length, series.bytes, series.length,
+                  BASE_DAY, SERVICE, STREAM, NETWORK, VERSION, file, sizeof file);
     if (!succeeded("build", built.number, built.value)) {
         return 1;
     }
 
-    EitReading checked = eit_check(file, built.value, BASE_DAY);
+    EitReading checked = eit_check(CALLER, file, built.value, BASE_DAY);
     if (!succeeded("check", checked.number, checked.value)) {
         return 1;
     }
-    EitReading reading = eit_read(file, built.value, BASE_DAY, records, EIT_NUMBERS_MAX);
+    EitReading reading = eit_read(CALLER, file, built.value, BASE_DAY, records, EIT_NUMBERS_MAX);
     if (!succeeded("read", reading.number, reading.value)) {
         return 1;
     }

@@ -7,9 +7,11 @@
 #[path = "../bindings/rust/src/lib.rs"]
 mod chirdaluko;
 
-use chirdaluko::{Identity, Planned, Pools, Record, NUMBERS_MAX, RECORD, SEGMENTS};
+use chirdaluko::{Caller, Identity, Planned, Pools, Record, NUMBERS_MAX, RECORD, SEGMENTS};
 use std::error::Error;
 
+/// Whom every call serves.
+const CALLER: Caller = Caller::Broadcast;
 /// 1993-10-13. Starts count from its midnight UTC: a local time has to be turned into UTC first.
 const BASE_DAY: u32 = 49_273;
 const IDENTITY: Identity = Identity { service_id: 1, transport_stream_id: 2, original_network_id: 3, version: 0 };
@@ -80,11 +82,11 @@ fn main() -> Result<(), Box<dyn Error>> {
     let script = script(&mut day, &mut series);
     let pools = Pools { day: &day, series: &series };
     let mut list = [0; NUMBERS_MAX];
-    let count = chirdaluko::edit(&mut list, 0, pools, &script)?;
+    let count = chirdaluko::edit(CALLER, &mut list, 0, pools, &script)?;
     println!("edit {count}");
 
     let mut counts = [0; SEGMENTS];
-    chirdaluko::plan(&list, count, pools, &mut counts);
+    chirdaluko::plan(CALLER, &list, count, pools, &mut counts);
     let sections = |count| match Planned::of(count) {
         Planned::Sections(sections) => usize::from(sections),
         Planned::Outside | Planned::Unsound | Planned::Unpackable => 0,
@@ -92,13 +94,13 @@ fn main() -> Result<(), Box<dyn Error>> {
     println!("plan {}", counts.iter().copied().map(sections).sum::<usize>());
 
     let mut out = [0; 65_536];
-    let length = chirdaluko::build(&list, count, pools, BASE_DAY, IDENTITY, &mut out)?;
+    let length = chirdaluko::build(CALLER, &list, count, pools, BASE_DAY, IDENTITY, &mut out)?;
     println!("build {length}");
     let file = &out[..length];
 
-    println!("check {}", chirdaluko::check(file, BASE_DAY)?.count);
+    println!("check {}", chirdaluko::check(CALLER, file, BASE_DAY)?.count);
     let mut records = [0; NUMBERS_MAX];
-    let reading = chirdaluko::read(file, BASE_DAY, &mut records)?;
+    let reading = chirdaluko::read(CALLER, file, BASE_DAY, &mut records)?;
     let Identity { service_id, transport_stream_id, original_network_id, version } = reading.identity;
     println!("read {}", reading.count);
     println!("service {service_id} stream {transport_stream_id} network {original_network_id} version {version}");

@@ -2,6 +2,11 @@
  * schedule sections (ETSI EN 300 468, 5.2.4, tables 0x50 to 0x5F), Read turns a file back into a list. docs/MANUAL.md
  * shows every call at work.
  *
+ * A call serves one of two callers, broadcast or cable, which differ in their sizes alone: how many events a list or
+ * file has at most, and how many bytes a section. Serve one caller with all calls that belong together, in the standby
+ * generator, too: what is made for cable is taken for broadcast, but packed otherwise, and a list or file that is made
+ * for broadcast can be refused for cable. docs/MANUAL.md, "Which caller", says what to do about it.
+ *
  * What each call returns and leaves is proved for every input that keeps the following:
  *
  * - A slice passes as a pointer and a length in elements, and the memory is there for all of them.
@@ -9,10 +14,11 @@
  * - A pointer to uint32_t is aligned to four bytes.
  * - What a call writes overlaps nothing else that it is lent. What it only reads may overlap.
  *
- * Nothing else is asked: counts, base days, lists and files may be any at all, and a refusal says what is wrong.
+ * Nothing else is asked: callers, counts, base days, lists and files may be any at all, and a refusal says what is
+ * wrong.
  *
  * No call allocates, keeps a pointer, has a state or prints, so calls that write to different buffers may run at the
- * same time. Each runs on the caller's stack, Edit with some 370 KB of it: docs/MANUAL.md, "Stack", has the figures.
+ * same time. Each runs on the thread's stack, Edit with some 370 KB of it: docs/MANUAL.md, "Stack", has the figures.
  * The library is for x86-64 Linux, and of the C library it needs memcpy, memmove, memset and memcmp at most. */
 #ifndef CHIRDALUKO_H
 #define CHIRDALUKO_H
@@ -20,15 +26,34 @@
 #include <stddef.h>
 #include <stdint.h>
 
-/* The version of this face, by semantic versioning of its names, values and calls; the Rust wrapper has the same. */
-#define CHIRDALUKO_VERSION_MAJOR 2
-#define CHIRDALUKO_VERSION_MINOR 1
+/* The version of this face, by semantic versioning of its names, values and calls; the Rust wrapper has the same. Link
+ * a library of the same major version: one before 3 has calls of the same names that take other arguments. */
+#define CHIRDALUKO_VERSION_MAJOR 3
+#define CHIRDALUKO_VERSION_MINOR 0
 #define CHIRDALUKO_VERSION_PATCH 0
-#define CHIRDALUKO_VERSION "2.1.0"
+#define CHIRDALUKO_VERSION "3.0.0"
 
 #ifdef __cplusplus
 extern "C" {
 #endif
+
+/* The callers: the first argument of every call but eit_crc32. Every value of the byte but 0 is served as cable. */
+enum {
+    EIT_BROADCAST = 0,
+    EIT_CABLE = 1
+};
+
+/* Sizes of broadcast, and with CABLE those of cable. A buffer of broadcast's size holds what is cable's, too. */
+enum {
+    EIT_EVENTS_MAX = 2048,   /* events in a list or file */
+    EIT_SECTION_MAX = 4096,  /* bytes in a section; all but 18 are for events */
+    EIT_CHAIN_MAX = 4066,    /* descriptor bytes of one event that a section can hold */
+    EIT_FILE_MAX = 16777216, /* bytes that hold every file: 16 tables of 256 sections */
+    EIT_CABLE_EVENTS_MAX = 256,
+    EIT_CABLE_SECTION_MAX = 1024,
+    EIT_CABLE_CHAIN_MAX = 994,
+    EIT_CABLE_FILE_MAX = 4194304
+};
 
 /* The numbers that a call returns. Of several causes a call says the first in its own order, which stands at the call;
  * eit_cause has each in words. */
@@ -80,7 +105,7 @@ static inline const char *eit_cause(uint32_t number) {
     case EIT_REFUSED_NO_CHAIN:
         return "PUT: the descriptors lie outside their pool, do not end where their part ends, or one has tag 0xFF";
     case EIT_REFUSED_UNPACKABLE:
-        return "a segment needs a ninth section, or has an event with over 4,066 bytes of descriptors";
+        return "a segment needs a ninth section, or has an event with over 4,066 bytes of descriptors, for cable 994";
     case EIT_REFUSED_OUTPUT_SHORT:
         return "the output is shorter than the file";
     case EIT_REFUSED_UNSOUND:
@@ -98,7 +123,7 @@ static inline const char *eit_cause(uint32_t number) {
     case EIT_REFUSED_EARLY_END:
         return "the file ends before the last section of last_table_id, or is empty";
     case EIT_REFUSED_EVENT_LIMIT:
-        return "the file has more than 2,048 events";
+        return "the file has more than 2,048 events, for cable 256";
     case EIT_REFUSED_RECORDS_SHORT:
         return "the record buffer is shorter than six numbers for each event";
     default:
@@ -106,10 +131,9 @@ static inline const char *eit_cause(uint32_t number) {
     }
 }
 
-/* Limits: .._MAX is the greatest legal value, EIT_FORBIDDEN_TAG the one tag that is not legal. */
+/* Limits of both callers: .._MAX is the greatest legal value, EIT_FORBIDDEN_TAG the one tag that is not legal. */
 enum {
     EIT_RECORD = 6,               /* numbers in a record */
-    EIT_EVENTS_MAX = 2048,        /* events in a list or file */
     EIT_NUMBERS_MAX = 12288,      /* numbers that hold every list: EIT_RECORD * EIT_EVENTS_MAX */
     EIT_ID_MAX = 65535,           /* a record's id */
     EIT_WINDOW_SECONDS = 5529600, /* 64 days in seconds: a record's start is below */
@@ -120,10 +144,7 @@ enum {
     EIT_SEGMENT_SECONDS = 10800,  /* seconds in a segment: three hours */
     EIT_TABLE_SEGMENTS = 32,      /* segments in a table: four days */
     EIT_SEGMENTS = 512,           /* segments in the sixteen tables */
-    EIT_SEGMENT_SECTIONS_MAX = 8, /* sections in a segment */
-    EIT_SECTION_MAX = 4096,       /* bytes in a section */
-    EIT_CHAIN_MAX = 4066,         /* descriptor bytes of one event that a section can hold */
-    EIT_FILE_MAX = 16777216       /* bytes that hold every file: 16 tables of 256 sections */
+    EIT_SEGMENT_SECTIONS_MAX = 8  /* sections in a segment */
 };
 
 /* Event list: a buffer of numbers and a count. A record is six numbers:
@@ -135,14 +156,14 @@ enum {
  *   offset    where its descriptors begin in their pool
  *   length    how many bytes they have; 0 for none
  *
- * Descriptors lie in one of two pools of bytes that the caller lends with the list: the day pool, or with
- * EIT_SERIES_POOL the series pool. They are a chain: each a tag byte, a length byte and that many bytes, the last one
- * ending where the part ends, and none with tag EIT_FORBIDDEN_TAG. 0xFF as a length or among those bytes is legal.
- * docs/MANUAL.md, "Tag 0xFF", says what to do about a list or file that has the tag.
+ * Descriptors lie in one of two pools of bytes that are lent with the list: the day pool, or with EIT_SERIES_POOL the
+ * series pool. They are a chain: each a tag byte, a length byte and that many bytes, the last one ending where the part
+ * ends, and none with tag EIT_FORBIDDEN_TAG. 0xFF as a length or among those bytes is legal. docs/MANUAL.md, "Tag
+ * 0xFF", says what to do about a list or file that has the tag.
  *
- * A list is sound if count is at most EIT_EVENTS_MAX, the buffer has six numbers for each record, every value is in
- * range, every part lies in its pool (offset + length at most the pool's length) and is a chain, starts rise strictly,
- * and ids differ. Events may overlap. The empty list is a count of 0 with any buffer. */
+ * A list is sound if count is at most EIT_EVENTS_MAX, for cable EIT_CABLE_EVENTS_MAX, the buffer has six numbers for
+ * each record, every value is in range, every part lies in its pool (offset + length at most the pool's length) and is
+ * a chain, starts rise strictly, and ids differ. Events may overlap. The empty list is a count of 0 with any buffer. */
 enum {
     EIT_FREE_CA = 1,     /* free_CA_mode is 1: a conditional access system may control a stream of the event */
     EIT_SERIES_POOL = 2, /* the descriptors lie in the series pool; a file does not show it */
@@ -166,7 +187,9 @@ typedef struct EitEdited {
 
 /* Carries an edit script out on an event list, in place.
  *
- *   list, list_length      the list's buffer; it can come to hold list_length / 6 records, at most EIT_EVENTS_MAX
+ *   caller                 whom to serve
+ *   list, list_length      the list's buffer; it can come to hold list_length / 6 records, at most EIT_EVENTS_MAX, for
+ *                          cable EIT_CABLE_EVENTS_MAX
  *   count                  how many records the list has
  *   day, day_length        the day pool
  *   series, series_length  the series pool
@@ -180,8 +203,9 @@ typedef struct EitEdited {
  * EIT_REFUSED_START_TAKEN, EIT_REFUSED_LIST_FULL.
  * Left: after the first three all of `list` is as it was; after the others it is as the edits before the refused one
  * made it. Numbers that no edit changes stay, behind the list too. */
-EitEdited eit_edit(uint32_t *list, size_t list_length, size_t count, const uint8_t *day, size_t day_length,
-                   const uint8_t *series, size_t series_length, const uint8_t *script, size_t script_length);
+EitEdited eit_edit(uint8_t caller, uint32_t *list, size_t list_length, size_t count, const uint8_t *day,
+                   size_t day_length, const uint8_t *series, size_t series_length, const uint8_t *script,
+                   size_t script_length);
 
 /* What Build returns. */
 typedef struct EitBuilt {
@@ -189,22 +213,25 @@ typedef struct EitBuilt {
     size_t value;    /* success: the file's length; 10: the lowest such segment index; 11: the bytes needed; else 0 */
 } EitBuilt;
 
-/* Writes the file of sections of an event list to the front of `out`. The file depends on the events, the base day and
- * the identity alone: its packing is fixed, each section takes as many of its segment's next events as fit.
+/* Writes the file of sections of an event list to the front of `out`. The file depends on the caller, the events, the
+ * base day and the identity alone: its packing is fixed, each section takes as many of its segment's next events as
+ * fit.
  *
+ *   caller                 whom to serve
  *   list .. series_length  the list and its pools, as for eit_edit; only read
  *   base_day               the day whose midnight UTC starts count from, a Modified Julian Date
  *   service_id, transport_stream_id, original_network_id, version
  *                          the identity, the same in every section
- *   out, out_length        the output; EIT_FILE_MAX bytes are always enough, and an out_length of 0 asks for the need
+ *   out, out_length        the output; EIT_FILE_MAX bytes, for cable EIT_CABLE_FILE_MAX, are always enough, and an
+ *                          out_length of 0 asks for the need
  *
  * Refusals: EIT_REFUSED_BASE_DAY, EIT_REFUSED_VERSION, EIT_REFUSED_UNSOUND, EIT_REFUSED_UNPACKABLE,
  * EIT_REFUSED_OUTPUT_SHORT.
  * Left: after a refusal all of `out` is as it was; after success the bytes behind the file are. */
-EitBuilt eit_build(const uint32_t *list, size_t list_length, size_t count, const uint8_t *day, size_t day_length,
-                   const uint8_t *series, size_t series_length, uint32_t base_day, uint16_t service_id,
-                   uint16_t transport_stream_id, uint16_t original_network_id, uint8_t version, uint8_t *out,
-                   size_t out_length);
+EitBuilt eit_build(uint8_t caller, const uint32_t *list, size_t list_length, size_t count, const uint8_t *day,
+                   size_t day_length, const uint8_t *series, size_t series_length, uint32_t base_day,
+                   uint16_t service_id, uint16_t transport_stream_id, uint16_t original_network_id, uint8_t version,
+                   uint8_t *out, size_t out_length);
 
 /* Counts of Plan that are no number of sections. */
 enum {
@@ -215,12 +242,13 @@ enum {
 /* Writes the number of sections that Build makes of each segment: the 32 segments of table 0x50, then those of 0x51, up
  * to 0x5F. A count is 0 outside its table's range, and 1 to 8 within it, a segment without events having 1.
  *
+ *   caller                 whom to serve
  *   list .. series_length  the list and its pools, as for eit_edit; only read
  *   plan                   512 counts; every one is written
  *
  * There is no refusal: the counts themselves say it. */
-void eit_plan(const uint32_t *list, size_t list_length, size_t count, const uint8_t *day, size_t day_length,
-              const uint8_t *series, size_t series_length, uint8_t plan[EIT_SEGMENTS]);
+void eit_plan(uint8_t caller, const uint32_t *list, size_t list_length, size_t count, const uint8_t *day,
+              size_t day_length, const uint8_t *series, size_t series_length, uint8_t plan[EIT_SEGMENTS]);
 
 /* What Read and check return. After a refusal count and identity are 0. */
 typedef struct EitReading {
@@ -236,21 +264,23 @@ typedef struct EitReading {
 /* Reads a file of sections, whoever made it, into records: the whole file is looked at first, and records are written
  * only if all of it is right.
  *
+ *   caller                   whom to serve
  *   file, file_length        the sections, joined, without stuffing
  *   base_day                 the day that starts are to count from
  *   records, records_length  the record buffer; EIT_NUMBERS_MAX numbers are always enough
  *
- * The records are a sound list with the file as day pool: offsets are into the file, no marks have EIT_SERIES_POOL.
+ * The records are a list that is sound for the caller, with the file as day pool: offsets are into the file, no marks
+ * have EIT_SERIES_POOL.
  *
  * Refusals: EIT_REFUSED_BASE_DAY; section by section EIT_REFUSED_FRAME, EIT_REFUSED_CRC, EIT_REFUSED_HEADER,
  * EIT_REFUSED_NUMBERING, EIT_REFUSED_EVENT_LOOP, EIT_REFUSED_EVENT_LIMIT; at the end EIT_REFUSED_EARLY_END,
  * EIT_REFUSED_RECORDS_SHORT.
  * Left: after a refusal all of `records` is as it was; after success the numbers behind 6 * count are. */
-EitReading eit_read(const uint8_t *file, size_t file_length, uint32_t base_day, uint32_t *records,
+EitReading eit_read(uint8_t caller, const uint8_t *file, size_t file_length, uint32_t base_day, uint32_t *records,
                     size_t records_length);
 
 /* The same without a record buffer: it writes nothing, and never says EIT_REFUSED_RECORDS_SHORT. */
-EitReading eit_check(const uint8_t *file, size_t file_length, uint32_t base_day);
+EitReading eit_check(uint8_t caller, const uint8_t *file, size_t file_length, uint32_t base_day);
 
 /* CRC_32 as sections have it: register first 0xFFFFFFFF, polynomial 0x04C11DB7, high bit first, no final inversion.
  * Over a whole section it is 0. There is no refusal. */

@@ -1,8 +1,6 @@
-/* Calls the library from C through its header: that the header's declarations fit the library shows here. */
-#include "chirdaluko.h"
-
-#include <stdio.h>
-#include <string.h>
+/* Calls the library from C through its header, for broadcast: that the header's declarations fit the library shows
+ * here. */
+#include "expect.h"
 
 /* The names stand for the numbers of documents 01 and 02. */
 _Static_assert(EIT_SUCCESS == 0 && EIT_REFUSED_BASE_DAY == 1 && EIT_REFUSED_VERSION == 2
@@ -16,26 +14,22 @@ _Static_assert(EIT_REFUSED_FRAME == 20 && EIT_REFUSED_CRC == 21 && EIT_REFUSED_H
                    && EIT_REFUSED_NUMBERING == 23 && EIT_REFUSED_EVENT_LOOP == 24 && EIT_REFUSED_EARLY_END == 25
                    && EIT_REFUSED_EVENT_LIMIT == 26 && EIT_REFUSED_RECORDS_SHORT == 27,
                "refusals of Read");
-_Static_assert(EIT_RECORD == 6 && EIT_EVENTS_MAX == 2048 && EIT_NUMBERS_MAX == 12288 && EIT_ID_MAX == 65535
+_Static_assert(EIT_RECORD == 6 && EIT_NUMBERS_MAX == 12288 && EIT_ID_MAX == 65535
                    && EIT_WINDOW_SECONDS == 64 * 86400 && EIT_DURATION_MAX == 359999 && EIT_BASE_DAY_MAX == 65472
                    && EIT_FORBIDDEN_TAG == 0xFF && EIT_VERSION_MAX == 31,
                "limits of a list, a base day and a version");
 _Static_assert(EIT_SEGMENT_SECONDS == 10800 && EIT_TABLE_SEGMENTS == 32 && EIT_SEGMENTS == 16 * 32
-                   && EIT_SEGMENT_SECTIONS_MAX == 8 && EIT_SECTION_MAX == 3 + 4093 && EIT_CHAIN_MAX == 4078 - 12
-                   && EIT_FILE_MAX == 16 * 256 * 4096,
+                   && EIT_SEGMENT_SECTIONS_MAX == 8,
                "limits of a file");
+_Static_assert(EIT_BROADCAST == 0 && EIT_EVENTS_MAX == 2048 && EIT_SECTION_MAX == 3 + 4093
+                   && EIT_CHAIN_MAX == 4078 - 12 && EIT_FILE_MAX == 16 * 256 * 4096,
+               "broadcast's sizes");
+_Static_assert(EIT_CABLE == 1 && EIT_CABLE_EVENTS_MAX == 256 && EIT_CABLE_SECTION_MAX == 3 + 1021
+                   && EIT_CABLE_CHAIN_MAX == 1006 - 12 && EIT_CABLE_FILE_MAX == 16 * 256 * 1024,
+               "cable's sizes");
 _Static_assert(EIT_FREE_CA == 1 && EIT_SERIES_POOL == 2 && EIT_OFF_AIR == 4 && EIT_PUT == 1 && EIT_WITHDRAW == 2
                    && EIT_MOVE == 3 && EIT_UNDO == 4 && EIT_PLAN_UNSOUND == 254 && EIT_PLAN_UNPACKABLE == 255,
                "marks, commands, counts of Plan");
-
-static int wrong = 0;
-
-static void expect(const char *what, unsigned long long got, unsigned long long wanted) {
-    if (got != wanted) {
-        printf("face: %s is %llu, not %llu\n", what, got, wanted);
-        wrong = 1;
-    }
-}
 
 /* Edits an empty list with room for two records, behind which a number stays. A PUT has two descriptors, the second
  * with this tag; at most one PUT is carried out. */
@@ -46,7 +40,8 @@ static void edit(const char *script_name, uint8_t tag, const uint8_t *script, si
     static const uint8_t series[2] = {0x4D, 0x00};
     uint32_t list[13] = {0};
     list[12] = 77;
-    EitEdited got = eit_edit(list, 13, 0, day, sizeof day, series, sizeof series, script, script_length);
+    EitEdited got =
+        eit_edit(EIT_BROADCAST, list, 13, 0, day, sizeof day, series, sizeof series, script, script_length);
     expect(script_name, got.number, wanted.number);
     expect("its value", got.value, wanted.value);
     expect("its count", got.count, wanted.count);
@@ -65,7 +60,8 @@ static void build(const char *what, uint32_t base_day, uint8_t version, size_t o
     static const uint8_t pool[1] = {0xFF};
     uint8_t out[20];
     memset(out, 0xA5, sizeof out);
-    EitBuilt got = eit_build(list, 1, 0, pool, 1, pool, 0, base_day, 1, 2, 3, version, out, out_length);
+    EitBuilt got =
+        eit_build(EIT_BROADCAST, list, 1, 0, pool, 1, pool, 0, base_day, 1, 2, 3, version, out, out_length);
     expect(what, got.number, wanted.number);
     expect("its value", got.value, wanted.value);
     for (size_t place = 0; place < sizeof out; place++) {
@@ -80,22 +76,12 @@ static void plan(const char *what, size_t count, uint8_t first, uint8_t others) 
     static const uint8_t pool[1] = {0xFF};
     uint8_t got[514];
     memset(got, 0xA5, sizeof got);
-    eit_plan(list, 0, count, pool, 1, pool, 0, got + 1);
+    eit_plan(EIT_BROADCAST, list, 0, count, pool, 1, pool, 0, got + 1);
     for (size_t index = 0; index < 512; index++) {
         expect(what, got[1 + index], index == 0 ? first : others);
     }
     expect("the byte before the plan", got[0], 0xA5);
     expect("the byte behind the plan", got[513], 0xA5);
-}
-
-static void expect_reading(const char *what, EitReading got, EitReading wanted) {
-    expect(what, got.number, wanted.number);
-    expect("its value", got.value, wanted.value);
-    expect("its count", got.count, wanted.count);
-    expect("its service_id", got.service_id, wanted.service_id);
-    expect("its transport_stream_id", got.transport_stream_id, wanted.transport_stream_id);
-    expect("its original_network_id", got.original_network_id, wanted.original_network_id);
-    expect("its version", got.version, wanted.version);
 }
 
 /* Builds one event of four chain bytes, and reads the file of so many bytes back into so many numbers, behind which one
@@ -107,13 +93,14 @@ static void read_built(const char *what, uint32_t base_day, size_t file_length, 
     /* The chain stands behind the section's 14 bytes and the event's 12. */
     static const uint32_t read_back[6] = {258, 9000, 3600, 5, 26, 4};
     uint8_t file[35] = {0};
-    EitBuilt built = eit_build(list, 6, 1, day, sizeof day, day, 0, 49273, 1, 0x203, 0xFFFE, 31, file, sizeof file);
+    EitBuilt built = eit_build(EIT_BROADCAST, list, 6, 1, day, sizeof day, day, 0, 49273, 1, 0x203, 0xFFFE, 31, file,
+                               sizeof file);
     expect("the answer to one event", built.number, 0);
     expect("its file's length", built.value, 34);
 
     uint32_t records[8];
     memset(records, 0xA5, sizeof records);
-    EitReading got = eit_read(file, file_length, base_day, records, records_length);
+    EitReading got = eit_read(EIT_BROADCAST, file, file_length, base_day, records, records_length);
     expect_reading(what, got, wanted);
     for (size_t place = 0; place < 8; place++) {
         int is_read = wanted.number == 0 && place < 6;
@@ -121,7 +108,7 @@ static void read_built(const char *what, uint32_t base_day, size_t file_length, 
     }
     /* Without a record buffer there is no 27. */
     EitReading accepted = {0, 1, 1, 1, 0x203, 0xFFFE, 31};
-    EitReading checked = eit_check(file, file_length, base_day);
+    EitReading checked = eit_check(EIT_BROADCAST, file, file_length, base_day);
     expect_reading("what check answers", checked, wanted.number == 27 ? accepted : wanted);
 }
 

@@ -1,6 +1,7 @@
-/* Runs each call on stacks that are too small for it, from 2 KB up in steps of 1 KB until one is large enough. Below
- * each stack lie a page that nobody may touch and, below that, memory that must stay as it is. A call that runs out of
- * stack is stopped at the first address that it touches in that page, and has written nothing below. */
+/* Runs each call, for each caller, on stacks that are too small for it, from 2 KB up in steps of 1 KB until one is
+ * large enough. Below each stack lie a page that nobody may touch and, below that, memory that must stay as it is. A
+ * call that runs out of stack is stopped at the first address that it touches in that page, and has written nothing
+ * below. */
 #define _GNU_SOURCE
 #include <signal.h>
 #include <sys/mman.h>
@@ -40,12 +41,12 @@ static void run(void (*call)(void), size_t stack) {
         _exit(ELSEWHERE);
     }
     memset(memory, UNTOUCHED, BELOW);
-    static ucontext_t caller, callee;
-    getcontext(&callee);
-    callee.uc_stack = (stack_t){.ss_sp = memory + BELOW + PAGE, .ss_size = stack};
-    callee.uc_link = &caller;
-    makecontext(&callee, call, 0);
-    swapcontext(&caller, &callee);
+    static ucontext_t outside, inside;
+    getcontext(&inside);
+    inside.uc_stack = (stack_t){.ss_sp = memory + BELOW + PAGE, .ss_size = stack};
+    inside.uc_link = &outside;
+    makecontext(&inside, call, 0);
+    swapcontext(&outside, &inside);
     _exit(RETURNED);
 }
 
@@ -69,7 +70,7 @@ static void try(const char *name, void (*call)(void)) {
         stack += STEP;
     }
     if (end != RETURNED || stack == 2 * STEP) {
-        fprintf(stderr, "overflow: %s on %zu bytes of stack: %s\n", name, stack,
+        fprintf(stderr, "overflow: %s for caller %u on %zu bytes of stack: %s\n", name, caller, stack,
                 end == OVERWRITTEN ? "memory below is overwritten" : "it is not stopped at the page below");
         exit(1);
     }
@@ -77,13 +78,12 @@ static void try(const char *name, void (*call)(void)) {
 }
 
 int main(void) {
-    fill();
-    build();
-    try("Edit", edit);
-    try("Plan", plan_list);
-    try("Build", build);
-    try("check", check);
-    try("Read", read_file);
-    try("CRC_32", crc);
+    for (size_t served = 0; served < CALLERS; served++) {
+        serve(callers[served]);
+        build();
+        for (size_t call = 0; call < CALLS; call++) {
+            try(calls[call].name, calls[call].make);
+        }
+    }
     return 0;
 }

@@ -1,6 +1,6 @@
 /* Measures how much stack each call uses on its largest inputs: it runs on a stack filled with one byte, of which the
- * lowest one that changes shows how deep the call went. Prints a row for each call, in bytes; tests/manual compares
- * them with the manual's figures. */
+ * lowest one that changes shows how deep the call went. Prints a row for each call, the bytes for the caller that takes
+ * more; tests/manual compares them with the manual's figures. */
 #define _GNU_SOURCE
 #include <pthread.h>
 
@@ -36,13 +36,17 @@ static size_t depth(void (*call)(void)) {
 }
 
 int main(void) {
-    fill();
-    size_t without = depth(nothing);
-    printf("Edit %zu\n", depth(edit) - without);
-    printf("Plan %zu\n", depth(plan_list) - without);
-    printf("Build %zu\n", depth(build) - without);
-    printf("check %zu\n", depth(check) - without);
-    printf("Read %zu\n", depth(read_file) - without);
-    printf("CRC_32 %zu\n", depth(crc) - without);
+    size_t most[CALLS] = {0};
+    for (size_t served = 0; served < CALLERS; served++) {
+        serve(callers[served]);
+        size_t without = depth(nothing);
+        for (size_t call = 0; call < CALLS; call++) {
+            size_t bytes = depth(calls[call].make) - without;
+            most[call] = bytes > most[call] ? bytes : most[call];
+        }
+    }
+    for (size_t call = 0; call < CALLS; call++) {
+        printf("%s %zu\n", calls[call].name, most[call]);
+    }
     return 0;
 }

@@ -1,17 +1,20 @@
 //! A program of a package that depends on the wrapper's: it edits a list, builds its file and reads the file back.
 
-use chirdaluko::{build, crc32, edit, read, Identity, Pools, Record, RECORD};
+use chirdaluko::{build, crc32, edit, read, Caller, Identity, Pools, Record, RECORD};
+
+const CALLER: Caller = Caller::Cable;
 
 fn main() {
     // PUT: id 1, at 12:45:00, for 1:45:30, no marks, no descriptors.
     let script = [0x01, 0, 1, 0, 0, 0xB3, 0x4C, 0, 0, 0x18, 0xBA, 0, 0, 0, 0, 0, 0, 0];
     let pools = Pools { day: &[], series: &[] };
     let mut list = [0; RECORD];
-    let count = edit(&mut list, 0, pools, &script).expect("a script that is carried out");
+    let count = edit(CALLER, &mut list, 0, pools, &script).expect("a script that is carried out");
     let mut out = [0; 102];
-    let length = build(&list, count, pools, 49_273, Identity::default(), &mut out).expect("a list that can be packed");
+    let built = build(CALLER, &list, count, pools, 49_273, Identity::default(), &mut out);
+    let length = built.expect("a list that can be packed");
     let mut records = [0; RECORD];
-    let reading = read(&out[..length], 49_273, &mut records).expect("a file that is accepted");
+    let reading = read(CALLER, &out[..length], 49_273, &mut records).expect("a file that is accepted");
     let record = Record::from(records);
     println!("{} {} {} {:08X}", reading.count, record.start, record.duration, crc32(&out[72..length]));
 }

@@ -1,53 +1,74 @@
 //! Build's refusals, and what Plan says in their place.
 
-use crate::chirdaluko::{build, plan, BuildRefusal, Identity, Planned, Pools, Record};
-use crate::inputs::{chain, event, numbers, tagged, TAGGED};
+use crate::chirdaluko::{build, plan, BuildRefusal, Caller, Identity, Planned, Pools, Record};
+use crate::inputs::{chain, event, events_in_section, numbers, row, tagged, TAGGED};
 use crate::{Rows, ALL, NEED, SEGMENT, ZERO};
 
 const SEGMENT_SECONDS: u32 = 10_800;
 
 pub fn run(rows: &mut Rows) {
-    let one = [event(1, 100)];
-    refused(rows, &[event(1, 100), event(1, 200)], 65_473, 32, BuildRefusal::BaseDay, ZERO);
-    refused(rows, &[event(1, 100), event(1, 200)], 65_472, 32, BuildRefusal::Version, ZERO);
-    refused(rows, &[event(1, 100), event(1, 200)], 65_472, 31, BuildRefusal::Unsound, ZERO);
+    let (one, twice) = ([event(1, 100)], [event(1, 100), event(1, 200)]);
+    refused(rows, &twice, 65_473, 32, BuildRefusal::BaseDay, ZERO);
+    refused(rows, &twice, 65_472, 32, BuildRefusal::Version, ZERO);
+    refused(rows, &twice, 65_472, 31, BuildRefusal::Unsound, ZERO);
     refused(rows, &one, 65_472, 31, BuildRefusal::OutputShort { needed: 30 }, NEED);
+    planned(rows.caller, &one, [1, 0, 0, 0, 0]);
+    planned(rows.caller, &twice, [254; 5]);
+    event_limit(rows);
+    unpackable(rows);
+    forbidden_tag(rows);
+}
 
-    // Segment 1 holds its event in one section; 2 and 4 have each an event that no section holds; 3 would need a ninth
-    // section.
-    let held = |id, start| Record { marks: Record::SERIES_POOL, chain_length: 4_066, ..event(id, start) };
-    let large = |id, start| Record { chain_length: 4_067, ..event(id, start) };
+/// As many events as the caller may have, in segment 0; then one more.
+fn event_limit(rows: &mut Rows) {
+    let caller = rows.caller;
+    let most = caller.events_max();
+    let records = row(most + 1);
+    let sections = most.div_ceil(events_in_section(caller));
+    let needed = 18 * sections + 12 * most;
+    refused(rows, &records[..most], 65_472, 31, BuildRefusal::OutputShort { needed }, NEED);
+    planned(caller, &records[..most], [sections as u8, 0, 0, 0, 0]);
+    refused(rows, &records, 65_472, 31, BuildRefusal::Unsound, ZERO);
+    planned(caller, &records, [254; 5]);
+}
+
+/// Segment 1 holds its event in one section; 2 and 4 have each an event that no section holds; 3 would need a ninth
+/// section.
+fn unpackable(rows: &mut Rows) {
+    let caller = rows.caller;
+    let chain_max = caller.chain_max() as u32;
+    let held = |id, start| Record { marks: Record::SERIES_POOL, chain_length: chain_max, ..event(id, start) };
+    let large = |id, start| Record { chain_length: chain_max + 1, ..event(id, start) };
     let at = |segment| SEGMENT_SECONDS * segment;
     let mut records = vec![held(1, at(1)), large(2, at(2))];
     records.extend((0..9).map(|place| held(10 + place, at(3) + place)));
     records.push(large(3, at(4)));
     refused(rows, &records, 65_472, 31, BuildRefusal::Unpackable { segment: 2 }, SEGMENT);
-    planned(&records, [1, 1, 255, 255, 255]);
+    planned(caller, &records, [1, 1, 255, 255, 255]);
     records.remove(1);
     refused(rows, &records, 65_472, 31, BuildRefusal::Unpackable { segment: 3 }, SEGMENT);
-    planned(&records, [1, 1, 1, 255, 255]);
+    planned(caller, &records, [1, 1, 1, 255, 255]);
     records.remove(1);
-    planned(&records, [1, 1, 1, 8, 255]);
-    planned(&one, [1, 0, 0, 0, 0]);
-    planned(&[event(1, 100), event(1, 200)], [254; 5]);
-    forbidden_tag(rows);
+    planned(caller, &records, [1, 1, 1, 8, 255]);
 }
 
 /// The parts behind the day pool's large chain: with tag 0xFE a chain, with tag 0xFF none.
 fn forbidden_tag(rows: &mut Rows) {
+    let caller = rows.caller;
+    let behind = caller.chain_max() as u32 + 1;
     let part = |offset| Record { offset, chain_length: TAGGED, ..event(1, 100) };
-    let (legal, forbidden) = ([part(4_067)], [part(4_067 + TAGGED)]);
+    let (legal, forbidden) = ([part(behind)], [part(behind + TAGGED)]);
     refused(rows, &legal, 65_472, 31, BuildRefusal::OutputShort { needed: 37 }, NEED);
-    planned(&legal, [1, 0, 0, 0, 0]);
+    planned(caller, &legal, [1, 0, 0, 0, 0]);
     refused(rows, &forbidden, 65_472, 31, BuildRefusal::Unsound, ZERO);
-    planned(&forbidden, [254; 5]);
+    planned(caller, &forbidden, [254; 5]);
 }
 
-/// The day pool has a chain of 4,067 bytes, whose first 4,066 are no chain, and behind it the parts with tags 0xFE and
-/// 0xFF; the series pool is a chain of 4,066.
-fn with_pools<T>(records: &[Record], call: impl FnOnce(&[u32], Pools) -> T) -> T {
-    let day = [&chain(4_067)[..], &tagged(0xFE), &tagged(0xFF)].concat();
-    call(&numbers(records), Pools { day: &day, series: &chain(4_066) })
+/// The day pool has a chain that no section holds by one byte, and which without its last byte is none, and behind it
+/// the parts with tags 0xFE and 0xFF; the series pool is the longest chain that a section holds.
+fn with_pools<T>(caller: Caller, records: &[Record], call: impl FnOnce(&[u32], Pools) -> T) -> T {
+    let day = [&chain(caller.chain_max() + 1)[..], &tagged(0xFE), &tagged(0xFF)].concat();
+    call(&numbers(records), Pools { day: &day, series: &chain(caller.chain_max()) })
 }
 
 /// The output has 29 bytes, and each stays.
@@ -59,18 +80,21 @@ fn refused(
     refusal: BuildRefusal,
     returned: &'static str,
 ) {
+    let caller = rows.caller;
     let identity = Identity { service_id: 1, transport_stream_id: 2, original_network_id: 3, version };
     let mut out = [0xA5; 29];
-    let said = with_pools(records, |list, pools| build(list, records.len(), pools, base_day, identity, &mut out));
+    let said = with_pools(caller, records, |list, pools| {
+        build(caller, list, records.len(), pools, base_day, identity, &mut out)
+    });
     assert_eq!(said, Err(refusal));
     assert_eq!(out, [0xA5; 29]);
     rows.add("Build", refusal.number(), returned, ALL);
 }
 
 /// The counts of table 0x50's first segments; behind them there is nothing, or the list is unsound.
-fn planned(records: &[Record], first: [u8; 5]) {
+fn planned(caller: Caller, records: &[Record], first: [u8; 5]) {
     let mut counts = [0xA5; 512];
-    with_pools(records, |list, pools| plan(list, records.len(), pools, &mut counts));
+    with_pools(caller, records, |list, pools| plan(caller, list, records.len(), pools, &mut counts));
     assert_eq!(counts[..5], first);
     let behind = if first[0] == 254 { Planned::Unsound } else { Planned::Outside };
     assert!(counts[5..].iter().all(|&count| Planned::of(count) == behind));

@@ -1,7 +1,7 @@
 //! Edit's refusals.
 
 use crate::chirdaluko::{edit, EditRefusal, Pools, Record};
-use crate::inputs::{event, numbers, put, shift, tagged, withdraw, DAY, TAGGED, UNDO};
+use crate::inputs::{event, numbers, put, row, shift, tagged, withdraw, DAY, TAGGED, UNDO};
 use crate::{Rows, ALL, COMMAND, EARLIER, ZERO};
 
 const CALL: &str = "Edit";
@@ -43,23 +43,26 @@ pub fn run(rows: &mut Rows) {
     list_full(rows);
 }
 
-/// A count that the buffer has no records for, a start that does not rise, and a chain with tag 0xFF, of which not even
-/// the event's WITHDRAW is carried out; with tag 0xFE it is.
+/// A count that the buffer has no records for, a start that does not rise, one event more than the caller may have, and
+/// a chain with tag 0xFF, of which not even the event's WITHDRAW is carried out; with tag 0xFE it is.
 fn unsound(rows: &mut Rows) {
+    let caller = rows.caller;
     let mut at = |lent: &[u32], count, day: &[u8], script: &[u8]| {
         let mut list = lent.to_vec();
         let refusal = EditRefusal::Unsound { count };
-        assert_eq!(edit(&mut list, count, Pools { day, series: &[] }, script), Err(refusal));
+        assert_eq!(edit(caller, &mut list, count, Pools { day, series: &[] }, script), Err(refusal));
         assert_eq!(list, lent);
         rows.add(CALL, refusal.number(), ZERO, ALL);
     };
     let twice = numbers(&[event(1, 100), event(2, 100)]);
     at(&twice, 3, &DAY, &[0x05]);
     at(&twice, 2, &DAY, &[UNDO]);
+    let most = caller.events_max();
+    at(&numbers(&row(most + 1)), most + 1, &DAY, &withdraw(0));
 
     let mut list = numbers(&[Record { chain_length: TAGGED, ..event(1, 100) }]);
     at(&list, 1, &tagged(0xFF), &withdraw(1));
-    assert_eq!(edit(&mut list, 1, Pools { day: &tagged(0xFE), series: &[] }, &withdraw(1)), Ok(0));
+    assert_eq!(edit(caller, &mut list, 1, Pools { day: &tagged(0xFE), series: &[] }, &withdraw(1)), Ok(0));
     assert_eq!(list, [0; 6]);
 }
 
@@ -69,7 +72,7 @@ fn form(rows: &mut Rows) {
     let mut at = |broken: &[u8], refusal: EditRefusal| {
         let mut list = lent.clone();
         let script = [&put(event(2, 200)), broken].concat();
-        assert_eq!(edit(&mut list, 1, POOLS, &script), Err(refusal));
+        assert_eq!(edit(rows.caller, &mut list, 1, POOLS, &script), Err(refusal));
         assert_eq!(list, lent);
         rows.add(CALL, refusal.number(), COMMAND, ALL);
     };
@@ -87,33 +90,52 @@ fn forbidden_tag(rows: &mut Rows) {
         (Pools { day: &forbidden, series: &legal }, day, series),
         (Pools { day: &legal, series: &forbidden }, series, day),
     ] {
-        refused_in(rows, pools, 4, &put(refused), |offset, count| EditRefusal::NoChain { offset, count });
+        let no_chain = |offset, count| EditRefusal::NoChain { offset, count };
+        refused_in(rows, pools, &[event(1, 100)], 4, &put(refused), no_chain);
         let mut list = [77; 7];
-        assert_eq!(edit(&mut list, 0, pools, &put(taken)), Ok(1));
+        assert_eq!(edit(rows.caller, &mut list, 0, pools, &put(taken)), Ok(1));
         assert_eq!((&list[..6], list[6]), (&numbers(&[taken])[..], 77));
     }
 }
 
+/// 8 by the buffer, which has room for two records; then by the caller's limit, in a buffer with room for one more.
 fn list_full(rows: &mut Rows) {
-    refused_in(rows, POOLS, 2, &put(event(3, 300)), |offset, count| EditRefusal::ListFull { offset, count });
+    let list_full = |offset, count| EditRefusal::ListFull { offset, count };
+    let more = put(event(3, 300));
+    refused_in(rows, POOLS, &[event(1, 100)], 2, &more, list_full);
+    let most = rows.caller.events_max();
+    let held: Vec<_> = (1..most as u32).map(|place| event(1_000 + place, 1_000 + place)).collect();
+    refused_in(rows, POOLS, &held, most + 1, &more, list_full);
 }
 
 /// A refused command between one that is carried out and one that is not.
-fn refused(rows: &mut Rows, command: &[u8], case: impl Fn(usize, usize) -> EditRefusal) {
-    refused_in(rows, POOLS, 4, command, case);
+fn refused(rows: &mut Rows, command: &[u8], case: fn(usize, usize) -> EditRefusal) {
+    refused_in(rows, POOLS, &[event(1, 100)], 4, command, case);
 }
 
-/// The same with these pools, in a buffer with room for so many records and a number over. It holds one record, and
-/// behind it what is no zero.
-fn refused_in(rows: &mut Rows, pools: Pools, room: usize, command: &[u8], case: impl Fn(usize, usize) -> EditRefusal) {
-    let mut list = vec![77; 6 * room + 1];
-    list[..6].copy_from_slice(&numbers(&[event(1, 100)]));
-    let mut left = list.clone();
-    left[6..12].copy_from_slice(&numbers(&[event(2, 200)]));
+/// The same with these pools and records, in a buffer with room for so many records and a number over. Behind those
+/// that it holds stands what is no zero.
+fn refused_in(
+    rows: &mut Rows,
+    pools: Pools,
+    held: &[Record],
+    room: usize,
+    command: &[u8],
+    case: fn(usize, usize) -> EditRefusal,
+) {
+    let buffer = |records: &[Record]| {
+        let mut buffer = numbers(records);
+        buffer.resize(6 * room + 1, 77);
+        buffer
+    };
+    let before = event(2, 200);
+    let mut left = [held, &[before]].concat();
+    left.sort_by_key(|record| record.start);
 
-    let script = [&put(event(2, 200)), command, &put(event(4, 400))].concat();
-    let refusal = case(BEFORE, 2);
-    assert_eq!(edit(&mut list, 1, pools, &script), Err(refusal));
-    assert_eq!(list, left);
+    let mut list = buffer(held);
+    let script = [&put(before), command, &put(event(4, 400))].concat();
+    let refusal = case(BEFORE, left.len());
+    assert_eq!(edit(rows.caller, &mut list, held.len(), pools, &script), Err(refusal));
+    assert_eq!(list, buffer(&left));
     rows.add(CALL, refusal.number(), COMMAND, EARLIER);
 }

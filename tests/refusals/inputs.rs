@@ -1,6 +1,6 @@
 //! Records, chains and commands to provoke refusals with.
 
-use crate::chirdaluko::Record;
+use crate::chirdaluko::{Caller, Record};
 
 /// One descriptor without bytes, and a byte that begins none that is whole.
 pub const DAY: [u8; 3] = [0x4D, 0x00, 0x4D];
@@ -13,6 +13,16 @@ pub const UNDO: u8 = 0x04;
 /// An event of an hour without marks and descriptors.
 pub fn event(id: u32, start: u32) -> Record {
     Record { id, start, duration: 3_600, ..Record::default() }
+}
+
+/// So many events of segment 0, each five seconds after the one before.
+pub fn row(count: usize) -> Vec<Record> {
+    (0..count as u32).map(|place| event(place, 5 * place)).collect()
+}
+
+/// How many events without descriptors a section holds.
+pub fn events_in_section(caller: Caller) -> usize {
+    (caller.section_max() - 18) / 12
 }
 
 /// The records' numbers.

@@ -1,6 +1,7 @@
-//! Provokes every refusal through the Rust wrapper, on both sides of each limit, and looks at its case, its number and
-//! value, and every buffer. Then prints a row for each number: the calls that say it, the cause, what they return, and
-//! what is left; and a line for each thing that is 22. tests/manual compares them with the manual's.
+//! Provokes every refusal through the Rust wrapper, for each caller, on both sides of each limit, and looks at its
+//! case, its number and value, and every buffer. Then prints a row for each number: the calls that say it, the cause,
+//! what they return, and what is left; and a line for each thing that is 22. tests/manual compares them with the
+//! manual's.
 
 #[allow(dead_code)]
 #[path = "../../bindings/rust/src/lib.rs"]
@@ -8,11 +9,12 @@ mod chirdaluko;
 
 mod builds;
 mod edits;
+mod events;
 mod inputs;
 mod reads;
 mod words;
 
-use chirdaluko::{cause, Record};
+use chirdaluko::{cause, Caller, Record};
 use std::collections::BTreeMap;
 
 /// The numbers of the refusals, in their order.
@@ -31,14 +33,25 @@ const EVENTS: &str = "number of events";
 const ALL: &str = "all as it was";
 const EARLIER: &str = "list as the edits before made it";
 
-/// For each number the calls that say it, what is returned, and what is left; and what brought 22 about, in words.
-#[derive(Default)]
+/// What a caller is refused: for each number the calls that say it, what is returned, and what is left; and what
+/// brought 22 about, in words.
 struct Rows {
+    caller: Caller,
     refusals: BTreeMap<u32, (Vec<&'static str>, &'static str, &'static str)>,
     headers: Vec<&'static str>,
 }
 
 impl Rows {
+    fn of(caller: Caller) -> Rows {
+        let mut rows = Rows { caller, refusals: BTreeMap::new(), headers: Vec::new() };
+        edits::run(&mut rows);
+        builds::run(&mut rows);
+        reads::run(&mut rows);
+        events::run(&mut rows);
+        assert!(rows.refusals.keys().eq(&NUMBERS), "{caller:?}: every number, and no other");
+        rows
+    }
+
     /// A call said this number. Whoever says it returns and leaves the same.
     fn add(&mut self, call: &'static str, number: u32, returned: &'static str, left: &'static str) {
         let row = self.refusals.entry(number).or_insert((Vec::new(), returned, left));
@@ -52,7 +65,6 @@ impl Rows {
 /// The wrapper's limits are those of documents 01 and 02.
 const _: () = assert!(
     chirdaluko::RECORD == 6
-        && chirdaluko::EVENTS_MAX == 2_048
         && chirdaluko::NUMBERS_MAX == 12_288
         && chirdaluko::ID_MAX == 65_535
         && chirdaluko::WINDOW_SECONDS == 64 * 86_400
@@ -64,22 +76,28 @@ const _: () = assert!(
         && chirdaluko::TABLE_SEGMENTS == 32
         && chirdaluko::SEGMENTS == 16 * 32
         && chirdaluko::SEGMENT_SECTIONS_MAX == 8
-        && chirdaluko::SECTION_MAX == 3 + 4_093
-        && chirdaluko::CHAIN_MAX == 4_078 - 12
-        && chirdaluko::FILE_MAX == 16 * 256 * 4_096
         && Record::FREE_CA == 1
         && Record::SERIES_POOL == 2
         && Record::OFF_AIR == 4
 );
 
+/// And so are its callers' sizes.
+const _: () = assert!(
+    Caller::Broadcast.events_max() == 2_048
+        && Caller::Broadcast.section_max() == 3 + 4_093
+        && Caller::Broadcast.chain_max() == 4_078 - 12
+        && Caller::Broadcast.file_max() == 16 * 256 * 4_096
+        && Caller::Cable.events_max() == 256
+        && Caller::Cable.section_max() == 3 + 1_021
+        && Caller::Cable.chain_max() == 1_006 - 12
+        && Caller::Cable.file_max() == 16 * 256 * 1_024
+);
+
 fn main() {
     words::run();
-    let mut rows = Rows::default();
-    edits::run(&mut rows);
-    builds::run(&mut rows);
-    reads::run(&mut rows);
-    assert!(rows.refusals.keys().eq(&NUMBERS), "every number, and no other");
-    for (&number, (calls, returned, left)) in &rows.refusals {
+    let [rows, cable] = [Caller::Broadcast, Caller::Cable].map(Rows::of);
+    assert_eq!((&rows.refusals, &rows.headers), (&cable.refusals, &cable.headers), "both are refused alike");
+    for (number, (calls, returned, left)) in rows.refusals {
         println!("| {number} | {} | {} | {returned} | {left} |", calls.join(", "), cause(number));
     }
     for header in rows.headers {

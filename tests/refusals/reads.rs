@@ -1,63 +1,66 @@
-//! Read's and check's refusals: files that Build made, damaged, and given a right CRC_32 again where the damage is not
-//! to it.
+//! Read's and check's refusals of whole files and of their sections: files that Build made, damaged, and given a right
+//! CRC_32 again where the damage is not to it. Those of events are in events.rs.
 
-use crate::chirdaluko::{build, check, crc32, read, Identity, Pools, ReadRefusal, Reading, Record};
-use crate::inputs::{event, numbers, tagged, TAGGED};
+use crate::chirdaluko::{build, check, crc32, read, Caller, Identity, Pools, ReadRefusal, Reading, Record};
+use crate::inputs::{event, numbers};
 use crate::{Rows, ALL, EVENTS, FILE, SECTION, ZERO};
 use std::ops::Range;
 
-const BASE_DAY: u32 = 49_273;
-const IDENTITY: Identity = Identity { service_id: 1, transport_stream_id: 2, original_network_id: 3, version: 4 };
+pub const BASE_DAY: u32 = 49_273;
+pub const IDENTITY: Identity = Identity { service_id: 1, transport_stream_id: 2, original_network_id: 3, version: 4 };
 
-/// Three events, each in a section of its own of 30 bytes: table 0x50 section 0, table 0x51 sections 0 and 8.
-const SECOND: Range<usize> = 30..60;
-const THIRD: usize = 60;
+/// The sections of `three`, each of 30 bytes: table 0x50 section 0, table 0x51 sections 0 and 8.
+pub const SECOND: Range<usize> = 30..60;
+pub const THIRD: usize = 60;
 const END: usize = 90;
 
 pub fn run(rows: &mut Rows) {
-    let file = built(&[event(1, 100), event(2, 345_600), event(3, 356_400)], &[]);
+    let file = three(rows.caller);
     assert_eq!(file.len(), END);
     frames(rows, &file);
     headers(rows, &file);
     numbering(rows, &file);
-    event_loops(rows, &file);
-    forbidden_tag(rows);
     ends(rows, &file);
-    event_limit(rows);
 }
 
-fn built(records: &[Record], day: &[u8]) -> Vec<u8> {
+/// A file of three events, each in a section of its own.
+pub fn three(caller: Caller) -> Vec<u8> {
+    built(caller, &[event(1, 100), event(2, 345_600), event(3, 356_400)], &[])
+}
+
+pub fn built(caller: Caller, records: &[Record], day: &[u8]) -> Vec<u8> {
     let pools = Pools { day, series: &[] };
     let mut out = vec![0; 65_536];
-    let length = build(&numbers(records), records.len(), pools, BASE_DAY, IDENTITY, &mut out).expect("a sound list");
-    out.truncate(length);
+    let length = build(caller, &numbers(records), records.len(), pools, BASE_DAY, IDENTITY, &mut out);
+    out.truncate(length.expect("a sound list"));
     out
 }
 
 /// Read and check both say it, and the record buffer, long enough for three events, stays.
-fn refused(rows: &mut Rows, file: &[u8], base_day: u32, refusal: ReadRefusal, returned: &'static str) {
+pub fn refused(rows: &mut Rows, file: &[u8], base_day: u32, refusal: ReadRefusal, returned: &'static str) {
     let mut records = [77; 18];
-    assert_eq!(read(file, base_day, &mut records), Err(refusal));
+    assert_eq!(read(rows.caller, file, base_day, &mut records), Err(refusal));
     assert_eq!(records, [77; 18]);
-    assert_eq!(check(file, base_day), Err(refusal));
+    assert_eq!(check(rows.caller, file, base_day), Err(refusal));
     rows.add("Read", refusal.number(), returned, ALL);
     rows.add("check", refusal.number(), returned, ALL);
 }
 
 /// The file with a section changed, and its CRC_32 made right.
-fn changed(file: &[u8], section: Range<usize>, change: impl FnOnce(&mut [u8])) -> Vec<u8> {
+pub fn changed(file: &[u8], section: Range<usize>, change: impl FnOnce(&mut [u8])) -> Vec<u8> {
     let mut file = file.to_vec();
     change(&mut file[section.clone()]);
     seal(&mut file[section]);
     file
 }
 
-fn seal(section: &mut [u8]) {
+pub fn seal(section: &mut [u8]) {
     let (front, crc) = section.split_at_mut(section.len() - 4);
     crc.copy_from_slice(&crc32(front).to_be_bytes());
 }
 
 fn frames(rows: &mut Rows, file: &[u8]) {
+    let longest = rows.caller.section_max() as u16 - 3;
     refused(rows, file, 65_473, ReadRefusal::BaseDay, ZERO);
     let mut frame = |file: &[u8], offset| refused(rows, file, BASE_DAY, ReadRefusal::Frame { offset }, SECTION);
     frame(&file[..END - 1], THIRD);
@@ -70,8 +73,8 @@ fn frames(rows: &mut Rows, file: &[u8]) {
         [&file[..SECOND.start], &[0x51, high, low], &[0; 4_096]].concat()
     };
     frame(&of_length(14), SECOND.start);
-    frame(&of_length(4_094), SECOND.start);
-    for length in [15, 4_093] {
+    frame(&of_length(longest + 1), SECOND.start);
+    for length in [15, longest] {
         refused(rows, &of_length(length), BASE_DAY, ReadRefusal::Crc { offset: SECOND.start }, SECTION);
     }
 
@@ -116,50 +119,6 @@ fn numbering(rows: &mut Rows, file: &[u8]) {
     numbering(&past, SECOND.start);
 }
 
-fn event_loops(rows: &mut Rows, file: &[u8]) {
-    let mut events = |file: &[u8], base_day, offset| {
-        refused(rows, file, base_day, ReadRefusal::EventLoop { offset }, SECTION);
-    };
-    // The first event is then before midnight.
-    events(file, BASE_DAY + 1, 0);
-    let mut with = |place: usize, byte: u8| {
-        events(&changed(file, SECOND, |section| section[place] = byte), BASE_DAY, SECOND.start);
-    };
-    // The id of the first event; another date; an event of the next segment; 24 hours, 60 minutes, a half byte above 9.
-    with(15, 1);
-    with(17, 0x79);
-    with(18, 0x03);
-    with(18, 0x24);
-    with(19, 0x60);
-    with(20, 0x0A);
-    // No duration; running_status 1; a chain that is cut.
-    with(21, 0x00);
-    with(24, 0x20);
-    with(25, 0x01);
-    // Two events, the second with the start of the first.
-    let two = changed(&built(&[event(1, 100), event(2, 160)], &[]), 0..42, |section| section[31] = 0x01);
-    events(&two, BASE_DAY, 0);
-    // The third section's segment has a second section, and the third section no events.
-    let mut empty = file[..THIRD].to_vec();
-    let mut third = [&file[THIRD..THIRD + 14], &[0; 4]].concat();
-    (third[2], third[7], third[12]) = (15, 9, 9);
-    seal(&mut third);
-    empty = changed(&empty, SECOND, |section| section[7] = 9);
-    events(&[empty, third].concat(), BASE_DAY, THIRD);
-}
-
-/// The second section's event has a descriptor with tag 0xFE, which is accepted; then with tag 0xFF.
-fn forbidden_tag(rows: &mut Rows) {
-    let file = built(&[event(1, 100), Record { chain_length: TAGGED, ..event(2, 345_600) }], &tagged(0xFE));
-    let section = SECOND.start..file.len();
-    let accepted = Ok(Reading { count: 2, identity: IDENTITY });
-    assert_eq!(read(&file, BASE_DAY, &mut [77; 12]), accepted);
-    assert_eq!(check(&file, BASE_DAY), accepted);
-    // The tag stands behind the section's 14 bytes, the event's 12 and the first descriptor's 4.
-    let forbidden = changed(&file, section, |section| section[30] = 0xFF);
-    refused(rows, &forbidden, BASE_DAY, ReadRefusal::EventLoop { offset: SECOND.start }, SECTION);
-}
-
 fn ends(rows: &mut Rows, file: &[u8]) {
     let mut early = |file: &[u8]| {
         refused(rows, file, BASE_DAY, ReadRefusal::EarlyEnd { file_length: file.len() }, FILE);
@@ -172,24 +131,9 @@ fn ends(rows: &mut Rows, file: &[u8]) {
     let accepted = Ok(Reading { count: 3, identity: IDENTITY });
     let short = ReadRefusal::RecordsShort { events: 3 };
     let mut records = [77; 18];
-    assert_eq!(read(file, BASE_DAY, &mut records[..17]), Err(short));
+    assert_eq!(read(rows.caller, file, BASE_DAY, &mut records[..17]), Err(short));
     assert_eq!(records, [77; 18]);
-    assert_eq!(read(file, BASE_DAY, &mut records), accepted);
-    assert_eq!(check(file, BASE_DAY), accepted);
+    assert_eq!(read(rows.caller, file, BASE_DAY, &mut records), accepted);
+    assert_eq!(check(rows.caller, file, BASE_DAY), accepted);
     rows.add("Read", short.number(), EVENTS, ALL);
-}
-
-/// 2,048 events in segment 0, and one more in its last section.
-fn event_limit(rows: &mut Rows) {
-    let records: Vec<_> = (0..2_048).map(|place| event(place, 5 * place)).collect();
-    let mut file = built(&records, &[]);
-    assert_eq!(check(&file, BASE_DAY), Ok(Reading { count: 2_048, identity: IDENTITY }));
-    let last = 6 * (18 + 339 * 12);
-    let mut section = file.split_off(last);
-    // Event 2,048 at 02:50:40.
-    section.splice(182..182, [0x08, 0x00, 0xC0, 0x79, 0x02, 0x50, 0x40, 0x01, 0x00, 0x00, 0x00, 0x00]);
-    section[2] += 12;
-    seal(&mut section);
-    file.extend(section);
-    refused(rows, &file, BASE_DAY, ReadRefusal::EventLimit { offset: last }, SECTION);
 }

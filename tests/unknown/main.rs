@@ -5,7 +5,8 @@
 #[path = "../../bindings/rust/src/lib.rs"]
 mod chirdaluko;
 
-use chirdaluko::{build, check, edit, read, BuildRefusal, EditRefusal, Identity, Planned, Pools, ReadRefusal, Reading};
+use chirdaluko::{build, check, edit, read, Caller, Identity, Planned, Pools};
+use chirdaluko::{BuildRefusal, EditRefusal, ReadRefusal, Reading};
 use std::panic::{catch_unwind, set_hook};
 use std::process::exit;
 
@@ -13,22 +14,23 @@ extern "C" {
     fn set_answer(number: u32, value: usize, count: usize, service_id: u16);
 }
 
+const CALLER: Caller = Caller::Broadcast;
 const POOLS: Pools = Pools { day: &[], series: &[] };
 
 fn edited() -> Result<usize, EditRefusal> {
-    edit(&mut [], 0, POOLS, &[])
+    edit(CALLER, &mut [], 0, POOLS, &[])
 }
 
 fn built() -> Result<usize, BuildRefusal> {
-    build(&[], 0, POOLS, 0, Identity::default(), &mut [])
+    build(CALLER, &[], 0, POOLS, 0, Identity::default(), &mut [])
 }
 
 fn reading() -> Result<Reading, ReadRefusal> {
-    read(&[], 0, &mut [])
+    read(CALLER, &[], 0, &mut [])
 }
 
 fn checked() -> Result<Reading, ReadRefusal> {
-    check(&[], 0)
+    check(CALLER, &[], 0)
 }
 
 /// The call panics, and names the number and the value.

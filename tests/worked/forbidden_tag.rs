@@ -1,32 +1,22 @@
 //! What the calls say of two events, the second with a descriptor of tag 0xFE or 0xFF.
 
-use crate::chirdaluko::{build, check, edit, plan, read, Pools, Record, SEGMENTS};
+use crate::chirdaluko::{build, check, edit, plan, read, Caller, Pools, Record, SEGMENTS};
 use crate::inputs::{event, numbers, put, tagged, withdraw, TAGGED};
+use crate::lines::said;
 use crate::schedule::{BASE_DAY, IDENTITY};
 use crate::sections::{self, section};
 
 /// A line for each call, with what it says by the tag.
-pub fn lines() -> Vec<String> {
+pub fn lines(caller: Caller) -> Vec<String> {
     let line = |call: &str, legal: &str, forbidden: &str| format!("{call:<49}{legal:<10}{forbidden}");
     let mut lines = vec![line("call", "tag 0xFE", "tag 0xFF")];
-    for ((call, legal), (_, forbidden)) in answers(0xFE).iter().zip(answers(0xFF)) {
+    for ((call, legal), (_, forbidden)) in answers(caller, 0xFE).iter().zip(answers(caller, 0xFF)) {
         lines.push(line(call, legal, &forbidden));
     }
     lines
 }
 
-/// What a call says in words: the refusals of all calls have a number and a value.
-macro_rules! said {
-    ($call:expr) => {
-        match $call {
-            Ok(_) => "success".to_string(),
-            Err(refusal) if refusal.value() == 0 => refusal.number().to_string(),
-            Err(refusal) => format!("{} at {}", refusal.number(), refusal.value()),
-        }
-    };
-}
-
-fn answers(tag: u8) -> [(&'static str, String); 6] {
+fn answers(caller: Caller, tag: u8) -> [(&'static str, String); 6] {
     let records = [event(1, 0), Record { chain_length: TAGGED, ..event(2, 10_800) }];
     let day = tagged(tag);
     let pools = Pools { day: &day, series: &[] };
@@ -34,18 +24,18 @@ fn answers(tag: u8) -> [(&'static str, String); 6] {
 
     let mut list = numbers(&records);
     let mut counts = [0; SEGMENTS];
-    plan(&list, 2, pools, &mut counts);
+    plan(caller, &list, 2, pools, &mut counts);
     let file = file(tag);
     let mut out = vec![0; file.len()];
-    let built = build(&list, 2, pools, BASE_DAY, IDENTITY, &mut out);
+    let built = build(caller, &list, 2, pools, BASE_DAY, IDENTITY, &mut out);
     assert!(built.is_err() || out == file, "Build writes the file that is read");
     [
-        ("Edit: PUT of the event, behind another PUT", said!(edit(&mut [0; 12], 0, pools, &script))),
+        ("Edit: PUT of the event, behind another PUT", said!(edit(caller, &mut [0; 12], 0, pools, &script))),
         ("Plan of a list that has it: its segment's count", counts[1].to_string()),
         ("Build of the list", said!(built)),
-        ("Edit of the list: WITHDRAW of the event", said!(edit(&mut list, 2, pools, &withdraw(2)))),
-        ("check of a file that has it, in section 8", said!(check(&file, BASE_DAY))),
-        ("Read of the file", said!(read(&file, BASE_DAY, &mut [0; 12]))),
+        ("Edit of the list: WITHDRAW of the event", said!(edit(caller, &mut list, 2, pools, &withdraw(2)))),
+        ("check of a file that has it, in section 8", said!(check(caller, &file, BASE_DAY))),
+        ("Read of the file", said!(read(caller, &file, BASE_DAY, &mut [0; 12]))),
     ]
 }
 

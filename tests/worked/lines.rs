@@ -1,4 +1,6 @@
-//! Bytes with what they mean, a line for each field.
+//! The manual's blocks and tables: bytes with what they mean, a line for each field; numbers and answers in words.
+
+use std::borrow::Borrow;
 
 /// Bytes that grow field by field, and their lines: offset, bytes, meaning.
 #[derive(Default)]
@@ -19,6 +21,27 @@ impl Lines {
 pub fn block(name: &str, lines: &[String]) {
     println!("{name}\n```\n{}\n```", lines.join("\n"));
 }
+
+/// A table of the manual: the heading that it stands under, and its rows.
+pub fn table<T: Borrow<str>, const COLUMNS: usize>(heading: &str, rows: &[[T; COLUMNS]]) {
+    println!("{heading}");
+    for row in rows {
+        let row = format!("| {} |", row.join(" | "));
+        println!("{}", row.replace("|  |", "| |"));
+    }
+}
+
+/// What a call says in words: the refusals of all calls have a number and a value.
+macro_rules! said {
+    ($call:expr) => {
+        match $call {
+            Ok(_) => "success".to_string(),
+            Err(refusal) if refusal.value() == 0 => refusal.number().to_string(),
+            Err(refusal) => format!("{} at {}", refusal.number(), refusal.value()),
+        }
+    };
+}
+pub(crate) use said;
 
 /// A number with a comma before every three digits.
 pub fn grouped(number: u32) -> String {

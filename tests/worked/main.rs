@@ -1,27 +1,33 @@
-//! The worked examples, the details and two tables of docs/MANUAL.md, made through the Rust wrapper and printed as the
-//! manual has them: each block under the line that names it, and details and tables once calls have shown them.
-//! tests/manual compares them.
+//! The worked examples, two lists and three tables of docs/MANUAL.md, made through the Rust wrapper and printed as the
+//! manual has them: each block under the line that names it, lists and tables under their headings once calls have
+//! shown them. tests/manual compares them.
 
 #[allow(dead_code)]
 #[path = "../../bindings/rust/src/lib.rs"]
 mod chirdaluko;
 
+mod build_details;
+mod caller_changes;
+mod callers;
+mod chain_details;
 mod details;
 mod edit_details;
-mod file_details;
 mod forbidden_tag;
 #[allow(dead_code)]
 #[path = "../refusals/inputs.rs"]
 mod inputs;
 mod layout;
 mod lines;
+mod read_details;
 mod schedule;
 mod sections;
 mod tables;
 
-use chirdaluko::{build, check, crc32, edit, plan, read, Pools, RECORD, SEGMENTS};
+use chirdaluko::{build, check, crc32, edit, plan, read, Caller, Pools, RECORD, SEGMENTS};
 use lines::block;
-use schedule::{BASE_DAY, IDENTITY};
+use schedule::{BASE_DAY, CALLER, IDENTITY};
+
+const CALLERS: [Caller; 2] = [Caller::Broadcast, Caller::Cable];
 
 fn main() {
     let script = schedule::script();
@@ -30,19 +36,19 @@ fn main() {
     let (day, series) = (schedule::day_pool(), schedule::series_pool());
     let pools = Pools { day: &day, series: &series };
     let mut list = [0; 30];
-    let count = edit(&mut list, 0, pools, &script.bytes).expect("a script that is carried out");
+    let count = edit(CALLER, &mut list, 0, pools, &script.bytes).expect("a script that is carried out");
     block("The list that it makes:", &schedule::rows(&list[..RECORD * count]));
 
     let mut counts = [0; SEGMENTS];
-    plan(&list, count, pools, &mut counts);
+    plan(CALLER, &list, count, pools, &mut counts);
     block("Its plan:", &schedule::plan_rows(&counts));
 
     let mut out = vec![0; 65_536];
-    let length = build(&list, count, pools, BASE_DAY, IDENTITY, &mut out).expect("a list that can be packed");
+    let length = build(CALLER, &list, count, pools, BASE_DAY, IDENTITY, &mut out).expect("a list that can be packed");
     let file = &out[..length];
-    check(file, BASE_DAY).expect("a file that is accepted");
+    check(CALLER, file, BASE_DAY).expect("a file that is accepted");
     let mut records = [0; 24];
-    let reading = read(file, BASE_DAY, &mut records).expect("a file that is accepted");
+    let reading = read(CALLER, file, BASE_DAY, &mut records).expect("a file that is accepted");
     let mut cuts = sections::cuts(file, &records[..RECORD * reading.count]);
     cuts.push(format!("bytes {length}"));
     block("Its file's cuts:", &cuts);
@@ -60,7 +66,12 @@ fn main() {
             crc("all of section 32 of table 0x50", section),
         ],
     );
-    block("What the calls say, by the second tag:", &forbidden_tag::lines());
+    block("What the calls say, by the caller:", &callers::lines());
+    let [tags, tags_for_cable] = CALLERS.map(forbidden_tag::lines);
+    assert_eq!(tags, tags_for_cable);
+    block("What the calls say, by the second tag:", &tags);
+    callers::print();
+    caller_changes::print();
     details::print();
     tables::print();
 }

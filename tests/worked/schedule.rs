@@ -1,10 +1,11 @@
 //! The worked list: a programme with descriptors of its own, two with those of their series, which fill more than a
 //! section, and a programme of the fifth day.
 
-use crate::chirdaluko::{Identity, Record, RECORD};
+use crate::chirdaluko::{Caller, Identity, Record, RECORD};
 use crate::inputs::{chain, put, shift, withdraw, UNDO};
 use crate::lines::{clock, grouped, number, Lines};
 
+pub const CALLER: Caller = Caller::Broadcast;
 pub const BASE_DAY: u32 = 49_273;
 pub const IDENTITY: Identity = Identity { service_id: 1, transport_stream_id: 2, original_network_id: 3, version: 0 };
 

@@ -1,10 +1,12 @@
 //! The manual's tables of Plan's counts and of a section's fields, each under its heading, once calls have shown them.
 
-use crate::chirdaluko::{check, crc32, plan, Pools, ReadRefusal, Record};
+use crate::build_details::file_of;
+use crate::chirdaluko::{check, crc32, plan, Caller, Pools, ReadRefusal, Record};
 use crate::edit_details::NO_POOLS;
-use crate::file_details::file_of;
 use crate::inputs::{chain, event, numbers};
+use crate::lines::table;
 use crate::schedule::BASE_DAY;
+use crate::CALLERS;
 
 const COUNTS: [[&str; 3]; 4] = [
     ["0", "", "outside its table's range: no section"],
@@ -15,7 +17,7 @@ const COUNTS: [[&str; 3]; 4] = [
 
 const FIELDS: [[&str; 4]; 15] = [
     ["0", "1", "table_id", "0x50 + segment index ÷ 32"],
-    ["1", "2", "bits 1111, section_length", "bytes behind these two: 15 to 4,093"],
+    ["1", "2", "bits 1111, section_length", "bytes behind these two: 15 to 4,093, for cable to 1,021"],
     ["3", "2", "service_id", "any"],
     ["5", "1", "bits 11, version, current_next", "version 0 to 31, current_next 1"],
     ["6", "1", "section_number", "8 × segment, and up to 7 more"],
@@ -32,27 +34,23 @@ const FIELDS: [[&str; 4]; 15] = [
 ];
 
 pub fn print() {
-    counts_are_so();
+    for caller in CALLERS {
+        counts_are_so(caller);
+        fields_are_so(caller);
+        durations(caller);
+    }
     table("### 2. Plan: `eit_plan`", &COUNTS);
-    fields_are_so();
     table("## The file", &FIELDS);
 }
 
-fn table<const COLUMNS: usize>(heading: &str, rows: &[[&str; COLUMNS]]) {
-    println!("{heading}");
-    for row in rows {
-        println!("| {} |", row.join(" | ").replace("|  |", "| |"));
-    }
-}
-
 /// A segment without events, one of eight sections, one of one; then one of nine; then an unsound list.
-fn counts_are_so() {
-    let day = chain(4_066);
+fn counts_are_so(caller: Caller) {
+    let day = chain(caller.chain_max());
     let pools = Pools { day: &day, series: &[] };
-    let large = |place| Record { chain_length: 4_066, ..event(place, 10_800 + place) };
+    let large = |place| Record { chain_length: day.len() as u32, ..event(place, 10_800 + place) };
     let counts = |records: &[Record]| {
         let mut counts = [0xA5; 512];
-        plan(&numbers(records), records.len(), pools, &mut counts);
+        plan(caller, &numbers(records), records.len(), pools, &mut counts);
         counts
     };
     let mut records: Vec<_> = (0..8).map(large).chain([event(100, 21_600)]).collect();
@@ -65,15 +63,16 @@ fn counts_are_so() {
 }
 
 /// What check says of a file of one event, with a byte changed, and the CRC_32 made right.
-fn with(place: usize, byte: u8) -> Result<usize, ReadRefusal> {
-    let mut file = file_of(&[event(1, 0)], NO_POOLS);
+fn with(caller: Caller, place: usize, byte: u8) -> Result<usize, ReadRefusal> {
+    let mut file = file_of(caller, &[event(1, 0)], NO_POOLS);
     file[place] = byte;
     let crc = crc32(&file[..26]).to_be_bytes();
     file[26..].copy_from_slice(&crc);
-    check(&file, BASE_DAY).map(|reading| reading.count)
+    check(caller, &file, BASE_DAY).map(|reading| reading.count)
 }
 
-fn fields_are_so() {
+fn fields_are_so(caller: Caller) {
+    let with = |place, byte| with(caller, place, byte);
     let frame = Err(ReadRefusal::Frame { offset: 0 });
     let header = Err(ReadRefusal::Header { offset: 0 });
     let event_loop = Err(ReadRefusal::EventLoop { offset: 0 });
@@ -91,16 +90,15 @@ fn fields_are_so() {
         let may_be = running_status == 0 || running_status == 5;
         assert_eq!(with(24, running_status << 5), if may_be { Ok(1) } else { event_loop });
     }
-    durations();
 }
 
 /// The shortest and the longest; the file of an hour with no hour, and with 9A of them.
-fn durations() {
+fn durations(caller: Caller) {
     for (duration, digits) in [(1, [0x00, 0x00, 0x01]), (359_999, [0x99, 0x59, 0x59])] {
-        let file = file_of(&[Record { duration, ..event(1, 0) }], NO_POOLS);
-        assert_eq!((&file[21..24], check(&file, BASE_DAY).is_ok()), (&digits[..], true));
+        let file = file_of(caller, &[Record { duration, ..event(1, 0) }], NO_POOLS);
+        assert_eq!((&file[21..24], check(caller, &file, BASE_DAY).is_ok()), (&digits[..], true));
     }
     for hours in [0x00, 0x9A] {
-        assert_eq!(with(21, hours), Err(ReadRefusal::EventLoop { offset: 0 }));
+        assert_eq!(with(caller, 21, hours), Err(ReadRefusal::EventLoop { offset: 0 }));
     }
 }

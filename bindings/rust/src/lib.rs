@@ -3,32 +3,36 @@
 //! by itself (build.rs), and this file alone can be a module: README.md, "How to link", has the commands, and
 //! docs/MANUAL.md shows every call at work.
 //!
-//! What each call returns and leaves is proved. Slices keep all that the C face asks of its caller: pointers that are
-//! not null, lengths that are true, and written buffers that overlap nothing else. Any value of any argument is taken.
+//! Each call but [`crc32`] takes first which [`Caller`] it serves. What it returns and leaves is proved. Slices keep
+//! all that the C face asks for: pointers that are not null, lengths that are true, and written buffers that overlap
+//! nothing else. Any value of any argument is taken.
 //!
 //! An answer that is none of a call's, an unknown number or a value that its number does not come with, panics: the
-//! library is proved to return no such answer, so it is then of another version than this file, and no caller could go
-//! on from there.
+//! library is proved to return no such answer, so it is then of another version than this file, and no program could
+//! go on from there. Link a library of the same major version: one before 3 has calls of the same names that take other
+//! arguments, and what they do then is undefined.
 //!
 //! ```
-//! use chirdaluko::{build, check, edit, read, BuildRefusal, Identity, Pools, Record};
+//! use chirdaluko::{build, check, edit, read, BuildRefusal, Caller, Identity, Pools, Record};
 //!
+//! let caller = Caller::Broadcast;
 //! // PUT: id 1, at 12:45:00, for 1:45:30, no marks, no descriptors.
 //! let script = [0x01, 0, 1, 0, 0, 0xB3, 0x4C, 0, 0, 0x18, 0xBA, 0, 0, 0, 0, 0, 0, 0];
 //! let pools = Pools { day: &[], series: &[] };
 //! let mut list = [0; 6];
-//! let count = edit(&mut list, 0, pools, &script).unwrap();
+//! let count = edit(caller, &mut list, 0, pools, &script).unwrap();
 //! assert_eq!(count, 1);
 //!
 //! let identity = Identity { service_id: 1, transport_stream_id: 2, original_network_id: 3, version: 0 };
 //! let mut out = [0; 200];
-//! assert_eq!(build(&list, count, pools, 49_273, identity, &mut []), Err(BuildRefusal::OutputShort { needed: 102 }));
-//! let length = build(&list, count, pools, 49_273, identity, &mut out).unwrap();
+//! let need = build(caller, &list, count, pools, 49_273, identity, &mut []);
+//! assert_eq!(need, Err(BuildRefusal::OutputShort { needed: 102 }));
+//! let length = build(caller, &list, count, pools, 49_273, identity, &mut out).unwrap();
 //! let file = &out[..length];
 //!
-//! assert_eq!(check(file, 49_273).unwrap().identity, identity);
+//! assert_eq!(check(caller, file, 49_273).unwrap().identity, identity);
 //! let mut numbers = [0; 6];
-//! let reading = read(file, 49_273, &mut numbers).unwrap();
+//! let reading = read(caller, file, 49_273, &mut numbers).unwrap();
 //! assert_eq!(reading.count, 1);
 //! let record = Record::from(numbers);
 //! assert_eq!((record.id, record.start, record.duration), (1, 45_900, 6_330));
@@ -37,12 +41,48 @@
 use std::error::Error;
 use std::fmt::{self, Display, Formatter};
 
+/// Whom a call serves. The two differ in their sizes alone. Serve one with all calls that belong together, in the
+/// standby generator, too: what is made for cable is taken for broadcast, but packed otherwise, and a list or file that
+/// is made for broadcast can be refused for cable.
+#[derive(Clone, Copy, Debug, PartialEq, Eq)]
+#[repr(u8)]
+pub enum Caller {
+    Broadcast = 0,
+    Cable = 1,
+}
+
+impl Caller {
+    /// Events in a list or file.
+    pub const fn events_max(self) -> usize {
+        match self {
+            Caller::Broadcast => 2_048,
+            Caller::Cable => 256,
+        }
+    }
+
+    /// Bytes in a section.
+    pub const fn section_max(self) -> usize {
+        match self {
+            Caller::Broadcast => 4_096,
+            Caller::Cable => 1_024,
+        }
+    }
+
+    /// Descriptor bytes of one event that a section can hold: 18 bytes are the section's own, and 12 the event's.
+    pub const fn chain_max(self) -> usize {
+        self.section_max() - 18 - 12
+    }
+
+    /// Bytes that hold every file: sixteen tables of 256 sections.
+    pub const fn file_max(self) -> usize {
+        16 * 256 * self.section_max()
+    }
+}
+
 /// Numbers in a record.
 pub const RECORD: usize = 6;
-/// Events in a list or file.
-pub const EVENTS_MAX: usize = 2_048;
-/// Numbers that hold every list.
-pub const NUMBERS_MAX: usize = RECORD * EVENTS_MAX;
+/// Numbers that hold every list of either caller.
+pub const NUMBERS_MAX: usize = RECORD * Caller::Broadcast.events_max();
 /// A record's id.
 pub const ID_MAX: u32 = 65_535;
 /// 64 days in seconds: a record's start is below.
@@ -64,12 +104,6 @@ pub const TABLE_SEGMENTS: usize = 32;
 pub const SEGMENTS: usize = 512;
 /// Sections in a segment.
 pub const SEGMENT_SECTIONS_MAX: usize = 8;
-/// Bytes in a section.
-pub const SECTION_MAX: usize = 4_096;
-/// Descriptor bytes of one event that a section can hold.
-pub const CHAIN_MAX: usize = 4_066;
-/// Bytes that hold every file.
-pub const FILE_MAX: usize = 16_777_216;
 
 /// The two pools of descriptors that an event list refers to.
 #[derive(Clone, Copy, Debug)]
@@ -141,7 +175,7 @@ pub fn cause(number: u32) -> &'static str {
         7 => "PUT, MOVE: another event has the start",
         8 => "PUT: the list is at its limit",
         9 => "PUT: the descriptors lie outside their pool, do not end where their part ends, or one has tag 0xFF",
-        10 => "a segment needs a ninth section, or has an event with over 4,066 bytes of descriptors",
+        10 => "a segment needs a ninth section, or has an event with over 4,066 bytes of descriptors, for cable 994",
         11 => "the output is shorter than the file",
         12 => "the list is not sound",
         20 => "a section is truncated, or its table_id or section_length is out of range",
@@ -150,7 +184,7 @@ pub fn cause(number: u32) -> &'static str {
         23 => "a section is missing, doubled or out of order, or its table is past last_table_id",
         24 => "a section's events break a rule",
         25 => "the file ends before the last section of last_table_id, or is empty",
-        26 => "the file has more than 2,048 events",
+        26 => "the file has more than 2,048 events, for cable 256",
         27 => "the record buffer is shorter than six numbers for each event",
         _ => "an unknown number: no call of this version returns it",
     }
@@ -220,8 +254,8 @@ pub enum BuildRefusal {
     Version,
     /// 12: the list is not sound; one descriptor with [`FORBIDDEN_TAG`] is enough.
     Unsound,
-    /// 10: the lowest segment index, 0 to 511, that needs a ninth section, or has an event with over 4,066 bytes of
-    /// descriptors.
+    /// 10: the lowest segment index, 0 to 511, that needs a ninth section, or has an event with over
+    /// [`Caller::chain_max`] bytes of descriptors.
     Unpackable { segment: usize },
     /// 11: the output is shorter than the file, which has so many bytes.
     OutputShort { needed: usize },
@@ -264,7 +298,7 @@ pub enum ReadRefusal {
     Numbering { offset: usize },
     /// 24: a section's events break a rule; a descriptor with [`FORBIDDEN_TAG`] does.
     EventLoop { offset: usize },
-    /// 26: the file has more than 2,048 events; the section has event 2,049.
+    /// 26: the file has more than [`Caller::events_max`] events; the section has the first one more.
     EventLimit { offset: usize },
     /// 25: the file, of so many bytes, ends before the last section of last_table_id, or is empty.
     EarlyEnd { file_length: usize },
@@ -340,13 +374,15 @@ impl Planned {
 }
 
 /// Carries an edit script out on a list of `count` records, in place, and returns the new count. The list can come to
-/// hold as many records as its buffer has six numbers, at most [`EVENTS_MAX`]. Numbers that no edit changes stay.
-pub fn edit(list: &mut [u32], count: usize, pools: Pools, script: &[u8]) -> Result<usize, EditRefusal> {
+/// hold as many records as its buffer has six numbers, at most [`Caller::events_max`]. Numbers that no edit changes
+/// stay.
+pub fn edit(caller: Caller, list: &mut [u32], count: usize, pools: Pools, script: &[u8]) -> Result<usize, EditRefusal> {
     let Pools { day, series } = pools;
     // Each pointer comes with the length of its own slice, and is not null even if the slice is empty. The one slice
     // that is written overlaps no other.
     let EitEdited { number, value, count } = unsafe {
         eit_edit(
+            caller,
             list.as_mut_ptr(),
             list.len(),
             count,
@@ -378,8 +414,9 @@ pub fn edit(list: &mut [u32], count: usize, pools: Pools, script: &[u8]) -> Resu
 }
 
 /// Writes the file of sections of a list of `count` records to the front of `out`, and returns the file's length. The
-/// bytes behind the file stay.
+/// bytes behind the file stay. [`Caller::file_max`] bytes are always enough.
 pub fn build(
+    caller: Caller,
     list: &[u32],
     count: usize,
     pools: Pools,
@@ -391,6 +428,7 @@ pub fn build(
     // As in `edit`.
     let EitBuilt { number, value } = unsafe {
         eit_build(
+            caller,
             list.as_ptr(),
             list.len(),
             count,
@@ -424,25 +462,37 @@ pub fn build(
 
 /// Writes how many sections Build makes of each segment: the 32 segments of table 0x50, then those of 0x51, up to 0x5F.
 /// [`Planned::of`] tells what a count says.
-pub fn plan(list: &[u32], count: usize, pools: Pools, counts: &mut [u8; SEGMENTS]) {
+pub fn plan(caller: Caller, list: &[u32], count: usize, pools: Pools, counts: &mut [u8; SEGMENTS]) {
     let Pools { day, series } = pools;
     // As in `edit`; the length of the counts is in their type.
     unsafe {
-        eit_plan(list.as_ptr(), list.len(), count, day.as_ptr(), day.len(), series.as_ptr(), series.len(), counts)
+        eit_plan(
+            caller,
+            list.as_ptr(),
+            list.len(),
+            count,
+            day.as_ptr(),
+            day.len(),
+            series.as_ptr(),
+            series.len(),
+            counts,
+        )
     }
 }
 
 /// Reads a file of sections into `records`, six numbers for each event. They are a sound list with the file as day
 /// pool. The numbers behind them stay. [`NUMBERS_MAX`] numbers are always enough.
-pub fn read(file: &[u8], base_day: u32, records: &mut [u32]) -> Result<Reading, ReadRefusal> {
+pub fn read(caller: Caller, file: &[u8], base_day: u32, records: &mut [u32]) -> Result<Reading, ReadRefusal> {
     // As in `edit`.
-    reading("eit_read", unsafe { eit_read(file.as_ptr(), file.len(), base_day, records.as_mut_ptr(), records.len()) })
+    reading("eit_read", unsafe {
+        eit_read(caller, file.as_ptr(), file.len(), base_day, records.as_mut_ptr(), records.len())
+    })
 }
 
 /// Read without a record buffer: it writes nothing, and never says [`ReadRefusal::RecordsShort`].
-pub fn check(file: &[u8], base_day: u32) -> Result<Reading, ReadRefusal> {
+pub fn check(caller: Caller, file: &[u8], base_day: u32) -> Result<Reading, ReadRefusal> {
     // As in `edit`.
-    reading("eit_check", unsafe { eit_check(file.as_ptr(), file.len(), base_day) })
+    reading("eit_check", unsafe { eit_check(caller, file.as_ptr(), file.len(), base_day) })
 }
 
 /// CRC_32 as sections have it; over a whole section it is 0.
@@ -544,6 +594,7 @@ struct EitReading {
 
 extern "C" {
     fn eit_edit(
+        caller: Caller,
         list: *mut u32,
         list_length: usize,
         count: usize,
@@ -556,6 +607,7 @@ extern "C" {
     ) -> EitEdited;
 
     fn eit_build(
+        caller: Caller,
         list: *const u32,
         list_length: usize,
         count: usize,
@@ -573,6 +625,7 @@ extern "C" {
     ) -> EitBuilt;
 
     fn eit_plan(
+        caller: Caller,
         list: *const u32,
         list_length: usize,
         count: usize,
@@ -584,6 +637,7 @@ extern "C" {
     );
 
     fn eit_read(
+        caller: Caller,
         file: *const u8,
         file_length: usize,
         base_day: u32,
@@ -591,7 +645,7 @@ extern "C" {
         records_length: usize,
     ) -> EitReading;
 
-    fn eit_check(file: *const u8, file_length: usize, base_day: u32) -> EitReading;
+    fn eit_check(caller: Caller, file: *const u8, file_length: usize, base_day: u32) -> EitReading;
 
     fn eit_crc32(bytes: *const u8, bytes_length: usize) -> u32;
 }

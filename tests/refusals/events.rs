@@ -1,0 +1,79 @@
+//! Read's and check's refusals of events: 24, and 26.
+
+use crate::chirdaluko::{check, read, ReadRefusal, Reading, Record};
+use crate::inputs::{event, events_in_section, row, tagged, TAGGED};
+use crate::reads::{built, changed, refused, seal, three, BASE_DAY, IDENTITY, SECOND, THIRD};
+use crate::{Rows, SECTION};
+
+pub fn run(rows: &mut Rows) {
+    let file = three(rows.caller);
+    event_loops(rows, &file);
+    forbidden_tag(rows);
+    event_limit(rows);
+}
+
+fn event_loops(rows: &mut Rows, file: &[u8]) {
+    let caller = rows.caller;
+    let mut events = |file: &[u8], base_day, offset| {
+        refused(rows, file, base_day, ReadRefusal::EventLoop { offset }, SECTION);
+    };
+    // The first event is then before midnight.
+    events(file, BASE_DAY + 1, 0);
+    let mut with = |place: usize, byte: u8| {
+        events(&changed(file, SECOND, |section| section[place] = byte), BASE_DAY, SECOND.start);
+    };
+    // The id of the first event; another date; an event of the next segment; 24 hours, 60 minutes, a half byte above 9.
+    with(15, 1);
+    with(17, 0x79);
+    with(18, 0x03);
+    with(18, 0x24);
+    with(19, 0x60);
+    with(20, 0x0A);
+    // No duration; running_status 1; a chain that is cut.
+    with(21, 0x00);
+    with(24, 0x20);
+    with(25, 0x01);
+    // Two events, the second with the start of the first.
+    let two = changed(&built(caller, &[event(1, 100), event(2, 160)], &[]), 0..42, |section| section[31] = 0x01);
+    events(&two, BASE_DAY, 0);
+    // The third section's segment has a second section, and the third section no events.
+    let mut empty = file[..THIRD].to_vec();
+    let mut third = [&file[THIRD..THIRD + 14], &[0; 4]].concat();
+    (third[2], third[7], third[12]) = (15, 9, 9);
+    seal(&mut third);
+    empty = changed(&empty, SECOND, |section| section[7] = 9);
+    events(&[empty, third].concat(), BASE_DAY, THIRD);
+}
+
+/// The second section's event has a descriptor with tag 0xFE, which is accepted; then with tag 0xFF.
+fn forbidden_tag(rows: &mut Rows) {
+    let caller = rows.caller;
+    let records = [event(1, 100), Record { chain_length: TAGGED, ..event(2, 345_600) }];
+    let file = built(caller, &records, &tagged(0xFE));
+    let section = SECOND.start..file.len();
+    let accepted = Ok(Reading { count: 2, identity: IDENTITY });
+    assert_eq!(read(caller, &file, BASE_DAY, &mut [77; 12]), accepted);
+    assert_eq!(check(caller, &file, BASE_DAY), accepted);
+    // The tag stands behind the section's 14 bytes, the event's 12 and the first descriptor's 4.
+    let forbidden = changed(&file, section, |section| section[30] = 0xFF);
+    refused(rows, &forbidden, BASE_DAY, ReadRefusal::EventLoop { offset: SECOND.start }, SECTION);
+}
+
+/// As many events in segment 0 as the caller may have, and one more in its last section.
+fn event_limit(rows: &mut Rows) {
+    let caller = rows.caller;
+    let most = caller.events_max();
+    let mut file = built(caller, &row(most), &[]);
+    assert_eq!(check(caller, &file, BASE_DAY), Ok(Reading { count: most, identity: IDENTITY }));
+    let full = events_in_section(caller);
+    let last = most / full * (18 + 12 * full);
+    let mut section = file.split_off(last);
+    let [high, low] = (most as u16).to_be_bytes();
+    // At 02:59:59, behind all others.
+    let more = [high, low, 0xC0, 0x79, 0x02, 0x59, 0x59, 0x01, 0x00, 0x00, 0x00, 0x00];
+    section.splice(section.len() - 4..section.len() - 4, more);
+    section[2] += 12;
+    seal(&mut section);
+    file.extend(section);
+    refused(rows, &file, BASE_DAY, ReadRefusal::EventLimit { offset: last }, SECTION);
+}
