@@ -2,36 +2,43 @@
 //! for the other. The wrapper's cases give number and value back.
 
 use crate::chirdaluko::{self, Pools, ReadRefusal};
-use crate::other::{Answer, Built, Identity, Lent, Plan, Reading};
+use crate::other::{Answer, Built, Caller, Identity, Lent, Plan, Reading};
 
 pub use crate::chirdaluko::crc32;
 
-pub fn edit(list: &mut [u32], count: usize, day: &[u8], series: &[u8], script: &[u8]) -> Answer {
-    match chirdaluko::edit(list, count, Pools { day, series }, script) {
+pub fn edit(caller: Caller, list: &mut [u32], count: usize, day: &[u8], series: &[u8], script: &[u8]) -> Answer {
+    match chirdaluko::edit(served(caller), list, count, Pools { day, series }, script) {
         Ok(count) => Answer { number: 0, value: count, count },
         Err(refusal) => Answer { number: refusal.number(), value: refusal.value(), count: refusal.count() },
     }
 }
 
-pub fn build(lent: &Lent, base_day: u32, identity: Identity, output: &mut [u8]) -> Built {
+pub fn build(caller: Caller, lent: &Lent, base_day: u32, identity: Identity, output: &mut [u8]) -> Built {
     let Identity { service_id, transport_stream_id, original_network_id, version } = identity;
     let identity = chirdaluko::Identity { service_id, transport_stream_id, original_network_id, version };
-    match chirdaluko::build(lent.list, lent.count, pools(lent), base_day, identity, output) {
+    match chirdaluko::build(served(caller), lent.list, lent.count, pools(lent), base_day, identity, output) {
         Ok(length) => Built { number: 0, value: length },
         Err(refusal) => Built { number: refusal.number(), value: refusal.value() },
     }
 }
 
-pub fn plan(lent: &Lent, plan: &mut Plan) {
-    chirdaluko::plan(lent.list, lent.count, pools(lent), plan);
+pub fn plan(caller: Caller, lent: &Lent, plan: &mut Plan) {
+    chirdaluko::plan(served(caller), lent.list, lent.count, pools(lent), plan);
 }
 
-pub fn read(file: &[u8], base_day: u32, records: &mut [u32]) -> Reading {
-    reading(chirdaluko::read(file, base_day, records))
+pub fn read(caller: Caller, file: &[u8], base_day: u32, records: &mut [u32]) -> Reading {
+    reading(chirdaluko::read(served(caller), file, base_day, records))
 }
 
-pub fn check(file: &[u8], base_day: u32) -> Reading {
-    reading(chirdaluko::check(file, base_day))
+pub fn check(caller: Caller, file: &[u8], base_day: u32) -> Reading {
+    reading(chirdaluko::check(served(caller), file, base_day))
+}
+
+fn served(caller: Caller) -> chirdaluko::Caller {
+    match caller {
+        Caller::Broadcast => chirdaluko::Caller::Broadcast,
+        Caller::Cable => chirdaluko::Caller::Cable,
+    }
 }
 
 fn pools<'a>(lent: &Lent<'a>) -> Pools<'a> {

@@ -10,7 +10,8 @@ use crate::stock::FORBIDDEN_TAG;
 
 pub fn run(comparison: &mut Comparison) -> Result<(), String> {
     let random = &mut comparison.groups.begin("chains");
-    for length in (0..=600).chain(4_060..=4_072).chain([65_535]) {
+    // Those that a section of the one caller or the other just holds are nothing special here.
+    for length in (0..=600).chain(988..=1_000).chain(4_060..=4_072).chain([65_535]) {
         for marks in [1, 6] {
             if length == 1 {
                 let byte = Pool::new(&[random.byte()], vec![0, 1]);
@@ -54,7 +55,7 @@ fn far(comparison: &mut Comparison, random: &mut Random) -> Result<(), String> {
     let pools = Pools::of_lengths(random, 200_000, 5_000_000);
     for _ in 0..60 {
         let list = List::sound(random, &pools, 12, 6 * 40);
-        let mut held = Held::by(&list);
+        let mut held = Held::by(comparison.caller, &list);
         let script = bytes(&held.edits(random, &pools, 60));
         comparison.answers((0, held.count()), &pools, &list, &script)?;
     }

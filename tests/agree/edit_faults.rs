@@ -4,29 +4,29 @@ use crate::edits::Edit;
 use crate::other::{edit, Answer};
 
 pub const ALL: [(&str, Edit); 13] = [
-    ("carries out just the first command", |list, count, day, series, script| {
+    ("carries out just the first command", |caller, list, count, day, series, script| {
         let end = next(script, 0).min(script.len());
-        edit(list, count, day, series, &script[..end])
+        edit(caller, list, count, day, series, &script[..end])
     }),
-    ("carries out nothing", |list, count, day, series, script| {
-        let answer = edit(&mut list.to_vec(), count, day, series, script);
+    ("carries out nothing", |caller, list, count, day, series, script| {
+        let answer = edit(caller, &mut list.to_vec(), count, day, series, script);
         if answer.number == 0 {
             Answer { number: 0, value: count, count }
         } else {
             answer
         }
     }),
-    ("names the offset one command late", |list, count, day, series, script| {
-        let answer = edit(list, count, day, series, script);
+    ("names the offset one command late", |caller, list, count, day, series, script| {
+        let answer = edit(caller, list, count, day, series, script);
         if (3..=9).contains(&answer.number) {
             Answer { value: next(script, answer.value), ..answer }
         } else {
             answer
         }
     }),
-    ("keeps what a freed record held", |list, count, day, series, script| {
+    ("keeps what a freed record held", |caller, list, count, day, series, script| {
         let before = list.to_vec();
-        let answer = edit(list, count, day, series, script);
+        let answer = edit(caller, list, count, day, series, script);
         if answer.count < count && answer.number != 12 {
             list[6 * answer.count..].copy_from_slice(&before[6 * answer.count..]);
         }
@@ -34,8 +34,8 @@ pub const ALL: [(&str, Edit); 13] = [
     }),
     (
         "clears the record behind the list, as if it had taken back what UNDO strikes",
-        |list, count, day, series, script| {
-            let answer = edit(list, count, day, series, script);
+        |caller, list, count, day, series, script| {
+            let answer = edit(caller, list, count, day, series, script);
             let undone = first_undo(script) < script.len();
             if answer.number == 0 && undone && list.len() >= 6 * (answer.count + 1) {
                 list[6 * answer.count..][..6].fill(0);
@@ -43,34 +43,34 @@ pub const ALL: [(&str, Edit); 13] = [
             answer
         },
     ),
-    ("carries out an edit before UNDO strikes it", |list, count, day, series, script| {
-        let answer = edit(&mut list.to_vec(), count, day, series, &script[..first_undo(script)]);
+    ("carries out an edit before UNDO strikes it", |caller, list, count, day, series, script| {
+        let answer = edit(caller, &mut list.to_vec(), count, day, series, &script[..first_undo(script)]);
         if (5..=9).contains(&answer.number) {
             answer
         } else {
-            edit(list, count, day, series, script)
+            edit(caller, list, count, day, series, script)
         }
     }),
-    ("says 4 where a broken form comes later", |list, count, day, series, script| {
-        let answer = edit(list, count, day, series, script);
+    ("says 4 where a broken form comes later", |caller, list, count, day, series, script| {
+        let answer = edit(caller, list, count, day, series, script);
         let before = &script[..if answer.number == 3 { answer.value } else { 0 }];
-        let earlier = edit(&mut list.to_vec(), count, day, series, before);
+        let earlier = edit(caller, &mut list.to_vec(), count, day, series, before);
         if earlier.number == 4 {
             earlier
         } else {
             answer
         }
     }),
-    ("takes the buffer alone for the limit", |list, count, day, series, script| {
-        let answer = edit(list, count, day, series, script);
+    ("takes the buffer alone for the limit", |caller, list, count, day, series, script| {
+        let answer = edit(caller, list, count, day, series, script);
         if answer.number == 8 && answer.count < list.len() / 6 {
             Answer { number: 0, value: answer.count + 1, count: answer.count + 1 }
         } else {
             answer
         }
     }),
-    ("looks for the id before the part", |list, count, day, series, script| {
-        let answer = edit(list, count, day, series, script);
+    ("looks for the id before the part", |caller, list, count, day, series, script| {
+        let answer = edit(caller, list, count, day, series, script);
         let held = |id: &[u8]| list.chunks(6).take(answer.count).any(|record| record[0].to_be_bytes()[2..] == *id);
         if answer.number == 9 && held(&script[answer.value + 1..][..2]) {
             Answer { number: 6, ..answer }
@@ -78,29 +78,29 @@ pub const ALL: [(&str, Edit); 13] = [
             answer
         }
     }),
-    ("takes back the edits before a refused one", |list, count, day, series, script| {
+    ("takes back the edits before a refused one", |caller, list, count, day, series, script| {
         let before = list.to_vec();
-        let answer = edit(list, count, day, series, script);
+        let answer = edit(caller, list, count, day, series, script);
         if (5..=9).contains(&answer.number) {
             list.copy_from_slice(&before);
         }
         answer
     }),
-    ("names the offset in sixteen bits", |list, count, day, series, script| {
-        let answer = edit(list, count, day, series, script);
+    ("names the offset in sixteen bits", |caller, list, count, day, series, script| {
+        let answer = edit(caller, list, count, day, series, script);
         if (3..=9).contains(&answer.number) {
             Answer { value: answer.value & 0xFFFF, ..answer }
         } else {
             answer
         }
     }),
-    ("drops the edits behind offset 2^20", |list, count, day, series, script| {
-        let answer = edit(&mut list.to_vec(), count, day, series, script);
+    ("drops the edits behind offset 2^20", |caller, list, count, day, series, script| {
+        let answer = edit(caller, &mut list.to_vec(), count, day, series, script);
         let end = first(script, |offset, _| offset > 1 << 20);
         let kept = if answer.number == 0 { &script[..end] } else { script };
-        edit(list, count, day, series, kept)
+        edit(caller, list, count, day, series, kept)
     }),
-    ("strikes twice where 30,000 edits are unstruck", |list, count, day, series, script| {
+    ("strikes twice where 30,000 edits are unstruck", |caller, list, count, day, series, script| {
         let mut unstruck = 0;
         let twice = first(script, |_, command| {
             let is_undo = command == 0x04;
@@ -108,7 +108,7 @@ pub const ALL: [(&str, Edit); 13] = [
             is_undo && unstruck == 29_999
         });
         let struck_again = if twice < script.len() { &[0x04][..] } else { &[] };
-        edit(list, count, day, series, &[&script[..twice], struck_again, &script[twice..]].concat())
+        edit(caller, list, count, day, series, &[&script[..twice], struck_again, &script[twice..]].concat())
     }),
 ];
 

@@ -3,18 +3,25 @@
 use crate::groups::Groups;
 use crate::guarded::Guarded;
 use crate::lists::List;
-use crate::other::{self, Answer};
+use crate::other::{self, Answer, Caller};
 use crate::pools::Pools;
 use crate::random::Random;
 use crate::tally::{in_order, Precedence, Tally};
 
 const FIRST_SEED: u64 = 300_468;
 
-/// Edit's order of checks per edit.
+/// Edit's order of checks per edit, and of the call.
 pub const ORDER: [u32; 5] = [5, 9, 6, 7, 8];
+pub const CALL_ORDER: [u32; 8] = [12, 3, 4, 5, 9, 6, 7, 8];
 
 /// PUT where 9 is for the forbidden tag.
 pub const PUT_TAGGED: &str = "PUT, tag 0xFF";
+
+/// PUT where 8 is for the caller's most events, and not for the buffer.
+pub const PUT_AT_MOST: &str = "PUT, the caller's most events";
+
+/// A call where 12 is for an event that is one too many for the caller.
+pub const CROWDED: &str = "call, an event too many";
 
 const ANSWERS: [u32; 9] = [0, 3, 4, 5, 6, 7, 8, 9, 12];
 
@@ -22,23 +29,26 @@ const ANSWERS: [u32; 9] = [0, 3, 4, 5, 6, 7, 8, 9, 12];
 /// for good.
 const GUARDS: [u32; 2] = [0xA5A5_A5A5, 0];
 
-/// Edit as both implementations have it: list, count, day, series, script.
-pub type Edit = fn(&mut [u32], usize, &[u8], &[u8], &[u8]) -> Answer;
+/// Edit as both implementations have it: caller, list, count, day, series, script.
+pub type Edit = fn(Caller, &mut [u32], usize, &[u8], &[u8], &[u8]) -> Answer;
+type Subject<'a> = &'a dyn Fn(Caller, &mut [u32], usize, &[u8], &[u8], &[u8]) -> Answer;
 
-/// What is compared, and what came up so far.
-pub struct Comparison {
-    subject: Edit,
+/// What is compared, for which caller, and what came up so far.
+pub struct Comparison<'a> {
+    pub caller: Caller,
+    subject: Subject<'a>,
     pub tally: Tally,
     pub groups: Groups,
     guards: Random,
 }
 
-impl Comparison {
-    pub fn new(subject: Edit) -> Comparison {
+impl Comparison<'_> {
+    pub fn new(caller: Caller, subject: Subject) -> Comparison {
         Comparison {
+            caller,
             subject,
             tally: Tally::new(&ANSWERS, precedences()),
-            groups: Groups::new(FIRST_SEED),
+            groups: Groups::new(caller, FIRST_SEED),
             guards: Random::new(FIRST_SEED),
         }
     }
@@ -48,12 +58,12 @@ impl Comparison {
         let (day, series) = (pools.day.bytes(), pools.series.bytes());
         let guard = self.guards.pick(&GUARDS);
         let mut wanted_list = Guarded::new(&list.numbers, guard);
-        let wanted = other::edit(wanted_list.inside_mut(), list.count, day, series, script);
+        let wanted = other::edit(self.caller, wanted_list.inside_mut(), list.count, day, series, script);
 
         let mut got_list = Guarded::new(&list.numbers, guard);
         let lent_script = Guarded::new(script, 0);
         let script_as_lent = lent_script.clone();
-        let got = (self.subject)(got_list.inside_mut(), list.count, day, series, lent_script.inside());
+        let got = (self.subject)(self.caller, got_list.inside_mut(), list.count, day, series, lent_script.inside());
 
         self.tally.cases += 1;
         self.tally.answer(wanted.number);
@@ -112,8 +122,10 @@ fn precedences() -> Vec<Precedence> {
     all.extend(in_order("PUT", &ORDER));
     let tagged = in_order(PUT_TAGGED, &ORDER);
     all.extend(tagged.into_iter().filter(|(_, first, second)| *first == 9 || *second == 9));
+    all.extend(in_order(PUT_AT_MOST, &ORDER).into_iter().filter(|(_, _, second)| *second == 8));
     // Of two edits' refusals the earlier edit's comes, so the call orders 12, 3 and 4 alone.
-    let call = in_order("call", &[12, 3, 4, 5, 9, 6, 7, 8]);
+    let call = in_order("call", &CALL_ORDER);
     all.extend(call.into_iter().filter(|(_, first, _)| [12, 3, 4].contains(first)));
+    all.extend(in_order(CROWDED, &CALL_ORDER).into_iter().filter(|(_, first, _)| *first == 12));
     all
 }

@@ -11,7 +11,7 @@ pub fn run(comparison: &mut Comparison) -> Result<(), String> {
     let pools = Pools::of_lengths(random, 60, 40);
     for _ in 0..4 {
         let list = List::sound(random, &pools, 4, 6 * 8 + 5);
-        let mut held = Held::by(&list);
+        let mut held = Held::by(comparison.caller, &list);
         let edits = [held.put(random, &pools), held.withdraw(random), held.move_one(random)];
         let fronts = [vec![], vec![edits[0]], vec![edits[1], Command::Undo], edits.to_vec()];
         for front in fronts.map(|commands| bytes(&commands)) {

@@ -1,6 +1,7 @@
 //! Makers of commands that fit a list: carried out, struck, or of any kind.
 
-use crate::lists::{record, List, DURATION, EVENTS_MAX, ID, MARKS, NUMBERS, OFFSET, START, START_END};
+use crate::lists::{record, List, DURATION, ID, MARKS, NUMBERS, OFFSET, START, START_END};
+use crate::other::Caller;
 use crate::pools::Pools;
 use crate::random::Random;
 use crate::scripts::Command;
@@ -15,13 +16,13 @@ pub struct Held {
 }
 
 impl Held {
-    pub fn by(list: &List) -> Held {
+    pub fn by(caller: Caller, list: &List) -> Held {
         let events: Vec<_> = (0..list.count).map(|place| (list.get(place, ID), list.get(place, START))).collect();
         Held {
             ids: events.iter().map(|event| event.0).collect(),
             starts: events.iter().map(|event| event.1).collect(),
             events,
-            limit: EVENTS_MAX.min(list.numbers.len() / NUMBERS),
+            limit: caller.sizes().events.min(list.numbers.len() / NUMBERS),
         }
     }
 

@@ -1,9 +1,9 @@
-//! The list's limit, by the buffer and by 2,048, and the limits of an edit's values.
+//! The list's limit, by the buffer and by the caller's events, and the limits of an edit's values.
 
 use crate::breaking;
-use crate::edits::Comparison;
+use crate::edits::{Comparison, ORDER, PUT_AT_MOST};
 use crate::held::Held;
-use crate::lists::{record, List, DURATION, DURATION_MAX, EVENTS_MAX, ID, MARKS, OFFSET, START, START_END};
+use crate::lists::{record, List, DURATION, DURATION_MAX, ID, MARKS, OFFSET, START, START_END};
 use crate::pools::Pools;
 use crate::random::Random;
 use crate::scripts::{bytes, Command};
@@ -16,14 +16,18 @@ pub fn run(comparison: &mut Comparison) -> Result<(), String> {
             fill(comparison, random, &pools, count, numbers)?;
         }
     }
-    let full = 6 * EVENTS_MAX;
-    for numbers in [full - 6, full - 1, full, full + 1, full + 6, full + 600, 2 * full] {
-        let limit = EVENTS_MAX.min(numbers / 6);
+    let most = comparison.caller.sizes().events;
+    let full = 6 * most;
+    for numbers in [full - 6, full - 1, full, full + 1, full + 6, full + 600, 2 * full, 8 * full] {
+        let limit = most.min(numbers / 6);
         for count in [limit - 9, limit - 1, limit] {
             fill(comparison, random, &pools, count, numbers)?;
         }
     }
     fill(comparison, random, &pools, 0, full + 600)?;
+    for numbers in [full, full + 6, 8 * full] {
+        before_the_limit(comparison, random, &pools, numbers)?;
+    }
     values(comparison, random, &pools)
 }
 
@@ -36,7 +40,7 @@ fn fill(
     numbers: usize,
 ) -> Result<(), String> {
     let list = List::sound(random, pools, count, numbers);
-    let mut held = Held::by(&list);
+    let mut held = Held::by(comparison.caller, &list);
     let mut commands = Vec::new();
     while !held.is_full() {
         commands.push(held.put(random, pools));
@@ -67,6 +71,23 @@ fn one_more(
     let before = bytes(commands);
     let put = bytes(&[breaking::put(random, pools, held, &[8])]);
     comparison.answers((8, before.len()), pools, list, &[before, put].concat())
+}
+
+/// PUT that breaks another rule, on a list of the caller's most events in a buffer of so many numbers: 8 is the last.
+fn before_the_limit(
+    comparison: &mut Comparison,
+    random: &mut Random,
+    pools: &Pools,
+    numbers: usize,
+) -> Result<(), String> {
+    let list = List::sound(random, pools, comparison.caller.sizes().events, numbers);
+    let held = Held::by(comparison.caller, &list);
+    for first in ORDER.into_iter().filter(|first| *first != 8) {
+        let put = breaking::put(random, pools, &held, &[first, 8]);
+        comparison.answers((first, 0), pools, &list, &bytes(&[put]))?;
+        comparison.tally.precedence((PUT_AT_MOST, first, 8));
+    }
+    Ok(())
 }
 
 /// Each value of PUT and MOVE at its limit and one beyond.

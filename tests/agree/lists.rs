@@ -5,7 +5,6 @@ use crate::random::Random;
 use std::collections::{BTreeSet, HashSet};
 
 pub const NUMBERS: usize = 6;
-pub const EVENTS_MAX: usize = 2_048;
 pub const START_END: u32 = 5_529_600;
 pub const DURATION_MAX: u32 = 359_999;
 

@@ -3,7 +3,8 @@
 use crate::breaking;
 use crate::edits::Comparison;
 use crate::held::Held;
-use crate::lists::{List, EVENTS_MAX};
+use crate::lists::List;
+use crate::other::Caller;
 use crate::pools::Pools;
 use crate::random::Random;
 use crate::scripts::{bytes, unstruck, Command};
@@ -16,19 +17,26 @@ const HALVED_TWICE: usize = 2 * 262_144;
 pub fn run(comparison: &mut Comparison) -> Result<(), String> {
     let random = &mut comparison.groups.begin("long");
     let pools = Pools::of_lengths(random, 300, 200);
+    let most = comparison.caller.sizes().events;
+    carried_out(comparison, random, &pools, most / 2, most)?;
     for number in 3..=9 {
-        // From 64 KB to 2 MB, so that each bit of the offset from 16 to 20 counts; and 8 MB, which the library takes in
-        // halves.
-        for bit in [16, 17, 18, 19, 20].repeat(4) {
+        // From 64 KB to 2 MB, so that each bit of the offset from 16 to 20 counts.
+        for bit in [16, 17, 18, 19, 20].repeat(2) {
             let length = (1 << bit) + random.below(1 << bit);
             refused(comparison, random, &pools, number, length)?;
         }
-        refused(comparison, random, &pools, number, 8 * MB)?;
     }
-    for (count, limit) in [(3, 12), (EVENTS_MAX / 2, EVENTS_MAX)] {
-        carried_out(comparison, random, &pools, count, limit)?;
+    if comparison.caller == Caller::Broadcast {
+        longest(comparison, random, &pools)?;
     }
     Ok(())
+}
+
+/// A list far below the caller's most events, and refusals behind 8 MB, which the library takes in halves. Neither
+/// depends on the caller's sizes, so that one caller is enough.
+fn longest(comparison: &mut Comparison, random: &mut Random, pools: &Pools) -> Result<(), String> {
+    carried_out(comparison, random, pools, 3, 12)?;
+    (3..=9).try_for_each(|number| refused(comparison, random, pools, number, 8 * MB))
 }
 
 /// This refusal, behind at least so many bytes of commands that are carried out or struck.
@@ -40,7 +48,7 @@ fn refused(
     length: usize,
 ) -> Result<(), String> {
     let list = List::sound(random, pools, 3, 6 * 12 + 4);
-    let mut held = Held::by(&list);
+    let mut held = Held::by(comparison.caller, &list);
     let mut before = Vec::new();
     let mut behind = 0;
     while behind < length {
@@ -80,15 +88,15 @@ fn carried_out(
     limit: usize,
 ) -> Result<(), String> {
     let list = List::sound(random, pools, count, 6 * limit + 5);
-    let mut held = Held::by(&list);
+    let mut held = Held::by(comparison.caller, &list);
     let plain = (0..540_000).map(|_| held.edit(random, pools)).collect();
     up_to_its_end(comparison, random, pools, &list, held, plain)?;
 
-    let mut held = Held::by(&list);
+    let mut held = Held::by(comparison.caller, &list);
     let nests = held.edits(random, pools, 260_000);
     up_to_its_end(comparison, random, pools, &list, held, nests)?;
 
-    let mut held = Held::by(&list);
+    let mut held = Held::by(comparison.caller, &list);
     let mut nest: Vec<_> = (0..150_000).map(|_| held.edit(random, pools)).collect();
     nest.extend((0..280_000).map(|_| held.any_edit(random, pools)));
     nest.resize(nest.len() + 280_000, Command::Undo);

@@ -1,5 +1,5 @@
 //! Compares the library, through its Rust wrapper and so through its C face, with the other implementation on seeded
-//! inputs. It first checks that faults show; with `--self-check` it does only that.
+//! inputs, for both callers. It first checks that faults show; with `--self-check` it does only that.
 
 mod breaking;
 mod build;
@@ -40,7 +40,9 @@ mod unsound;
 mod wrong_chains;
 
 use edits::Comparison;
+use other::Caller;
 use std::process::ExitCode;
+use tally::Tally;
 
 fn main() -> ExitCode {
     let outcome = match std::env::args().nth(1).as_deref() {
@@ -64,34 +66,44 @@ fn self_check() -> Result<Vec<String>, String> {
 }
 
 fn compare() -> Result<(), String> {
-    let mut edits = Comparison::new(library::edit);
-    all_groups(&mut edits)?;
     let crcs = crcs::run(library::crc32)?;
-    let mut builds = build::Comparison::new(build::Subject { build: library::build, plan: library::plan });
-    build::all_groups(&mut builds)?;
+    println!("CRC_32      {crcs} inputs agree, seed {}", crcs::SEED);
+    let mut missing = Vec::new();
+    for caller in Caller::BOTH {
+        missing.extend(compare_for(caller)?);
+    }
+    if missing.is_empty() {
+        return Ok(());
+    }
+    Err(format!("never came up: {}", missing.join(", ")))
+}
 
+/// Compares the calls for this caller. Returns what never came up.
+fn compare_for(caller: Caller) -> Result<Vec<String>, String> {
+    let mut edits = Comparison::new(caller, &library::edit);
+    all_groups(&mut edits)?;
+    let subject = build::Subject { build: &library::build, plan: &library::plan };
+    let mut builds = build::Comparison::new(caller, subject);
+    build::all_groups(&mut builds)?;
     let subject = read::Subject { build: library::build, read: &library::read, check: &library::check };
-    let mut reads = read::Comparison::new(subject);
+    let mut reads = read::Comparison::new(caller, subject);
     read::all_groups(&mut reads)?;
 
     let tallies = [("Edit", &edits.tally), ("Build", &builds.tally), ("Plan", &builds.entries), ("Read", &reads.tally)];
+    println!("\nfor {caller}");
     for (call, tally) in tallies {
         println!("{call:<12}{} cases agree\nanswers     {}", tally.cases, tally.answers());
         if let Some(precedences) = tally.precedences() {
             println!("precedences {precedences}");
         }
     }
-    println!("CRC_32      {crcs} inputs agree");
     let seeds = [edits.groups.seeds(), builds.groups.seeds(), reads.groups.seeds()];
-    println!("seeds       CRC_32 {}, {}", crcs::SEED, seeds.join(", "));
-    let missing: Vec<_> = tallies
-        .iter()
-        .flat_map(|(call, tally)| tally.missing().into_iter().map(move |what| format!("{call}'s {what}")))
-        .collect();
-    if missing.is_empty() {
-        return Ok(());
-    }
-    Err(format!("never came up: {}", missing.join(", ")))
+    println!("seeds       {}", seeds.join(", "));
+    let of_call = |(call, tally): &(&str, &Tally)| {
+        let missing = tally.missing().into_iter();
+        missing.map(|what| format!("{call}'s {what} for {caller}")).collect::<Vec<_>>()
+    };
+    Ok(tallies.iter().flat_map(of_call).collect())
 }
 
 fn all_groups(comparison: &mut Comparison) -> Result<(), String> {

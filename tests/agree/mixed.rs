@@ -2,16 +2,17 @@
 
 use crate::edits::Comparison;
 use crate::held::Held;
-use crate::lists::{List, EVENTS_MAX};
+use crate::lists::List;
 use crate::pools::Pools;
 use crate::random::Random;
 use crate::scripts::{bytes, Command};
 
 pub fn run(comparison: &mut Comparison) -> Result<(), String> {
     let random = &mut comparison.groups.begin("mixed");
+    let most = comparison.caller.sizes().events;
     for (day, series) in [(0, 0), (50, 0), (500, 300), (9_000, 70_000)] {
         let pools = Pools::of_lengths(random, day, series);
-        let sizes = [(12, 30, 2_000), (200, 100, 200), (EVENTS_MAX, 300, 100), (EVENTS_MAX, 30_000, 2)];
+        let sizes = [(12, 30, 2_000), (200, 100, 200), (most, 300, 100), (most, 30_000, 2)];
         for (counts, edits, times) in sizes {
             for _ in 0..times {
                 carried_out(comparison, random, &pools, counts, edits)?;
@@ -36,7 +37,7 @@ fn carried_out(
     let count = random.below(counts + 1);
     let numbers = 6 * (count + random.below(8)).max(1) + random.below(6);
     let list = List::sound(random, pools, count, numbers);
-    let mut held = Held::by(&list);
+    let mut held = Held::by(comparison.caller, &list);
     let edits = random.below(edits + 1);
     let script = bytes(&held.edits(random, pools, edits));
     comparison.answers((0, held.count()), pools, &list, &script)
@@ -45,7 +46,7 @@ fn carried_out(
 /// Edits of any kind and UNDO on a short list that is full or nearly so.
 fn likely(comparison: &mut Comparison, random: &mut Random, pools: &Pools) -> Result<(), String> {
     let list = short(random, pools);
-    let held = Held::by(&list);
+    let held = Held::by(comparison.caller, &list);
     let mut commands = Vec::new();
     for _ in 0..random.below(8) {
         if random.one_in(4) {

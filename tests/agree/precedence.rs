@@ -4,6 +4,7 @@ use crate::breaking;
 use crate::edits::{Comparison, ORDER, PUT_TAGGED};
 use crate::held::Held;
 use crate::lists::List;
+use crate::other::Caller;
 use crate::pools::Pools;
 use crate::random::Random;
 use crate::scripts::{bytes, unstruck, Command};
@@ -32,27 +33,27 @@ pub fn run(comparison: &mut Comparison) -> Result<(), String> {
 }
 
 fn put(comparison: &mut Comparison, random: &mut Random, pools: &Pools, broken: &[u32]) -> Result<(), String> {
-    let ready = Ready::new(random, pools, broken.contains(&8));
+    let ready = Ready::new(comparison.caller, random, pools, broken.contains(&8));
     let edit = breaking::put(random, pools, &ready.held, broken);
     ready.refuse(comparison, random, pools, "PUT", edit, broken)
 }
 
 fn put_tagged(comparison: &mut Comparison, random: &mut Random, pools: &Pools, broken: &[u32]) -> Result<(), String> {
-    let ready = Ready::new(random, pools, broken.contains(&8));
+    let ready = Ready::new(comparison.caller, random, pools, broken.contains(&8));
     let edit = breaking::put_tagged(random, pools, &ready.held, broken);
     ready.refuse(comparison, random, pools, PUT_TAGGED, edit, broken)
 }
 
 fn move_one(comparison: &mut Comparison, random: &mut Random, pools: &Pools, broken: &[u32]) -> Result<(), String> {
     let full = random.one_in(2);
-    let ready = Ready::new(random, pools, full);
+    let ready = Ready::new(comparison.caller, random, pools, full);
     let edit = breaking::move_one(random, &ready.held, broken);
     ready.refuse(comparison, random, pools, "MOVE", edit, broken)
 }
 
 fn withdraw(comparison: &mut Comparison, random: &mut Random, pools: &Pools) -> Result<(), String> {
     let full = random.one_in(2);
-    let ready = Ready::new(random, pools, full);
+    let ready = Ready::new(comparison.caller, random, pools, full);
     let edit = breaking::withdraw(random, &ready.held);
     ready.refuse(comparison, random, pools, "WITHDRAW", edit, &[6])
 }
@@ -65,12 +66,12 @@ struct Ready {
 }
 
 impl Ready {
-    fn new(random: &mut Random, pools: &Pools, full: bool) -> Ready {
+    fn new(caller: Caller, random: &mut Random, pools: &Pools, full: bool) -> Ready {
         let limit = 3 + random.below(6);
         let count = 1 + random.below(limit);
         let numbers = 6 * limit + random.below(6);
         let list = List::sound(random, pools, count, numbers);
-        let mut held = Held::by(&list);
+        let mut held = Held::by(caller, &list);
         let edits = random.below(6);
         let mut before = held.edits(random, pools, edits);
         before.extend(held.ready(random, pools, full));
@@ -124,7 +125,7 @@ impl Ready {
         pools: &Pools,
         scripts: &[(Vec<u8>, u32)],
     ) -> Result<(), String> {
-        let lists = unsound(random, pools, &self.list);
+        let lists = unsound(comparison.caller, random, pools, &self.list);
         for (script, second) in scripts {
             let place = random.below(lists.len());
             comparison.answers((12, 0), pools, &lists[place].1, script)?;

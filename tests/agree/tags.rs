@@ -31,7 +31,7 @@ fn put(
     is_chain: bool,
 ) -> Result<(), String> {
     let list = List::sound(random, pools, 3, 6 * 12);
-    let mut held = Held::by(&list);
+    let mut held = Held::by(comparison.caller, &list);
     let mut before = Vec::new();
     for edits in [0, 1, 4] {
         before.extend((0..edits).map(|_| held.edit(random, pools)));

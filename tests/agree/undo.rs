@@ -28,13 +28,13 @@ pub fn run(comparison: &mut Comparison) -> Result<(), String> {
 /// The pattern over PUTs that all fit, so that its answer is counted here, and over edits of any kind.
 fn short(comparison: &mut Comparison, random: &mut Random, pools: &Pools, undo: &[bool]) -> Result<(), String> {
     let empty = List::sound(random, pools, 0, 6 * 10 + 3);
-    let mut held = Held::by(&empty);
+    let mut held = Held::by(comparison.caller, &empty);
     let commands: Vec<_> =
         undo.iter().map(|&undo| if undo { Command::Undo } else { held.put(random, pools) }).collect();
     comparison.answers(answer_of_puts(&commands), pools, &empty, &bytes(&commands))?;
 
     let some = List::sound(random, pools, 3, 6 * 6 + 1);
-    let held = Held::by(&some);
+    let held = Held::by(comparison.caller, &some);
     let commands: Vec<_> =
         undo.iter().map(|&undo| if undo { Command::Undo } else { held.any_edit(random, pools) }).collect();
     comparison.alike(pools, &some, &bytes(&commands))?;
@@ -58,7 +58,7 @@ fn answer_of_puts(commands: &[Command]) -> (u32, usize) {
 /// more.
 fn deep(comparison: &mut Comparison, random: &mut Random, pools: &Pools, edits: usize) -> Result<(), String> {
     let list = List::sound(random, pools, 2, 6 * 4);
-    let mut held = Held::by(&list);
+    let mut held = Held::by(comparison.caller, &list);
     let mut commands = vec![held.put(random, pools)];
     commands.extend((1..edits).map(|_| held.any_edit(random, pools)));
     commands.resize(2 * edits - 1, Command::Undo);
@@ -73,7 +73,7 @@ fn deep(comparison: &mut Comparison, random: &mut Random, pools: &Pools, edits: 
 /// A walk of up to some thousand commands between edits and UNDO, at times one UNDO too deep.
 fn long(comparison: &mut Comparison, random: &mut Random, pools: &Pools) -> Result<(), String> {
     let list = List::sound(random, pools, 5, 6 * 40 + 2);
-    let held = Held::by(&list);
+    let held = Held::by(comparison.caller, &list);
     let mut commands = Vec::new();
     let mut unstruck = 0;
     for _ in 0..random.below(3_000) {

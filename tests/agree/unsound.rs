@@ -1,11 +1,12 @@
 //! Makers of unsound lists, of every kind.
 
-use crate::lists::{high_bit, List, DURATION, DURATION_MAX, EVENTS_MAX, ID, MARKS, NUMBERS, START, START_END};
+use crate::lists::{high_bit, List, DURATION, DURATION_MAX, ID, MARKS, NUMBERS, START, START_END};
+use crate::other::Caller;
 use crate::pools::Pools;
 use crate::random::Random;
 
 /// The sound list, of at least one event, with one thing wrong each: none is sound.
-pub fn unsound(random: &mut Random, pools: &Pools, list: &List) -> Vec<(&'static str, List)> {
+pub fn unsound(caller: Caller, random: &mut Random, pools: &Pools, list: &List) -> Vec<(&'static str, List)> {
     let place = random.below(list.count);
     let last = list.count - 1;
     let mut lists = vec![
@@ -16,7 +17,7 @@ pub fn unsound(random: &mut Random, pools: &Pools, list: &List) -> Vec<(&'static
         ("marks one beyond", list.with(place, MARKS, &[8, 0, 0])),
         ("marks one beyond, series", list.with(place, MARKS, &[10, 0, 0])),
         ("count beyond the buffer", list.with_count(list.numbers.len() / NUMBERS + 1)),
-        ("count 2,049", list.with_count(EVENTS_MAX + 1)),
+        ("count one beyond the caller's", list.with_count(caller.sizes().events + 1)),
         ("count 2^32", list.with_count(1 << 32)),
         ("count 2^63", list.with_count(1 << 63)),
         ("count of which six wrap to 2", list.with_count(usize::MAX / NUMBERS + 1)),

@@ -2,7 +2,7 @@
 
 use crate::inputs::{largest, rows, Input, BASE_DAY, IDENTITY};
 use crate::library;
-use crate::other::{self, Built, Lent, Plan};
+use crate::other::{self, Built, Caller, Lent, Plan};
 use crate::random::Random;
 use crate::table::shortest;
 use std::hint::black_box;
@@ -17,7 +17,7 @@ pub fn run(inputs: &[Input]) {
 pub fn once(random: &mut Random) {
     let input = largest(random);
     let mut output = vec![0; input.size];
-    let built = library::build(&input.lent(), BASE_DAY, IDENTITY, &mut output);
+    let built = library::build(input.caller, &input.lent(), BASE_DAY, IDENTITY, &mut output);
     assert_eq!(built.number, 0, "a refusal");
 }
 
@@ -25,14 +25,14 @@ fn build_times(input: &Input) -> [f64; 2] {
     let lent = input.lent();
     let mut outputs = [vec![0; input.size], vec![0; input.size]];
     let built = Built { number: 0, value: input.size };
-    assert_eq!(library::build(&lent, BASE_DAY, IDENTITY, &mut outputs[0]), built, "a refusal");
-    assert_eq!(other::build(&lent, BASE_DAY, IDENTITY, &mut outputs[1]), built, "a refusal");
+    assert_eq!(library::build(input.caller, &lent, BASE_DAY, IDENTITY, &mut outputs[0]), built, "a refusal");
+    assert_eq!(other::build(input.caller, &lent, BASE_DAY, IDENTITY, &mut outputs[1]), built, "a refusal");
     assert!(outputs[0] == outputs[1], "the two disagree");
     let output = &mut outputs[0];
     [library::build, other::build].map(|build| {
         shortest(|| {
             let begun = Instant::now();
-            black_box(build(black_box(&lent), BASE_DAY, IDENTITY, output));
+            black_box(build(input.caller, black_box(&lent), BASE_DAY, IDENTITY, output));
             begun.elapsed()
         })
     })
@@ -40,10 +40,11 @@ fn build_times(input: &Input) -> [f64; 2] {
 
 fn plan_times(input: &Input) -> [f64; 2] {
     let lent = input.lent();
-    let calls: [fn(&Lent, &mut Plan); 2] = [library::plan, |lent, plan| *plan = other::plan(lent)];
+    let calls: [fn(Caller, &Lent, &mut Plan); 2] =
+        [library::plan, |caller, lent, plan| *plan = other::plan(caller, lent)];
     let plans = calls.map(|call| {
         let mut plan = [0; 512];
-        call(&lent, &mut plan);
+        call(input.caller, &lent, &mut plan);
         plan
     });
     assert!(plans[0] == plans[1], "the two disagree");
@@ -51,7 +52,7 @@ fn plan_times(input: &Input) -> [f64; 2] {
         let mut plan = [0; 512];
         shortest(|| {
             let begun = Instant::now();
-            call(black_box(&lent), black_box(&mut plan));
+            call(input.caller, black_box(&lent), black_box(&mut plan));
             begun.elapsed()
         })
     })

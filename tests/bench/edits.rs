@@ -2,8 +2,8 @@
 
 use crate::held::Held;
 use crate::library;
-use crate::lists::{List, EVENTS_MAX, NUMBERS};
-use crate::other::{self, Answer};
+use crate::lists::{List, NUMBERS};
+use crate::other::{self, Answer, Caller};
 use crate::pools::Pools;
 use crate::random::Random;
 use crate::scripts::{bytes, Command};
@@ -11,6 +11,8 @@ use crate::table::{head, row, shortest, size_name, KB};
 use std::hint::black_box;
 use std::time::Instant;
 
+const CALLER: Caller = Caller::Broadcast;
+const EVENTS_MAX: usize = CALLER.sizes().events;
 const SCRIPTS: [usize; 6] = [KB, 4 * KB, 16 * KB, 64 * KB, 256 * KB, 1_024 * KB];
 const LISTS: [(&str, usize); 3] = [("no events", 0), ("1,024 events", EVENTS_MAX / 2), ("2,048 events", EVENTS_MAX)];
 const SHORT_RUN: usize = 8;
@@ -41,7 +43,7 @@ pub fn run(random: &mut Random) {
     head("Edit, one command");
     for (name, count) in LISTS {
         let list = List::sound(random, &pools, count, NUMBERS * EVENTS_MAX);
-        let script = bytes(&[Held::by(&list).edit(random, &pools)]);
+        let script = bytes(&[Held::by(CALLER, &list).edit(random, &pools)]);
         edit_row(name, script.len(), &pools, &list, &script, None);
     }
     let list = List::sound(random, &pools, EVENTS_MAX / 2, NUMBERS * EVENTS_MAX);
@@ -61,13 +63,13 @@ pub fn once(random: &mut Random) {
     let mut list = List::sound(random, &pools, EVENTS_MAX / 2, NUMBERS * EVENTS_MAX);
     let script = script(random, &pools, &list, 1_024 * KB, Undo::Third { run: SHORT_RUN });
     let (day, series) = (pools.day.bytes(), pools.series.bytes());
-    let answer = library::edit(&mut list.numbers, list.count, day, series, &script);
+    let answer = library::edit(CALLER, &mut list.numbers, list.count, day, series, &script);
     assert_eq!(answer.number, 0, "a refusal");
 }
 
 /// A script of about this size that is carried out whole.
 fn script(random: &mut Random, pools: &Pools, list: &List, size: usize, undo: Undo) -> Vec<u8> {
-    let mut held = Held::by(list);
+    let mut held = Held::by(CALLER, list);
     let mut commands = Vec::new();
     let mut struck = Vec::new();
     let mut length = 0;
@@ -99,10 +101,10 @@ fn strike(commands: &mut Vec<Command>, struck: &mut Vec<Command>) {
 
 fn edit_row(name: &str, size: usize, pools: &Pools, list: &List, script: &[u8], before: Option<[f64; 2]>) -> [f64; 2] {
     let (day, series) = (pools.day.bytes(), pools.series.bytes());
-    let call = |edit: fn(&mut [u32], usize, &[u8], &[u8], &[u8]) -> Answer| {
+    let call = |edit: fn(Caller, &mut [u32], usize, &[u8], &[u8], &[u8]) -> Answer| {
         let mut numbers = list.numbers.clone();
         let begun = Instant::now();
-        let answer = edit(&mut numbers, list.count, day, series, black_box(script));
+        let answer = edit(CALLER, &mut numbers, list.count, day, series, black_box(script));
         (begun.elapsed(), (answer, numbers))
     };
     let (_, (answer, numbers)) = call(other::edit);

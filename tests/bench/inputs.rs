@@ -1,8 +1,9 @@
-//! Lists to be built, planned, and read back: the empty one, a typical week, and some that grow to the largest.
+//! Lists to be built, planned, and read back: the empty one, a typical week, some that grow to the largest, and the
+//! cable caller's largest.
 
 use crate::lineup::{Lineup, SEGMENT_SECONDS};
-use crate::lists::{rising, List, EVENTS_MAX};
-use crate::other::{self, Identity, Lent};
+use crate::lists::{rising, List};
+use crate::other::{self, Caller, Identity, Lent};
 use crate::pools::Pools;
 use crate::random::Random;
 use crate::table::{head, row, size_name};
@@ -15,10 +16,12 @@ const WEEK_EVENTS: usize = 400;
 
 /// The growing lists, and how many of their events stand in each segment, from the first on.
 const GROWING: [(&str, usize); 5] =
-    [("8 events", 8), ("32 events", 32), ("128 events", 128), ("512 events", 512), ("2,048 events", EVENTS_MAX)];
+    [("8 events", 8), ("32 events", 32), ("128 events", 128), ("512 events", 512), ("2,048 events", 2_048)];
+const CABLE: (&str, usize) = ("cable, 256 events", 256);
 const EVENTS_EACH: usize = 4;
 
 pub struct Input {
+    pub caller: Caller,
     name: &'static str,
     pools: Pools,
     list: List,
@@ -29,27 +32,31 @@ pub struct Input {
 }
 
 pub fn inputs(random: &mut Random) -> Vec<Input> {
-    let mut inputs = vec![Input::new(random, "no events", Lineup::new(), false)];
+    let broadcast = Caller::Broadcast;
+    let mut inputs = vec![Input::new(broadcast, random, "no events", Lineup::new(), false)];
     let week = week(random);
-    inputs.push(Input::new(random, "a week, 400 events", week, false));
+    inputs.push(Input::new(broadcast, random, "a week, 400 events", week, false));
     for (place, (name, count)) in GROWING.into_iter().enumerate() {
-        let lineup = growing(random, count);
-        inputs.push(Input::new(random, name, lineup, place > 0));
+        let lineup = of_events(random, count, 1_000, 3_000);
+        inputs.push(Input::new(broadcast, random, name, lineup, place > 0));
     }
+    let (name, count) = CABLE;
+    let lineup = of_events(random, count, 250, 750);
+    inputs.push(Input::new(Caller::Cable, random, name, lineup, false));
     inputs
 }
 
 /// The largest of them.
 pub fn largest(random: &mut Random) -> Input {
-    inputs(random).pop().expect("there are inputs")
+    inputs(random).into_iter().max_by_key(|input| input.size).expect("there are inputs")
 }
 
 impl Input {
-    fn new(random: &mut Random, name: &'static str, lineup: Lineup, grows: bool) -> Input {
+    fn new(caller: Caller, random: &mut Random, name: &'static str, lineup: Lineup, grows: bool) -> Input {
         let (pools, list) = lineup.lend(random);
-        let mut input = Input { name, pools, list, size: 0, grows };
+        let mut input = Input { caller, name, pools, list, size: 0, grows };
         // What an empty output lacks.
-        input.size = other::build(&input.lent(), BASE_DAY, IDENTITY, &mut []).value;
+        input.size = other::build(caller, &input.lent(), BASE_DAY, IDENTITY, &mut []).value;
         input
     }
 
@@ -69,11 +76,11 @@ fn week(random: &mut Random) -> Lineup {
     lineup
 }
 
-/// So many events, with 1,000 to 3,000 bytes of descriptors each.
-fn growing(random: &mut Random, count: usize) -> Lineup {
+/// So many events, with so many bytes of descriptors each, from the least to the most.
+fn of_events(random: &mut Random, count: usize, least: usize, most: usize) -> Lineup {
     let mut lineup = Lineup::new();
     for index in 0..count / EVENTS_EACH {
-        let chain_lengths = [(); EVENTS_EACH].map(|_| 1_000 + random.below(2_001));
+        let chain_lengths = [(); EVENTS_EACH].map(|_| least + random.below(most - least + 1));
         lineup.segment(random, index, &chain_lengths);
     }
     lineup

@@ -2,14 +2,14 @@
 
 use crate::inputs::{largest, rows, Input, BASE_DAY, IDENTITY};
 use crate::library;
-use crate::lists::{EVENTS_MAX, NUMBERS};
 use crate::other::{self, Reading};
 use crate::random::Random;
 use crate::table::shortest;
 use std::hint::black_box;
 use std::time::Instant;
 
-const RECORDS: usize = NUMBERS * EVENTS_MAX;
+/// Enough for every file.
+const RECORDS: usize = 12_288;
 
 pub fn run(inputs: &[Input]) {
     rows("check, MB of the file", inputs, check_times);
@@ -20,17 +20,17 @@ pub fn run(inputs: &[Input]) {
 pub fn once(random: &mut Random) {
     let input = largest(random);
     let mut records = vec![0; RECORDS];
-    assert_eq!(library::read(&file(&input), BASE_DAY, &mut records), accepted(&input), "a refusal");
+    assert_eq!(library::read(input.caller, &file(&input), BASE_DAY, &mut records), accepted(&input), "a refusal");
 }
 
 pub fn once_checked(random: &mut Random) {
     let input = largest(random);
-    assert_eq!(library::check(&file(&input), BASE_DAY), accepted(&input), "a refusal");
+    assert_eq!(library::check(input.caller, &file(&input), BASE_DAY), accepted(&input), "a refusal");
 }
 
 fn file(input: &Input) -> Vec<u8> {
     let mut file = vec![0; input.size];
-    other::build(&input.lent(), BASE_DAY, IDENTITY, &mut file);
+    other::build(input.caller, &input.lent(), BASE_DAY, IDENTITY, &mut file);
     file
 }
 
@@ -43,10 +43,10 @@ fn accepted(input: &Input) -> Reading {
 fn check_times(input: &Input) -> [f64; 2] {
     let file = file(input);
     [library::check, other::check].map(|check| {
-        assert_eq!(check(&file, BASE_DAY), accepted(input), "a refusal");
+        assert_eq!(check(input.caller, &file, BASE_DAY), accepted(input), "a refusal");
         shortest(|| {
             let begun = Instant::now();
-            black_box(check(black_box(&file), BASE_DAY));
+            black_box(check(input.caller, black_box(&file), BASE_DAY));
             begun.elapsed()
         })
     })
@@ -55,14 +55,14 @@ fn check_times(input: &Input) -> [f64; 2] {
 fn read_times(input: &Input) -> [f64; 2] {
     let file = file(input);
     let mut records = [vec![0; RECORDS], vec![0; RECORDS]];
-    assert_eq!(library::read(&file, BASE_DAY, &mut records[0]), accepted(input), "a refusal");
-    assert_eq!(other::read(&file, BASE_DAY, &mut records[1]), accepted(input), "a refusal");
+    assert_eq!(library::read(input.caller, &file, BASE_DAY, &mut records[0]), accepted(input), "a refusal");
+    assert_eq!(other::read(input.caller, &file, BASE_DAY, &mut records[1]), accepted(input), "a refusal");
     assert!(records[0] == records[1], "the two disagree");
     let records = &mut records[0];
     [library::read, other::read].map(|read| {
         shortest(|| {
             let begun = Instant::now();
-            black_box(read(black_box(&file), BASE_DAY, records));
+            black_box(read(input.caller, black_box(&file), BASE_DAY, records));
             begun.elapsed()
         })
     })

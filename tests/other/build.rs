@@ -1,7 +1,8 @@
-//! Build: 01, "Build, Read" and "When a call says no".
+//! Build: 01, "Build, Read" and "When a call says no", and 02, W-206.
 
-use super::list::{is_chain, Event, IsChain, Pools};
-use super::schedule::{pack, Lent, Schedule, SECTIONS_MAX, SEGMENTS};
+use super::caller::Caller;
+use super::list::Pools;
+use super::schedule::{Lent, Method, Schedule, Segment, PAPERS, SECTIONS_MAX, SEGMENTS};
 use super::section::{Header, Identity};
 
 const BASE_DAY_MAX: u32 = 65_472;
@@ -21,37 +22,29 @@ pub struct Built {
     pub value: usize,
 }
 
-/// The events of each of a segment's sections.
-pub type Segment<'a> = Vec<&'a [Event]>;
-
-/// How a segment's events are cut into sections; nothing if they cannot be.
-type Packing = fn(&[Event]) -> Option<Segment<'_>>;
-
-/// Which parts are chains, and the packing rule.
-#[derive(Clone, Copy)]
-pub struct Method {
-    pub is_chain: IsChain,
-    pub packing: Packing,
-}
-
-pub const PAPERS: Method = Method { is_chain, packing: pack };
-
-pub fn build(lent: &Lent, base_day: u32, identity: Identity, output: &mut [u8]) -> Built {
-    build_by(PAPERS, lent, base_day, identity, output)
+pub fn build(caller: Caller, lent: &Lent, base_day: u32, identity: Identity, output: &mut [u8]) -> Built {
+    build_by(PAPERS, caller, lent, base_day, identity, output)
 }
 
 /// Build by another method than the papers': the self-check's faults have their own.
-pub fn build_by(method: Method, lent: &Lent, base_day: u32, identity: Identity, output: &mut [u8]) -> Built {
+pub fn build_by(
+    method: Method,
+    caller: Caller,
+    lent: &Lent,
+    base_day: u32,
+    identity: Identity,
+    output: &mut [u8],
+) -> Built {
     if base_day > BASE_DAY_MAX {
         return Built { number: BASE_DAY_ABOVE, value: 0 };
     }
     if identity.version > VERSION_MAX {
         return Built { number: VERSION_ABOVE, value: 0 };
     }
-    let Some(schedule) = Schedule::of(lent, method.is_chain) else {
+    let Some(schedule) = Schedule::of(method, caller, lent) else {
         return Built { number: UNSOUND, value: 0 };
     };
-    let tables = match packed(method.packing, &schedule) {
+    let tables = match packed(method, caller, &schedule) {
         Ok(tables) => tables,
         Err(index) => return Built { number: NOT_PACKABLE, value: index },
     };
@@ -64,8 +57,12 @@ pub fn build_by(method: Method, lent: &Lent, base_day: u32, identity: Identity, 
 }
 
 /// Every table's segments with their sections, or the index of the first segment that is unpackable.
-fn packed(packing: Packing, schedule: &Schedule) -> Result<Vec<Vec<Segment<'_>>>, usize> {
-    let segment = |table, segment| packing(schedule.events(table, segment)).ok_or(SEGMENTS * table + segment);
+fn packed(method: Method, caller: Caller, schedule: &Schedule) -> Result<Vec<Vec<Segment<'_>>>, usize> {
+    let room = (method.sizes)(caller).room();
+    let segment = |table, segment| {
+        let events = schedule.events(table, segment);
+        (method.packing)(room, events).ok_or(SEGMENTS * table + segment)
+    };
     let table = |table| (0..=schedule.last_segment(table)).map(|place| segment(table, place)).collect();
     (0..=schedule.last_table()).map(table).collect()
 }

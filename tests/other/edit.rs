@@ -1,6 +1,7 @@
-//! Edit: 01, "Edit" and "When a call says no".
+//! Edit: 01, "Edit" and "When a call says no", and 02, W-206.
 
-use super::list::{is_chain, start_in_range, Event, IsChain, List, Pools, EVENTS_MAX, NUMBERS};
+use super::caller::Caller;
+use super::list::{is_chain, start_in_range, Event, IsChain, List, Pools, NUMBERS};
 
 const UNKNOWN_OR_CUT: u32 = 3;
 const NOTHING_TO_STRIKE: u32 = 4;
@@ -33,29 +34,41 @@ enum Command {
 /// A thing and the offset of its command's byte in the script.
 type At<T> = (usize, T);
 
-/// Carries out the script on the list, which is read from the buffer and written back to it once.
-pub fn edit(buffer: &mut [u32], count: usize, day: &[u8], series: &[u8], script: &[u8]) -> Answer {
-    edit_by(is_chain, buffer, count, day, series, script)
+/// What Edit goes by: the most events of a sound list and of one after a PUT, and which parts are chains.
+#[derive(Clone, Copy)]
+pub struct EditMethod {
+    pub sound_max: fn(Caller) -> usize,
+    pub put_max: fn(Caller) -> usize,
+    pub is_chain: IsChain,
 }
 
-/// Edit with other chains than the papers': the self-check's faults have their own.
+pub const EDIT_PAPERS: EditMethod =
+    EditMethod { sound_max: |caller| caller.sizes().events, put_max: |caller| caller.sizes().events, is_chain };
+
+/// Carries out the script on the list, which is read from the buffer and written back to it once.
+pub fn edit(caller: Caller, buffer: &mut [u32], count: usize, day: &[u8], series: &[u8], script: &[u8]) -> Answer {
+    edit_by(EDIT_PAPERS, caller, buffer, count, day, series, script)
+}
+
+/// Edit by another method than the papers': the self-check's faults have their own.
 pub fn edit_by(
-    is_chain: IsChain,
+    method: EditMethod,
+    caller: Caller,
     buffer: &mut [u32],
     count: usize,
     day: &[u8],
     series: &[u8],
     script: &[u8],
 ) -> Answer {
-    let pools = Pools { day, series, is_chain };
-    let Some(mut list) = List::read(buffer, count, pools) else {
+    let pools = Pools { day, series, is_chain: method.is_chain };
+    let Some(mut list) = List::read((method.sound_max)(caller), buffer, count, pools) else {
         return Answer { number: UNSOUND, value: 0, count };
     };
     let edits = match commands(script).and_then(unstruck) {
         Ok(edits) => edits,
         Err((value, number)) => return Answer { number, value, count },
     };
-    let limit = EVENTS_MAX.min(buffer.len() / NUMBERS);
+    let limit = (method.put_max)(caller).min(buffer.len() / NUMBERS);
     let outcome = edits
         .iter()
         .try_for_each(|(offset, edit)| carry_out(&mut list, edit, pools, limit).map_err(|number| (*offset, number)));

@@ -1,9 +1,8 @@
-//! Records, pools, chains and sound lists: 01, "Event record and sound list", and 02, W-202.
+//! Records, pools, chains and sound lists: 01, "Event record and sound list", and 02, W-202 and W-206.
 
 use std::collections::{BTreeMap, HashMap};
 
 pub const NUMBERS: usize = 6;
-pub const EVENTS_MAX: usize = 2_048;
 
 const ID_MAX: u32 = 65_535;
 const START_END: u32 = 5_529_600;
@@ -98,9 +97,9 @@ pub struct List {
 }
 
 impl List {
-    /// The buffer's first `count` records, if they are a sound list.
-    pub fn read(buffer: &[u32], count: usize, pools: Pools) -> Option<List> {
-        if count > EVENTS_MAX {
+    /// The buffer's first `count` records, if they are a sound list of at most so many events.
+    pub fn read(events_max: usize, buffer: &[u32], count: usize, pools: Pools) -> Option<List> {
+        if count > events_max {
             return None;
         }
         let mut list = List { by_start: BTreeMap::new(), start_of: HashMap::new(), most: 0 };

@@ -1,7 +1,9 @@
-//! Another implementation of document 01, with W-202 of document 02, written from the papers alone and in a shape of
-//! its own. The library's answers are compared with it.
+//! Another implementation of document 01, with W-202 and W-206 of document 02, written from the papers alone and in a
+//! shape of its own. The library's answers are compared with it. Every function whose outcome depends on a size takes
+//! the caller, or its sizes.
 
 mod build;
+mod caller;
 mod crc;
 mod crc_table;
 mod edit;
@@ -13,14 +15,15 @@ mod rules;
 mod schedule;
 mod section;
 
-pub use build::{build, build_by, file, Built, Method, PAPERS};
+pub use build::{build, build_by, file, Built};
+pub use caller::{Caller, Sizes};
 pub use crc::crc32;
 pub use crc_table::crc32_by_table;
-pub use edit::{edit, edit_by, Answer};
+pub use edit::{edit, edit_by, Answer, EditMethod, EDIT_PAPERS};
 pub use list::{is_chain, Event, IsChain};
 pub use plan::{plan, plan_by, Plan};
-pub use read::{check, check_by, read, read_by, refused, Asked, Reading};
-pub use received::{frame, frame_within, Frame, Received, SECTION_LENGTHS, TABLE_IDS};
+pub use read::{check, check_by, read, read_by, refused, Asked, Reading, READ_PAPERS};
+pub use received::{frame, frame_within, Frame, Received, TABLE_IDS};
 pub use rules::{Before, Rule, RULES};
-pub use schedule::{pack, pack_within, Lent, EVENT_FRONT, EVENT_ROOM};
+pub use schedule::{pack, Lent, Method, EVENT_FRONT, PAPERS};
 pub use section::Identity;

@@ -1,5 +1,6 @@
-//! Read, with a record buffer and without: 01, "Build, Read" and "When a call says no".
+//! Read, with a record buffer and without: 01, "Build, Read" and "When a call says no", and 02, W-206.
 
+use super::caller::{Caller, Sizes};
 use super::list::NUMBERS;
 use super::received::{frame, Frame, Received};
 use super::rules::{Before, Rule, RULES, RUNNING_STATUS_OFF_AIR};
@@ -23,8 +24,9 @@ pub struct Reading {
     pub identity: Identity,
 }
 
-/// How a section is found, and what is asked of it.
+/// The caller's sizes, how a section is found, and what is asked of it.
 pub struct Asked<'a> {
+    pub sizes: fn(Caller) -> Sizes,
     pub frame: Frame,
     pub rules: &'a [Rule],
 }
@@ -35,20 +37,20 @@ struct Carried {
     records: Vec<[u32; NUMBERS]>,
 }
 
-const PAPERS: Asked = Asked { frame, rules: &RULES };
+pub const READ_PAPERS: Asked = Asked { sizes: Caller::sizes, frame, rules: &RULES };
 
-pub fn read(file: &[u8], base_day: u32, buffer: &mut [u32]) -> Reading {
-    read_by(&PAPERS, file, base_day, buffer)
+pub fn read(caller: Caller, file: &[u8], base_day: u32, buffer: &mut [u32]) -> Reading {
+    read_by(&READ_PAPERS, caller, file, base_day, buffer)
 }
 
 /// Read without a record buffer.
-pub fn check(file: &[u8], base_day: u32) -> Reading {
-    check_by(&PAPERS, file, base_day)
+pub fn check(caller: Caller, file: &[u8], base_day: u32) -> Reading {
+    check_by(&READ_PAPERS, caller, file, base_day)
 }
 
 /// Read by other rules than the papers': the self-check's faults have their own.
-pub fn read_by(asked: &Asked, file: &[u8], base_day: u32, buffer: &mut [u32]) -> Reading {
-    match carried(asked, file, base_day) {
+pub fn read_by(asked: &Asked, caller: Caller, file: &[u8], base_day: u32, buffer: &mut [u32]) -> Reading {
+    match carried(asked, caller, file, base_day) {
         Ok(carried) => {
             let count = carried.records.len();
             let Some(front) = buffer.get_mut(..NUMBERS * count) else {
@@ -62,8 +64,8 @@ pub fn read_by(asked: &Asked, file: &[u8], base_day: u32, buffer: &mut [u32]) ->
 }
 
 /// The same without a record buffer.
-pub fn check_by(asked: &Asked, file: &[u8], base_day: u32) -> Reading {
-    match carried(asked, file, base_day) {
+pub fn check_by(asked: &Asked, caller: Caller, file: &[u8], base_day: u32) -> Reading {
+    match carried(asked, caller, file, base_day) {
         Ok(carried) => accepted(&carried),
         Err((number, value)) => refused(number, value),
     }
@@ -80,15 +82,16 @@ pub fn refused(number: u32, value: usize) -> Reading {
 }
 
 /// What the file carries, or number and value of its refusal.
-fn carried(asked: &Asked, file: &[u8], base_day: u32) -> Result<Carried, (u32, usize)> {
+fn carried(asked: &Asked, caller: Caller, file: &[u8], base_day: u32) -> Result<Carried, (u32, usize)> {
     if base_day > BASE_DAY_MAX {
         return Err((BASE_DAY_ABOVE, 0));
     }
-    let mut before = Before::default();
+    let sizes = (asked.sizes)(caller);
+    let mut before = Before::new(sizes);
     let mut records = Vec::new();
     let mut offset = 0;
     while offset < file.len() {
-        let bytes = (asked.frame)(&file[offset..]).ok_or((SECTION_CUT, offset))?;
+        let bytes = (asked.frame)(sizes, &file[offset..]).ok_or((SECTION_CUT, offset))?;
         let section = Received::new(bytes, base_day);
         if let Some(broken) = asked.rules.iter().find(|rule| !(rule.holds)(&section, &before)) {
             return Err((broken.number, offset));

@@ -1,10 +1,10 @@
-//! A section's bytes as Read takes them apart, whatever they hold: 01, "The file of sections".
+//! A section's bytes as Read takes them apart, whatever they hold: 01, "The file of sections", and 02, W-206.
 
+use super::caller::Sizes;
 use super::section::{Header, Identity};
 use std::ops::RangeInclusive;
 
 pub const TABLE_IDS: RangeInclusive<u8> = 0x50..=0x5F;
-pub const SECTION_LENGTHS: RangeInclusive<usize> = 15..=4_093;
 const DAY_SECONDS: i64 = 86_400;
 
 /// What stands before section_length's bytes, before a section's events, behind them, and before an event's chain.
@@ -14,14 +14,14 @@ const CRC: usize = 4;
 const EVENT_FRONT: usize = 12;
 
 /// How the bytes of the next section are found.
-pub type Frame = fn(&[u8]) -> Option<&[u8]>;
+pub type Frame = fn(Sizes, &[u8]) -> Option<&[u8]>;
 
 /// The section that these bytes begin with; nothing if it is cut, or its table_id or length is out of range.
-pub fn frame(bytes: &[u8]) -> Option<&[u8]> {
-    frame_within(TABLE_IDS, SECTION_LENGTHS, bytes)
+pub fn frame(sizes: Sizes, bytes: &[u8]) -> Option<&[u8]> {
+    frame_within(TABLE_IDS, sizes.section_lengths(), bytes)
 }
 
-/// The same with other ranges than the paper's.
+/// The same with other ranges than the papers'.
 pub fn frame_within(
     table_ids: RangeInclusive<u8>,
     section_lengths: RangeInclusive<usize>,

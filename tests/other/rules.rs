@@ -1,8 +1,9 @@
 //! The rules that a section of a file keeps, each with the number of its refusal, in the order in which they are
-//! checked: 01, "The file of sections" and "When a call says no".
+//! checked: 01, "The file of sections" and "When a call says no", and 02, W-206.
 
+use super::caller::Sizes;
 use super::crc_table::crc32_by_table;
-use super::list::{is_chain, EVENTS_MAX};
+use super::list::is_chain;
 use super::received::{two_digits, Received, TABLE_IDS};
 use super::section::{Header, Identity};
 use std::collections::HashSet;
@@ -13,12 +14,12 @@ const SEGMENTS: i64 = 32;
 const SECTIONS_MAX: u8 = 8;
 
 /// What the sections before leave for the next one.
-#[derive(Default)]
 pub struct Before {
     pub section: Option<(Identity, Header)>,
     pub last_start: Option<i64>,
     pub ids: HashSet<u16>,
-    pub events: usize,
+    /// How many events there may still be.
+    pub events_left: usize,
 }
 
 /// What is asked of a section, and the number of the refusal if it does not hold.
@@ -95,7 +96,7 @@ pub const RULES: [Rule; 31] = [
         let mut ids = HashSet::new();
         section.events.iter().all(|event| !before.ids.contains(&event.id) && ids.insert(event.id))
     }),
-    rule(26, "at most 2,048 events", |section, before| before.events + section.events.len() <= EVENTS_MAX),
+    rule(26, "no event too many", |section, before| section.events.len() <= before.events_left),
 ];
 
 const fn rule(number: u32, says: &'static str, holds: fn(&Received, &Before) -> bool) -> Rule {
@@ -103,6 +104,11 @@ const fn rule(number: u32, says: &'static str, holds: fn(&Received, &Before) -> 
 }
 
 impl Before {
+    /// What the first section finds.
+    pub fn new(sizes: Sizes) -> Before {
+        Before { section: None, last_start: None, ids: HashSet::new(), events_left: sizes.events }
+    }
+
     /// Whether the section before, if there is one, has the same in this field.
     pub fn has<T: PartialEq>(&self, section: &Received, field: fn(&Identity, &Header) -> T) -> bool {
         let own = field(&section.identity, &section.header);
@@ -134,7 +140,7 @@ impl Before {
         self.section = Some((section.identity, section.header));
         self.last_start = section.events.last().map(|event| event.start).or(self.last_start);
         self.ids.extend(section.events.iter().map(|event| event.id));
-        self.events += section.events.len();
+        self.events_left = self.events_left.saturating_sub(section.events.len());
     }
 }
 

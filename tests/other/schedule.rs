@@ -1,6 +1,7 @@
 //! A list's events by segment, the range of each table, and the packing rule: 01, "The file of sections" and "Build,
-//! Read".
+//! Read", and 02, W-206.
 
+use super::caller::{Caller, Sizes};
 use super::list::{is_chain, Event, IsChain, List, Pools};
 use std::collections::BTreeMap;
 
@@ -9,9 +10,8 @@ pub const SEGMENTS: usize = 32;
 pub const SECTIONS_MAX: usize = 8;
 const SEGMENT_SECONDS: u32 = 10_800;
 
-/// An event's bytes in front of its chain, and what a section has for its events.
+/// An event's bytes in front of its chain.
 pub const EVENT_FRONT: usize = 12;
-pub const EVENT_ROOM: usize = 4_078;
 
 /// What is lent to Build and Plan alike: a list and the pools.
 #[derive(Clone, Copy)]
@@ -28,6 +28,22 @@ impl<'a> Lent<'a> {
     }
 }
 
+/// The events of each of a segment's sections.
+pub type Segment<'a> = Vec<&'a [Event]>;
+
+/// How a segment's events are cut into sections, each with so many bytes for its events; nothing if they cannot be.
+type Packing = fn(usize, &[Event]) -> Option<Segment<'_>>;
+
+/// What Build and Plan alike go by: the caller's sizes, which parts are chains, and the packing rule.
+#[derive(Clone, Copy)]
+pub struct Method {
+    pub sizes: fn(Caller) -> Sizes,
+    pub is_chain: IsChain,
+    pub packing: Packing,
+}
+
+pub const PAPERS: Method = Method { sizes: Caller::sizes, is_chain, packing: pack };
+
 /// The events of a sound list by segment index. A segment without events has no entry.
 pub struct Schedule {
     by_segment: BTreeMap<usize, Vec<Event>>,
@@ -35,8 +51,9 @@ pub struct Schedule {
 
 impl Schedule {
     /// The lent list's, if it is sound.
-    pub fn of(lent: &Lent, is_chain: IsChain) -> Option<Schedule> {
-        let list = List::read(lent.list, lent.count, Pools { is_chain, ..lent.pools() })?;
+    pub fn of(method: Method, caller: Caller, lent: &Lent) -> Option<Schedule> {
+        let pools = Pools { is_chain: method.is_chain, ..lent.pools() };
+        let list = List::read((method.sizes)(caller).events, lent.list, lent.count, pools)?;
         let mut by_segment: BTreeMap<usize, Vec<Event>> = BTreeMap::new();
         for event in list.events() {
             by_segment.entry((event.start / SEGMENT_SECONDS) as usize).or_default().push(*event);
@@ -60,17 +77,13 @@ impl Schedule {
     }
 }
 
-/// The events of each of a segment's sections: as many of the next ones as fit. Nothing if the segment is unpackable.
-pub fn pack(events: &[Event]) -> Option<Vec<&[Event]>> {
-    pack_within(EVENT_ROOM, events)
-}
-
-/// The same, with so many bytes for a section's events.
-pub fn pack_within(bytes: usize, events: &[Event]) -> Option<Vec<&[Event]>> {
+/// The packing rule, with so many bytes for a section's events: each section takes as many of the next ones as fit.
+/// Nothing if the segment is unpackable.
+pub fn pack(room: usize, events: &[Event]) -> Option<Segment<'_>> {
     let mut sections = Vec::new();
     let mut rest = events;
     loop {
-        let (section, next) = rest.split_at(fitting(bytes, rest));
+        let (section, next) = rest.split_at(fitting(room, rest));
         sections.push(section);
         if next.is_empty() {
             return Some(sections);
@@ -83,8 +96,8 @@ pub fn pack_within(bytes: usize, events: &[Event]) -> Option<Vec<&[Event]>> {
 }
 
 /// How many of the events, from the first on, fit into so many bytes.
-fn fitting(bytes: usize, events: &[Event]) -> usize {
-    let mut left = bytes;
+fn fitting(room: usize, events: &[Event]) -> usize {
+    let mut left = room;
     for (place, event) in events.iter().enumerate() {
         match left.checked_sub(EVENT_FRONT + event.length as usize) {
             Some(less) => left = less,

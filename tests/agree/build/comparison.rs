@@ -1,42 +1,34 @@
 //! One case of Build and of Plan: the library, or what stands in for it, is compared with the other implementation.
 
+use super::order::precedences;
 use super::request::Request;
-use super::sections::{sections, Cut, Section};
 use crate::groups::Groups;
 use crate::guarded::Guarded;
-use crate::lists::{List, LENGTH};
-use crate::other::{self, Built, Identity, Lent, Plan, EVENT_FRONT};
+use crate::lists::List;
+use crate::other::{self, Built, Caller, Identity, Lent, Plan};
 use crate::pools::Pools;
 use crate::random::Random;
-use crate::tally::{in_order, Precedence, Tally};
+use crate::tally::Tally;
 
 const FIRST_SEED: u64 = 300_568;
-
-/// Build's order of checks.
-pub const ORDER: [u32; 5] = [1, 2, 12, 10, 11];
-
-/// Build where 12 is for the forbidden tag.
-pub const BUILD_TAGGED: &str = "Build, tag 0xFF";
 
 const ANSWERS: [u32; 6] = [0, 1, 2, 10, 11, 12];
 const ENTRIES: [u32; 11] = [0, 1, 2, 3, 4, 5, 6, 7, 8, 254, 255];
 
-/// A section without events.
-const SECTION_MIN: usize = 18;
-
-pub type BuildCall = fn(&Lent, u32, Identity, &mut [u8]) -> Built;
-pub type PlanCall = fn(&Lent, &mut Plan);
+pub type BuildCall = fn(Caller, &Lent, u32, Identity, &mut [u8]) -> Built;
+pub type PlanCall = fn(Caller, &Lent, &mut Plan);
 
 /// What is compared with the other implementation.
 #[derive(Clone, Copy)]
-pub struct Subject {
-    pub build: BuildCall,
-    pub plan: PlanCall,
+pub struct Subject<'a> {
+    pub build: &'a dyn Fn(Caller, &Lent, u32, Identity, &mut [u8]) -> Built,
+    pub plan: &'a dyn Fn(Caller, &Lent, &mut Plan),
 }
 
-/// What is compared, and what came up so far.
-pub struct Comparison {
-    subject: Subject,
+/// What is compared, for which caller, and what came up so far.
+pub struct Comparison<'a> {
+    pub caller: Caller,
+    subject: Subject<'a>,
     pub tally: Tally,
     /// How many plans had each entry.
     pub entries: Tally,
@@ -44,13 +36,14 @@ pub struct Comparison {
     guards: Random,
 }
 
-impl Comparison {
-    pub fn new(subject: Subject) -> Comparison {
+impl Comparison<'_> {
+    pub fn new(caller: Caller, subject: Subject) -> Comparison {
         Comparison {
+            caller,
             subject,
             tally: Tally::new(&ANSWERS, precedences()),
             entries: Tally::new(&ENTRIES, Vec::new()),
-            groups: Groups::new(FIRST_SEED),
+            groups: Groups::new(caller, FIRST_SEED),
             guards: Random::new(FIRST_SEED),
         }
     }
@@ -65,9 +58,9 @@ impl Comparison {
         let as_given = Guarded::new(&pattern(request.room, guard), guard);
 
         let mut wanted_output = as_given.clone();
-        let wanted = other::build(&lent, request.base_day, request.identity, wanted_output.inside_mut());
+        let wanted = other::build(self.caller, &lent, request.base_day, request.identity, wanted_output.inside_mut());
         let mut got_output = as_given;
-        let got = (self.subject.build)(&lent, request.base_day, request.identity, got_output.inside_mut());
+        let got = (self.subject.build)(self.caller, &lent, request.base_day, request.identity, got_output.inside_mut());
 
         self.tally.cases += 1;
         self.tally.answer(wanted.number);
@@ -93,10 +86,10 @@ impl Comparison {
 
     /// What is wrong with the plan, if anything is.
     fn planned(&mut self, lent: &Lent, guard: u8) -> Option<String> {
-        let wanted = other::plan(lent);
+        let wanted = other::plan(self.caller, lent);
         let mut got = Guarded::new(&pattern(wanted.len(), guard), guard);
         let plan = got.inside_mut().try_into().expect("a plan's length");
-        (self.subject.plan)(lent, plan);
+        (self.subject.plan)(self.caller, lent, plan);
 
         self.entries.cases += 1;
         let mut seen = [false; 256];
@@ -123,33 +116,15 @@ impl Comparison {
         Err(self.describe(&fault, pools, list, request))
     }
 
-    /// The cuts of the file that is built, in an output that is just long enough; nothing if Build says 10.
-    pub fn cuts(&mut self, random: &mut Random, pools: &Pools, list: &List) -> Result<Option<Vec<Cut>>, String> {
-        let request = Request::legal(random, need(pools, list));
-        let (built, output) = self.alike(pools, list, request)?;
-        let fault = match built.number {
-            0 if built.value == output.len() => match sections(&output) {
-                Ok(sections) => return Ok(Some(sections.iter().map(Section::cut).collect())),
-                Err(fault) => fault,
-            },
-            10 => return Ok(None),
-            _ => format!("answered {built:?}; the output is just long enough"),
-        };
-        Err(self.describe(&format!("Build {fault}"), pools, list, request))
-    }
-
-    /// How many events each section of this segment has in the file that is built; nothing if Build says 10.
-    pub fn held(
-        &mut self,
-        random: &mut Random,
-        pools: &Pools,
-        list: &List,
-        index: usize,
-    ) -> Result<Option<Vec<usize>>, String> {
-        let cuts = self.cuts(random, pools, list)?;
-        let is_here = |table_id: u8, number: u8| 32 * usize::from(table_id - 0x50) + usize::from(number / 8) == index;
-        let here = |cuts: Vec<Cut>| cuts.iter().filter(|cut| is_here(cut.0, cut.1)).map(|cut| cut.2).collect();
-        Ok(cuts.map(here))
+    /// The list is unsound: 12, and 254 throughout the plan.
+    pub fn unsound(&mut self, random: &mut Random, pools: &Pools, list: &List) -> Result<(), String> {
+        let room = random.pick(&[0, 18, 20_000]);
+        let request = Request::legal(random, room);
+        self.answers((12, 0), pools, list, request)?;
+        if other::plan(self.caller, &lent(pools, list, &list.numbers)) == [254; 512] {
+            return Ok(());
+        }
+        Err(self.describe("Plan is not 254 throughout, as the other implementation's is not", pools, list, request))
     }
 
     pub fn describe(&self, fault: &str, pools: &Pools, list: &List, request: Request) -> String {
@@ -158,27 +133,9 @@ impl Comparison {
     }
 }
 
-fn precedences() -> Vec<Precedence> {
-    let tagged = in_order(BUILD_TAGGED, &ORDER);
-    let tagged = tagged.into_iter().filter(|(_, first, second)| *first == 12 || *second == 12);
-    in_order("Build", &ORDER).into_iter().chain(tagged).collect()
-}
-
 /// The list and the pools as a call gets them, with the list's numbers in this buffer.
 pub fn lent<'a>(pools: &'a Pools, list: &List, numbers: &'a [u32]) -> Lent<'a> {
     Lent { list: numbers, count: list.count, day: pools.day.bytes(), series: pools.series.bytes() }
-}
-
-/// The bytes of the file: by its sections, which are planned, and its events. Of an unsound list, or one with an
-/// unpackable segment, it is a length like any other.
-pub fn need(pools: &Pools, list: &List) -> usize {
-    let plan = other::plan(&lent(pools, list, &list.numbers));
-    if plan[0] == 254 {
-        return SECTION_MIN;
-    }
-    let sections: usize = plan.iter().map(|count| usize::from(*count)).sum();
-    let chains: usize = (0..list.count).map(|place| list.get(place, LENGTH) as usize).sum();
-    SECTION_MIN * sections + EVENT_FRONT * list.count + chains
 }
 
 /// Bytes that differ from their neighbours and from one case to the next, so that one that is written shows.

@@ -1,6 +1,6 @@
 //! Lists with random damage: single bits of every number, and numbers changed to likely ones. Some stay sound.
 
-use super::comparison::{need, Comparison};
+use super::comparison::Comparison;
 use super::request::Request;
 use super::segments::with_neighbours;
 use crate::lists::{List, NUMBERS};
@@ -10,7 +10,7 @@ use crate::random::Random;
 pub fn run(comparison: &mut Comparison) -> Result<(), String> {
     let random = &mut comparison.groups.begin("damage");
     for index in [0, 3, 33] {
-        let (pools, list) = with_neighbours(random, index, &[0, 7, 20, 300]);
+        let (pools, list) = with_neighbours(comparison.caller, random, index, &[0, 7, 20, 300]);
         for place in 0..NUMBERS * list.count {
             for bit in 0..32 {
                 let mut damaged = list.clone();
@@ -46,7 +46,7 @@ fn changed(comparison: &mut Comparison, random: &mut Random, pools: &Pools) -> R
 }
 
 fn damaged_alike(comparison: &mut Comparison, random: &mut Random, pools: &Pools, list: &List) -> Result<(), String> {
-    let need = need(pools, list);
+    let need = comparison.need(pools, list);
     let room = random.pick(&[need, need, need + 9, need - 1]);
     comparison.alike(pools, list, Request::legal(random, room)).map(drop)
 }

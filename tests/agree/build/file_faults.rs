@@ -2,9 +2,8 @@
 //! show it.
 
 use super::comparison::BuildCall;
-use super::packings;
 use super::rewritten::{each_event, each_section, each_section_raw, seal, sections_by_table};
-use crate::other::{build, build_by, pack_within, Built, Method, PAPERS};
+use crate::other::{build, Built};
 
 // Where a section has its fields, and an event in it.
 const VERSION: usize = 5;
@@ -19,15 +18,15 @@ const STATUS: usize = 10;
 /// A section without events.
 const SECTION_MIN: usize = 18;
 
-pub const ALL: [(&str, BuildCall); 19] = [
+pub const ALL: [(&str, BuildCall); 13] = [
     // 01, "What engineers write first".
-    ("takes the number of sections for last_section_number", |lent, base_day, identity, output| {
-        let built = build(lent, base_day, identity, output);
+    ("takes the number of sections for last_section_number", |caller, lent, base_day, identity, output| {
+        let built = build(caller, lent, base_day, identity, output);
         let counts = sections_by_table(built, output);
         each_section(built, output, |section| section[LAST_SECTION_NUMBER] = counts[usize::from(section[0])])
     }),
-    ("numbers a table's sections without a gap", |lent, base_day, identity, output| {
-        let built = build(lent, base_day, identity, output);
+    ("numbers a table's sections without a gap", |caller, lent, base_day, identity, output| {
+        let built = build(caller, lent, base_day, identity, output);
         let counts = sections_by_table(built, output);
         let mut numbers = [0u8; 256];
         each_section(built, output, |section| {
@@ -39,34 +38,15 @@ pub const ALL: [(&str, BuildCall); 19] = [
             numbers[table] = numbers[table].wrapping_add(1);
         })
     }),
-    ("begins a section at each programme", |lent, base_day, identity, output| {
-        build_by(Method { packing: packings::one_each, ..PAPERS }, lent, base_day, identity, output)
-    }),
-    ("balances the sections of a segment", |lent, base_day, identity, output| {
-        build_by(Method { packing: packings::balanced, ..PAPERS }, lent, base_day, identity, output)
-    }),
-    ("takes an event's day from its table", |lent, base_day, identity, output| {
-        let built = build(lent, base_day, identity, output);
+    ("takes an event's day from its table", |caller, lent, base_day, identity, output| {
+        let built = build(caller, lent, base_day, identity, output);
         each_event(built, output, |table_id, _, event| {
             let day = base_day + 4 * u32::from(table_id - 0x50);
             event[2..4].copy_from_slice(&(day as u16).to_be_bytes());
         })
     }),
-    // Packing.
-    ("fills a section with one byte too many", |lent, base_day, identity, output| {
-        build_by(Method { packing: |events| pack_within(4_079, events), ..PAPERS }, lent, base_day, identity, output)
-    }),
-    ("leaves a section's last byte", |lent, base_day, identity, output| {
-        build_by(Method { packing: |events| pack_within(4_077, events), ..PAPERS }, lent, base_day, identity, output)
-    }),
-    ("cuts one event early", |lent, base_day, identity, output| {
-        build_by(Method { packing: packings::one_event_early, ..PAPERS }, lent, base_day, identity, output)
-    }),
-    ("refuses a ninth event in a segment", |lent, base_day, identity, output| {
-        build_by(Method { packing: packings::at_most_eight_events, ..PAPERS }, lent, base_day, identity, output)
-    }),
-    ("leaves empty segments out", |lent, base_day, identity, output| {
-        let built = build(lent, base_day, identity, output);
+    ("leaves empty segments out", |caller, lent, base_day, identity, output| {
+        let built = build(caller, lent, base_day, identity, output);
         let mut file = Vec::new();
         each_section_raw(built, output, |section| {
             if section.len() > SECTION_MIN || section[SECTION_NUMBER] == 0 {
@@ -76,43 +56,43 @@ pub const ALL: [(&str, BuildCall); 19] = [
         rewritten(built, &file, output)
     }),
     // Bytes.
-    ("does not shift the version", |lent, base_day, identity, output| {
-        let built = build(lent, base_day, identity, output);
+    ("does not shift the version", |caller, lent, base_day, identity, output| {
+        let built = build(caller, lent, base_day, identity, output);
         each_section(built, output, |section| section[VERSION] = 0b1100_0001 | identity.version)
     }),
-    ("takes CRC_32 from behind section_length", |lent, base_day, identity, output| {
-        let built = build(lent, base_day, identity, output);
+    ("takes CRC_32 from behind section_length", |caller, lent, base_day, identity, output| {
+        let built = build(caller, lent, base_day, identity, output);
         each_section_raw(built, output, |section| seal(section, 3))
     }),
-    ("has 0x5F for last_table_id", |lent, base_day, identity, output| {
-        let built = build(lent, base_day, identity, output);
+    ("has 0x5F for last_table_id", |caller, lent, base_day, identity, output| {
+        let built = build(caller, lent, base_day, identity, output);
         each_section(built, output, |section| section[LAST_TABLE_ID] = 0x5F)
     }),
-    ("has section_number for segment_last_section_number", |lent, base_day, identity, output| {
-        let built = build(lent, base_day, identity, output);
+    ("has section_number for segment_last_section_number", |caller, lent, base_day, identity, output| {
+        let built = build(caller, lent, base_day, identity, output);
         each_section(built, output, |section| section[SEGMENT_LAST_SECTION_NUMBER] = section[SECTION_NUMBER])
     }),
-    ("puts marks 2 into the status", |lent, base_day, identity, output| {
-        let built = build(lent, base_day, identity, output);
+    ("puts marks 2 into the status", |caller, lent, base_day, identity, output| {
+        let built = build(caller, lent, base_day, identity, output);
         each_event(built, output, |_, place, event| event[STATUS] |= (lent.list[6 * place + 3] as u8 & 2) << 5)
     }),
-    ("has running_status 4 for off air", |lent, base_day, identity, output| {
-        let built = build(lent, base_day, identity, output);
+    ("has running_status 4 for off air", |caller, lent, base_day, identity, output| {
+        let built = build(caller, lent, base_day, identity, output);
         each_event(built, output, |_, _, event| event[STATUS] &= 0b1001_1111)
     }),
-    ("writes hours in binary", |lent, base_day, identity, output| {
-        let built = build(lent, base_day, identity, output);
+    ("writes hours in binary", |caller, lent, base_day, identity, output| {
+        let built = build(caller, lent, base_day, identity, output);
         each_event(built, output, |_, _, event| event[START_HOURS] = hours(event[START_HOURS]))
     }),
-    ("begins a duration's hours again after 23", |lent, base_day, identity, output| {
-        let built = build(lent, base_day, identity, output);
+    ("begins a duration's hours again after 23", |caller, lent, base_day, identity, output| {
+        let built = build(caller, lent, base_day, identity, output);
         each_event(built, output, |_, _, event| {
             let left = hours(event[DURATION_HOURS]) % 24;
             event[DURATION_HOURS] = left / 10 << 4 | left % 10;
         })
     }),
-    ("carries no day over into the date's high byte", |lent, base_day, identity, output| {
-        let built = build(lent, base_day, identity, output);
+    ("carries no day over into the date's high byte", |caller, lent, base_day, identity, output| {
+        let built = build(caller, lent, base_day, identity, output);
         each_event(built, output, |_, _, event| event[2] = (base_day >> 8) as u8)
     }),
 ];

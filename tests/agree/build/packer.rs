@@ -4,13 +4,10 @@
 use super::comparison::Comparison;
 use super::request::Request;
 use super::segments::with_neighbours;
-use crate::other::{EVENT_FRONT, EVENT_ROOM};
+use crate::other::{Caller, EVENT_FRONT};
 use crate::random::Random;
 
 const SECTIONS_MAX: usize = 8;
-
-/// Quarters, halves and the whole of what a section has for its events, and a byte more or less.
-const FRACTIONS: [usize; 7] = [1_019, 1_020, 1_021, 2_038, 2_039, 2_040, 4_078];
 
 pub fn run(comparison: &mut Comparison) -> Result<(), String> {
     let random = &mut comparison.groups.begin("packer");
@@ -28,15 +25,16 @@ pub fn run(comparison: &mut Comparison) -> Result<(), String> {
 
 /// A segment of a few events, compared with every way to cut it. How many sections it has, if it is packable.
 fn segment(comparison: &mut Comparison, random: &mut Random) -> Result<Option<usize>, String> {
-    let mut lengths = chain_lengths(random);
+    let sizes = comparison.caller.sizes();
+    let mut lengths = chain_lengths(comparison.caller, random);
     if random.one_in(20) {
         let place = random.below(lengths.len());
-        lengths[place] = 4_067;
+        lengths[place] = sizes.chain_max() + 1;
     }
     let index = random.pick(&[0, 1, 31, 32, 511]);
-    let (pools, list) = with_neighbours(random, index, &lengths);
+    let (pools, list) = with_neighbours(comparison.caller, random, index, &lengths);
 
-    let ways: Vec<_> = ways(&lengths).into_iter().filter(|way| way.len() <= SECTIONS_MAX).collect();
+    let ways: Vec<_> = ways(sizes.room(), &lengths).into_iter().filter(|way| way.len() <= SECTIONS_MAX).collect();
     let held = comparison.held(random, &pools, &list, index)?;
     let fault = match &held {
         None if ways.is_empty() => {
@@ -54,18 +52,23 @@ fn segment(comparison: &mut Comparison, random: &mut Random) -> Result<Option<us
 }
 
 /// Chains of up to twelve events: of any length, or of such lengths that sections are often filled to the last byte.
-fn chain_lengths(random: &mut Random) -> Vec<usize> {
+fn chain_lengths(caller: Caller, random: &mut Random) -> Vec<usize> {
+    let sizes = caller.sizes();
     let events = 1 + random.below(12);
     if random.one_in(3) {
-        return (0..events).map(|_| random.pick(&FRACTIONS) - EVENT_FRONT).collect();
+        // Quarters, halves and the whole of what a section has for its events, and a byte more or less.
+        let (whole, half, quarter) = (sizes.room(), sizes.room() / 2, sizes.room() / 4);
+        let fractions = [quarter, quarter + 1, quarter + 2, half - 1, half, half + 1, whole];
+        return (0..events).map(|_| random.pick(&fractions) - EVENT_FRONT).collect();
     }
-    let least = random.pick(&[2, 500, 500, 1_000, 2_000]);
-    let most = random.pick(&[2_100, 3_000, 4_066, 4_066]);
+    let longest = sizes.chain_max();
+    let least = random.pick(&[2, longest / 8, longest / 8, longest / 4, longest / 2]);
+    let most = random.pick(&[longest / 2 + 60, longest * 3 / 4, longest, longest]);
     (0..events).map(|_| least + random.below(most - least + 1)).collect()
 }
 
-/// Every way to cut the events into sections that fit: how many events each section has.
-fn ways(lengths: &[usize]) -> Vec<Vec<usize>> {
+/// Every way to cut the events into sections with so many bytes for them: how many events each section has.
+fn ways(room: usize, lengths: &[usize]) -> Vec<Vec<usize>> {
     if lengths.is_empty() {
         return vec![vec![]];
     }
@@ -73,10 +76,10 @@ fn ways(lengths: &[usize]) -> Vec<Vec<usize>> {
     let mut bytes = 0;
     for (place, length) in lengths.iter().enumerate() {
         bytes += EVENT_FRONT + length;
-        if bytes > EVENT_ROOM {
+        if bytes > room {
             break;
         }
-        for rest in ways(&lengths[place + 1..]) {
+        for rest in ways(room, &lengths[place + 1..]) {
             all.push([vec![place + 1], rest].concat());
         }
     }
@@ -91,7 +94,7 @@ fn is_better(way: &[usize], held: &[usize]) -> bool {
 
 /// Whether cuts that are early, or sections that are too many, show beside a better way, for the self-check.
 pub fn worse_cuts_show() -> bool {
-    let ways = ways(&[1_000, 1_000, 2_100, 4_000]);
+    let ways = ways(Caller::Broadcast.sizes().room(), &[1_000, 1_000, 2_100, 4_000]);
     let shows = |held: &[usize]| ways.iter().any(|way| is_better(way, held));
     !shows(&[2, 1, 1]) && shows(&[1, 2, 1]) && shows(&[2, 1, 0, 1]) && shows(&[1, 1, 1, 1])
 }

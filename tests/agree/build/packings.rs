@@ -1,28 +1,28 @@
-//! Packings that are not the paper's, for the faults of the self-check.
+//! Packings that are not the paper's, for the faults of the self-check. Each has so many bytes for a section's events.
 
-use crate::other::{pack, Event, EVENT_FRONT, EVENT_ROOM};
+use crate::other::{pack, Event, EVENT_FRONT};
 
 type Sections<'a> = Option<Vec<&'a [Event]>>;
 
 /// A section for each event, as far as a segment has sections.
-pub fn one_each(events: &[Event]) -> Sections<'_> {
-    with_chunks(events, 1)
+pub fn one_each(room: usize, events: &[Event]) -> Sections<'_> {
+    with_chunks(room, events, 1)
 }
 
 /// As many sections as needed, with about as many events in each.
-pub fn balanced(events: &[Event]) -> Sections<'_> {
-    let needed = pack(events)?.len();
-    with_chunks(events, events.len().div_ceil(needed).max(1))
+pub fn balanced(room: usize, events: &[Event]) -> Sections<'_> {
+    let needed = pack(room, events)?.len();
+    with_chunks(room, events, events.len().div_ceil(needed).max(1))
 }
 
 /// So many events in each section, where that can be; as it should be where not.
-fn with_chunks(events: &[Event], events_each: usize) -> Sections<'_> {
+fn with_chunks(room: usize, events: &[Event], events_each: usize) -> Sections<'_> {
     let sections: Vec<_> = events.chunks(events_each).collect();
-    let fits = (1..=8).contains(&sections.len()) && sections.iter().all(|section| bytes(section) <= EVENT_ROOM);
+    let fits = (1..=8).contains(&sections.len()) && sections.iter().all(|section| bytes(section) <= room);
     if fits {
         Some(sections)
     } else {
-        pack(events)
+        pack(room, events)
     }
 }
 
@@ -31,12 +31,10 @@ fn bytes(events: &[Event]) -> usize {
 }
 
 /// Gives the last event that fits the first section to the second, if it fits there with what the second has.
-pub fn one_event_early(events: &[Event]) -> Sections<'_> {
-    let mut sections = pack(events)?;
+pub fn one_event_early(room: usize, events: &[Event]) -> Sections<'_> {
+    let mut sections = pack(room, events)?;
     let may = match sections[..] {
-        [first, second, ..] => {
-            first.len() > 1 && bytes(&events[first.len() - 1..first.len() + second.len()]) <= EVENT_ROOM
-        }
+        [first, second, ..] => first.len() > 1 && bytes(&events[first.len() - 1..first.len() + second.len()]) <= room,
         _ => false,
     };
     if may {
@@ -47,6 +45,6 @@ pub fn one_event_early(events: &[Event]) -> Sections<'_> {
     Some(sections)
 }
 
-pub fn at_most_eight_events(events: &[Event]) -> Sections<'_> {
-    pack(events).filter(|_| events.len() <= 8)
+pub fn at_most_eight_events(room: usize, events: &[Event]) -> Sections<'_> {
+    pack(room, events).filter(|_| events.len() <= 8)
 }

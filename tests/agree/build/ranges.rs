@@ -1,21 +1,24 @@
-//! Lists of many sizes up to 2,048 events, over every table: gaps of segments and tables without events, events late or
-//! only at the end.
+//! Lists of many sizes up to the caller's most events, over every table: gaps of segments and tables without events,
+//! events late or only at the end.
 
 use super::comparison::Comparison;
 use super::segments::nearby;
 use crate::lineup::Lineup;
-use crate::lists::{rising, List, EVENTS_MAX};
+use crate::lists::{rising, List};
 use crate::pools::Pools;
 use crate::random::Random;
 
-const SIZES: [usize; 20] =
-    [0, 1, 2, 3, 4, 7, 8, 9, 31, 33, 100, 255, 339, 341, 400, 700, 1_024, 1_500, 2_047, EVENTS_MAX];
+const COUNTS: [usize; 23] =
+    [0, 1, 2, 3, 4, 7, 8, 9, 31, 33, 83, 85, 100, 255, 256, 339, 341, 400, 700, 1_024, 1_500, 2_047, 2_048];
+
+const SEGMENTS: usize = 512;
 
 pub fn run(comparison: &mut Comparison) -> Result<(), String> {
     let random = &mut comparison.groups.begin("ranges");
+    let sizes = comparison.caller.sizes();
     for (day, series) in [(0, 0), (0, 50), (9_000, 0), (4_000, 60_000)] {
         let pools = Pools::of_lengths(random, day, series);
-        for count in SIZES {
+        for count in COUNTS.into_iter().filter(|count| *count <= sizes.events) {
             for _ in 0..2 {
                 let numbers = 6 * count + random.below(8);
                 let list = List::sound(random, &pools, count, numbers);
@@ -23,14 +26,15 @@ pub fn run(comparison: &mut Comparison) -> Result<(), String> {
             }
         }
     }
-    for index in 0..512 {
+    for index in 0..SEGMENTS {
         segments(comparison, random, &[index])?;
     }
     for _ in 0..250 {
         gaps(comparison, random)?;
     }
-    for (least, most) in [(200, 1_000), (4_000, 4_066)] {
-        every_segment(comparison, random, least, most)?;
+    let longest = sizes.chain_max();
+    for (least, most) in [(longest / 20, longest / 4), (longest - 66, longest)] {
+        most_events(comparison, random, least, most)?;
     }
     Ok(())
 }
@@ -38,7 +42,7 @@ pub fn run(comparison: &mut Comparison) -> Result<(), String> {
 /// A few events in each of these segments.
 fn segments(comparison: &mut Comparison, random: &mut Random, indices: &[usize]) -> Result<(), String> {
     let mut lineup = Lineup::new();
-    indices.iter().for_each(|index| nearby(random, &mut lineup, *index));
+    indices.iter().for_each(|index| nearby(comparison.caller, random, &mut lineup, *index));
     let (pools, list) = lineup.lend(random);
     comparison.cuts(random, &pools, &list).map(drop)
 }
@@ -58,11 +62,13 @@ fn gaps(comparison: &mut Comparison, random: &mut Random) -> Result<(), String> 
     segments(comparison, random, &indices)
 }
 
-/// 2,048 events, four in each segment, with chains of these lengths.
-fn every_segment(comparison: &mut Comparison, random: &mut Random, least: usize, most: usize) -> Result<(), String> {
+/// The caller's most events, as many in each segment, or in every other, with chains of these lengths.
+fn most_events(comparison: &mut Comparison, random: &mut Random, least: usize, most: usize) -> Result<(), String> {
+    let events = comparison.caller.sizes().events;
+    let each = events.div_ceil(SEGMENTS);
     let mut lineup = Lineup::new();
-    for index in 0..512 {
-        let lengths = [(); EVENTS_MAX / 512].map(|_| least + random.below(most - least + 1));
+    for index in (0..SEGMENTS).step_by(each * SEGMENTS / events) {
+        let lengths: Vec<_> = (0..each).map(|_| least + random.below(most - least + 1)).collect();
         lineup.segment(random, index, &lengths);
     }
     let (pools, list) = lineup.lend(random);

@@ -1,11 +1,11 @@
-//! 01, "Samples with the cuts marked": those that a file shows.
+//! 01, "Samples with the cuts marked": those that a file shows, and the same for the cable caller of 02, W-206.
 
 use super::comparison::Comparison;
 use super::request::Request;
 use super::sections::Cut;
 use crate::lineup::{Lineup, SEGMENT_SECONDS};
 use crate::lists::List;
-use crate::other::Identity;
+use crate::other::{Caller, Identity};
 use crate::pools::Pools;
 use crate::random::Random;
 
@@ -17,10 +17,16 @@ type Sample = (Vec<(u32, usize)>, Result<Vec<Cut>, usize>);
 pub fn run(comparison: &mut Comparison) -> Result<(), String> {
     let random = &mut comparison.groups.begin("samples");
     known_bytes(comparison, random)?;
-    let two = |together: usize| vec![(300, 2_000), (700, together - 2_000)];
-    let each = |events: u32, length| (0..events).map(|start| (SEGMENT_SECONDS + start, length)).collect::<Vec<_>>();
+    for row in by_start().into_iter().chain(by_size(comparison.caller)) {
+        sample(comparison, random, row)?;
+    }
+    Ok(())
+}
+
+/// Events without descriptors: which segment a start is in.
+fn by_start() -> Vec<Sample> {
     let tables = (0x50..0x5F).map(|table| (table, 0, 0)).collect::<Vec<_>>();
-    let rows: [Sample; 16] = [
+    vec![
         (vec![], Ok(vec![(0x50, 0, 0)])),
         (vec![(10_799, 0)], Ok(vec![(0x50, 0, 1)])),
         (vec![(10_800, 0)], Ok(vec![(0x50, 0, 0), (0x50, 8, 1)])),
@@ -28,20 +34,30 @@ pub fn run(comparison: &mut Comparison) -> Result<(), String> {
         (vec![(345_600, 0)], Ok(vec![(0x50, 0, 0), (0x51, 0, 1)])),
         (vec![(5_529_599, 0)], Ok([tables, last_of(0x5F)].concat())),
         (vec![(45_900, 0)], Ok(vec![(0x50, 0, 0), (0x50, 8, 0), (0x50, 16, 0), (0x50, 24, 0), (0x50, 32, 1)])),
-        (vec![(0, 4_066)], Ok(vec![(0x50, 0, 1)])),
-        (vec![(0, 4_067)], Err(0)),
-        (vec![(5_529_599, 4_067)], Err(511)),
-        (two(4_054), Ok(vec![(0x50, 0, 2)])),
-        (two(4_055), Ok(vec![(0x50, 0, 1), (0x50, 1, 1)])),
-        (each(339, 0), Ok(vec![(0x50, 0, 0), (0x50, 8, 339)])),
-        (each(340, 0), Ok(vec![(0x50, 0, 0), (0x50, 8, 339), (0x50, 9, 1)])),
-        (each(8, 4_066), Ok([vec![(0x50, 0, 0)], (8..16).map(|number| (0x50, number, 1)).collect()].concat())),
-        (each(9, 4_066), Err(1)),
-    ];
-    for row in rows {
-        sample(comparison, random, row)?;
-    }
-    Ok(())
+    ]
+}
+
+/// What the caller's sections hold: the longest chain and one byte more; two chains that fill a section together and
+/// one byte more; events without descriptors that fill a section and one more; eight sections and a ninth.
+fn by_size(caller: Caller) -> Vec<Sample> {
+    let (chain, two_chains, events) = match caller {
+        Caller::Broadcast => ([4_066, 4_067], [4_054, 4_055], [339, 340]),
+        Caller::Cable => ([994, 995], [982, 983], [83, 84]),
+    };
+    let two = |together: usize| vec![(300, 500), (700, together - 500)];
+    let each = |events: usize, length| (0..events as u32).map(|place| (SEGMENT_SECONDS + place, length)).collect();
+    let eight = [vec![(0x50, 0, 0)], (8..16).map(|number| (0x50, number, 1)).collect()].concat();
+    vec![
+        (vec![(0, chain[0])], Ok(vec![(0x50, 0, 1)])),
+        (vec![(0, chain[1])], Err(0)),
+        (vec![(5_529_599, chain[1])], Err(511)),
+        (two(two_chains[0]), Ok(vec![(0x50, 0, 2)])),
+        (two(two_chains[1]), Ok(vec![(0x50, 0, 1), (0x50, 1, 1)])),
+        (each(events[0], 0), Ok(vec![(0x50, 0, 0), (0x50, 8, events[0])])),
+        (each(events[1], 0), Ok(vec![(0x50, 0, 0), (0x50, 8, events[0]), (0x50, 9, 1)])),
+        (each(8, chain[0]), Ok(eight)),
+        (each(9, chain[0]), Err(1)),
+    ]
 }
 
 /// The table's 32 sections with an event in the last alone.

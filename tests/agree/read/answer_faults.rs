@@ -4,102 +4,122 @@
 use super::comparison::{CheckCall, ReadCall};
 use super::file::File;
 use crate::build::sections;
-use crate::other::{check, crc32_by_table, frame_within, read, refused, Identity, Reading, SECTION_LENGTHS};
+use crate::other::{check, crc32_by_table, frame_within, read, refused, Identity, Reading, TABLE_IDS};
 
-pub const READS: [(&str, ReadCall); 16] = [
+pub const READS: [(&str, ReadCall); 18] = [
+    ("serves the other caller", |caller, file, base_day, records| read(caller.other(), file, base_day, records)),
     // The note from the buyer.
-    ("always says 25", |file, _, _| refused(25, file.len())),
-    ("always returns no events", |file, base_day, _| {
-        let reading = check(file, base_day);
+    ("always says 25", |_, file, _, _| refused(25, file.len())),
+    ("always returns no events", |caller, file, base_day, _| {
+        let reading = check(caller, file, base_day);
         Reading { value: if reading.number == 0 { 0 } else { reading.value }, count: 0, ..reading }
     }),
     // Answers.
-    ("says 0 for a file that ends early", |file, base_day, records| {
-        let reading = read(file, base_day, records);
+    ("says 0 for a file that ends early", |caller, file, base_day, records| {
+        let reading = read(caller, file, base_day, records);
         if reading.number == 25 && !file.is_empty() {
             Reading { number: 0, value: held(file), count: held(file), ..reading }
         } else {
             reading
         }
     }),
-    ("says 20 for an empty file", |file, base_day, records| {
-        let reading = read(file, base_day, records);
+    ("says 20 for an empty file", |caller, file, base_day, records| {
+        let reading = read(caller, file, base_day, records);
         instead_if(file.is_empty() && reading.number == 25, refused(20, 0), reading)
     }),
-    ("says 25 for a byte behind the last section", |file, base_day, records| {
-        let reading = read(file, base_day, records);
+    ("says 25 for a byte behind the last section", |caller, file, base_day, records| {
+        let reading = read(caller, file, base_day, records);
         let is_one_byte = reading.number == 20 && reading.value + 1 == file.len();
         instead_if(is_one_byte, refused(25, file.len()), reading)
     }),
-    ("leaves bytes behind the last section aside", |file, base_day, records| {
-        let reading = read(file, base_day, records);
+    ("leaves bytes behind the last section aside", |caller, file, base_day, records| {
+        let reading = read(caller, file, base_day, records);
         let front = file.get(..reading.value).unwrap_or_default();
-        if reading.number == 20 && check(front, base_day).number == 0 {
-            read(front, base_day, records)
+        if reading.number == 20 && check(caller, front, base_day).number == 0 {
+            read(caller, front, base_day, records)
         } else {
             reading
         }
     }),
-    ("says where the file breaks in sixteen bits", |file, base_day, records| {
-        let reading = read(file, base_day, records);
+    ("says where the file breaks in sixteen bits", |caller, file, base_day, records| {
+        let reading = read(caller, file, base_day, records);
         Reading { value: reading.value & 0xFFFF, ..reading }
     }),
-    ("says where the events begin for 24", |file, base_day, records| {
-        let reading = read(file, base_day, records);
+    ("says where the events begin for 24", |caller, file, base_day, records| {
+        let reading = read(caller, file, base_day, records);
         instead_if(reading.number == 24, refused(24, reading.value + 14), reading)
     }),
-    ("asks for numbers with 27", |file, base_day, records| {
-        let reading = read(file, base_day, records);
+    ("asks for numbers with 27", |caller, file, base_day, records| {
+        let reading = read(caller, file, base_day, records);
         instead_if(reading.number == 27, refused(27, 6 * reading.value), reading)
     }),
-    ("returns an identity with 25", |file, base_day, records| {
-        let reading = read(file, base_day, records);
+    ("returns an identity with 25", |caller, file, base_day, records| {
+        let reading = read(caller, file, base_day, records);
         let identity = Identity { service_id: 1, ..reading.identity };
         instead_if(reading.number == 25, Reading { identity, ..reading }, reading)
     }),
-    ("returns a count with 27", |file, base_day, records| {
-        let reading = read(file, base_day, records);
+    ("returns a count with 27", |caller, file, base_day, records| {
+        let reading = read(caller, file, base_day, records);
         instead_if(reading.number == 27, Reading { count: reading.value, ..reading }, reading)
     }),
-    ("confuses stream and network", |file, base_day, records| {
-        let reading = read(file, base_day, records);
+    ("confuses stream and network", |caller, file, base_day, records| {
+        let reading = read(caller, file, base_day, records);
         let mut identity = reading.identity;
         std::mem::swap(&mut identity.transport_stream_id, &mut identity.original_network_id);
         Reading { identity, ..reading }
     }),
     // The order of checks that rules do not have, and the base day.
-    ("asks for CRC_32 before the table_id", |file, base_day, records| {
-        let reading = read(file, base_day, records);
-        let from = file.get(reading.value..).unwrap_or_default();
-        let is_wrong = frame_within(0x00..=0xFF, SECTION_LENGTHS, from).is_some_and(|bytes| crc32_by_table(bytes) != 0);
+    ("asks for CRC_32 before the table_id", |caller, file, base_day, records| {
+        let reading = read(caller, file, base_day, records);
+        let framed = frame_within(0x00..=0xFF, caller.sizes().section_lengths(), from(file, reading));
+        let is_wrong = framed.is_some_and(|bytes| crc32_by_table(bytes) != 0);
         instead_if(reading.number == 20 && is_wrong, refused(21, reading.value), reading)
     }),
-    ("says 27 before 25", |file, base_day, records| {
-        let reading = read(file, base_day, records);
+    ("asks for CRC_32 before the caller's length", |caller, file, base_day, records| {
+        let reading = read(caller, file, base_day, records);
+        let framed = frame_within(TABLE_IDS, 15..=0xFFF, from(file, reading));
+        let is_wrong = framed.is_some_and(|bytes| crc32_by_table(bytes) != 0);
+        instead_if(reading.number == 20 && is_wrong, refused(21, reading.value), reading)
+    }),
+    ("says 27 before 25", |caller, file, base_day, records| {
+        let reading = read(caller, file, base_day, records);
         let is_short = reading.number == 25 && records.len() < 6 * held(file);
         instead_if(is_short, refused(27, held(file)), reading)
     }),
-    ("looks at the file before the base day", |file, base_day, records| {
-        let reading = read(file, base_day, records);
-        let by_file = check(file, 0);
+    ("looks at the file before the base day", |caller, file, base_day, records| {
+        let reading = read(caller, file, base_day, records);
+        let by_file = check(caller, file, 0);
         instead_if(reading.number == 1 && by_file.number == 20, by_file, reading)
     }),
-    ("takes the base day in sixteen bits", |file, base_day, records| read(file, base_day & 0xFFFF, records)),
+    ("takes the base day in sixteen bits", |caller, file, base_day, records| {
+        read(caller, file, base_day & 0xFFFF, records)
+    }),
 ];
 
-pub const CHECKS: [(&str, CheckCall); 5] = [
-    ("takes base day 65,473", |file, base_day| check(file, if base_day == 65_473 { 65_472 } else { base_day })),
-    ("returns no identity", |file, base_day| Reading { identity: Identity::default(), ..check(file, base_day) }),
-    ("returns no count", |file, base_day| Reading { count: 0, ..check(file, base_day) }),
-    ("says 27 from event 1,025 on", |file, base_day| {
-        let checked = check(file, base_day);
-        instead_if(checked.count > 1_024, refused(27, checked.count), checked)
+pub const CHECKS: [(&str, CheckCall); 6] = [
+    ("serves the other caller", |caller, file, base_day| check(caller.other(), file, base_day)),
+    ("takes base day 65,473", |caller, file, base_day| {
+        check(caller, file, if base_day == 65_473 { 65_472 } else { base_day })
     }),
-    ("does not look for the end", |file, base_day| {
-        let checked = check(file, base_day);
+    ("returns no identity", |caller, file, base_day| Reading {
+        identity: Identity::default(),
+        ..check(caller, file, base_day)
+    }),
+    ("returns no count", |caller, file, base_day| Reading { count: 0, ..check(caller, file, base_day) }),
+    ("says 27 for more than half of the caller's events", |caller, file, base_day| {
+        let checked = check(caller, file, base_day);
+        instead_if(checked.count > caller.sizes().events / 2, refused(27, checked.count), checked)
+    }),
+    ("does not look for the end", |caller, file, base_day| {
+        let checked = check(caller, file, base_day);
         instead_if(checked.number == 25, Reading { number: 0, ..checked }, checked)
     }),
 ];
+
+/// The file from where it is refused.
+fn from(file: &[u8], reading: Reading) -> &[u8] {
+    file.get(reading.value..).unwrap_or_default()
+}
 
 /// The wrong answer where the fault shows, and else the right one.
 fn instead_if(shows: bool, wrong: Reading, right: Reading) -> Reading {

@@ -7,7 +7,7 @@ use super::given::Given;
 pub fn run(comparison: &mut Comparison) -> Result<(), String> {
     let random = &mut comparison.groups.begin("bits");
     for segments in [&[][..], &[(0, 2)], &[(1, 3), (3, 1)], &[(0, 1), (33, 4), (66, 5)]] {
-        let given = Given::short(random, segments);
+        let given = Given::short(comparison.caller, random, segments);
         let file = given.built().expect("a few events are packable");
         for place in 0..file.sections.len() {
             for bit in 0..8 * file.sections[place].len() {

@@ -4,36 +4,43 @@ use super::comparison::{Comparison, RECORDS_MAX};
 use super::given::Given;
 use crate::build::{with_neighbours, BASE_DAY_MAX};
 use crate::lineup::Lineup;
-use crate::lists::{at_limits, List, EVENTS_MAX};
-use crate::other::{Built, Lent};
+use crate::lists::{at_limits, List};
+use crate::other::{Built, Lent, EVENT_FRONT};
 use crate::pools::Pools;
 use crate::random::Random;
 
-const SIZES: [usize; 12] = [0, 1, 2, 3, 5, 12, 31, 100, 339, 700, 2_047, EVENTS_MAX];
-
 pub fn run(comparison: &mut Comparison) -> Result<(), String> {
     let random = &mut comparison.groups.begin("built");
-    let nothing = Given::new(random, Lineup::new());
+    let sizes = comparison.caller.sizes();
+    let mut counts = vec![0, 1, 2, 3, 5, 12, 31, 100, 339, 700, sizes.events - 1, sizes.events];
+    counts.retain(|count| *count <= sizes.events);
+    let nothing = Given::new(comparison.caller, random, Lineup::new());
     round_trip(comparison, random, nothing)?;
     for _ in 0..40 {
-        let given = Given::some(random);
+        let given = Given::some(comparison.caller, random);
         round_trip(comparison, random, given)?;
     }
     for (day, series) in [(0, 0), (300, 200), (9_000, 4_000)] {
         let pools = || Pools::of_lengths(&mut Random::new(day as u64), day, series);
-        for count in SIZES {
+        for &count in &counts {
             let list = List::sound(random, &pools(), count, 6 * count);
             let limits = if count == 0 { Vec::new() } else { at_limits(random, &pools(), &list) };
             for list in limits.into_iter().take(if count > 100 { 1 } else { 10 }).chain([list]) {
-                let given = Given::of(random, pools(), list);
+                let given = Given::of(comparison.caller, random, pools(), list);
                 round_trip(comparison, random, given)?;
             }
         }
     }
+    let full = [
+        vec![sizes.chain_max(); 8],
+        vec![sizes.room() / 2 - EVENT_FRONT; 2],
+        vec![0; sizes.room() / EVENT_FRONT + 1],
+        vec![0],
+    ];
     for index in [0, 31, 32, 511] {
-        for lengths in [vec![4_066; 8], vec![2_027; 2], vec![0; 340], vec![0]] {
-            let (pools, list) = with_neighbours(random, index, &lengths);
-            let given = Given::of(random, pools, list);
+        for lengths in &full {
+            let (pools, list) = with_neighbours(comparison.caller, random, index, lengths);
+            let given = Given::of(comparison.caller, random, pools, list);
             round_trip(comparison, random, given)?;
         }
     }
@@ -67,9 +74,10 @@ pub fn round_trip(comparison: &mut Comparison, random: &mut Random, mut given: G
     Err(comparison.describe(fault, &bytes, given.base_day, None))
 }
 
-/// What Build makes of these events in an output of this length, if it fills it.
-fn built(comparison: &Comparison, lent: &Lent, given: &Given, length: usize) -> Option<Vec<u8>> {
+/// What Build makes of these events, for the caller that they are given for, in an output of this length, if it fills
+/// it.
+pub fn built(comparison: &Comparison, lent: &Lent, given: &Given, length: usize) -> Option<Vec<u8>> {
     let mut output = vec![0; length];
-    let built = (comparison.subject.build)(lent, given.base_day, given.identity, &mut output);
+    let built = (comparison.subject.build)(given.caller, lent, given.base_day, given.identity, &mut output);
     (built == Built { number: 0, value: length }).then_some(output)
 }

@@ -5,8 +5,8 @@ use super::order::precedences;
 use crate::build::BuildCall;
 use crate::groups::Groups;
 use crate::guarded::Guarded;
-use crate::lists::{EVENTS_MAX, NUMBERS};
-use crate::other::{self, Reading};
+use crate::lists::NUMBERS;
+use crate::other::{self, Caller, Reading};
 use crate::random::Random;
 use crate::tally::Tally;
 
@@ -14,21 +14,23 @@ const FIRST_SEED: u64 = 300_668;
 
 const ANSWERS: [u32; 10] = [0, 1, 20, 21, 22, 23, 24, 25, 26, 27];
 
-pub const RECORDS_MAX: usize = NUMBERS * EVENTS_MAX;
+/// Enough for every file, of either caller: 01, "a file is accepted".
+pub const RECORDS_MAX: usize = 12_288;
 
-pub type ReadCall = fn(&[u8], u32, &mut [u32]) -> Reading;
-pub type CheckCall = fn(&[u8], u32) -> Reading;
+pub type ReadCall = fn(Caller, &[u8], u32, &mut [u32]) -> Reading;
+pub type CheckCall = fn(Caller, &[u8], u32) -> Reading;
 
 /// What is compared with the other implementation, and the Build whose files it reads.
 #[derive(Clone, Copy)]
 pub struct Subject<'a> {
     pub build: BuildCall,
-    pub read: &'a dyn Fn(&[u8], u32, &mut [u32]) -> Reading,
-    pub check: &'a dyn Fn(&[u8], u32) -> Reading,
+    pub read: &'a dyn Fn(Caller, &[u8], u32, &mut [u32]) -> Reading,
+    pub check: &'a dyn Fn(Caller, &[u8], u32) -> Reading,
 }
 
-/// What is compared, and what came up so far.
+/// What is compared, for which caller, and what came up so far.
 pub struct Comparison<'a> {
+    pub caller: Caller,
     pub subject: Subject<'a>,
     pub tally: Tally,
     pub groups: Groups,
@@ -36,11 +38,12 @@ pub struct Comparison<'a> {
 }
 
 impl Comparison<'_> {
-    pub fn new(subject: Subject) -> Comparison {
+    pub fn new(caller: Caller, subject: Subject) -> Comparison {
         Comparison {
+            caller,
             subject,
             tally: Tally::new(&ANSWERS, precedences()),
-            groups: Groups::new(FIRST_SEED),
+            groups: Groups::new(caller, FIRST_SEED),
             guards: Random::new(FIRST_SEED),
         }
     }
@@ -113,9 +116,9 @@ impl Comparison<'_> {
         let guard = self.guards.number();
         let as_given = Guarded::new(&pattern(room, guard), guard);
         let mut wanted_records = as_given.clone();
-        let wanted = other::read(file, base_day, wanted_records.inside_mut());
+        let wanted = other::read(self.caller, file, base_day, wanted_records.inside_mut());
         let mut got_records = as_given;
-        let got = (self.subject.read)(file, base_day, got_records.inside_mut());
+        let got = (self.subject.read)(self.caller, file, base_day, got_records.inside_mut());
 
         self.count(wanted.number);
         let fault = if got != wanted {
@@ -129,8 +132,8 @@ impl Comparison<'_> {
     }
 
     fn checked(&mut self, file: &[u8], base_day: u32) -> Result<Reading, String> {
-        let wanted = other::check(file, base_day);
-        let got = (self.subject.check)(file, base_day);
+        let wanted = other::check(self.caller, file, base_day);
+        let got = (self.subject.check)(self.caller, file, base_day);
         self.count(wanted.number);
         if got == wanted {
             return Ok(got);

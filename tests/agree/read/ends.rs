@@ -4,17 +4,14 @@ use super::comparison::{Comparison, RECORDS_MAX};
 use super::event_fields::{put, DURATION, STATUS};
 use super::given::Given;
 use super::layout::{rival, Layout};
-use crate::lists::EVENTS_MAX;
+use crate::other::Caller;
 use crate::random::Random;
 use std::collections::BTreeMap;
-
-/// Events of a section, which has room for more if their chains are of a few bytes.
-const CHUNK: usize = 150;
 
 pub fn run(comparison: &mut Comparison) -> Result<(), String> {
     let random = &mut comparison.groups.begin("ends");
     for _ in 0..20 {
-        let given = Given::some(random);
+        let given = Given::some(comparison.caller, random);
         let file = rival(random, &given);
         let bytes = file.bytes();
         for place in 0..file.sections.len() {
@@ -23,11 +20,12 @@ pub fn run(comparison: &mut Comparison) -> Result<(), String> {
         }
     }
     for segments in [&[][..], &[(0, 1)], &[(0, 3), (2, 2)], &[(1, 12), (33, 4)]] {
-        let given = Given::short(random, segments);
+        let given = Given::short(comparison.caller, random, segments);
         short_buffers(comparison, random, &given)?;
     }
-    for behind in [1, 2, 20] {
-        for before in [0, 1, CHUNK] {
+    let chunk = chunk(comparison.caller);
+    for behind in [1, 2, chunk / 8] {
+        for before in [0, 1, chunk] {
             too_many(comparison, random, before, behind)?;
         }
     }
@@ -45,13 +43,13 @@ fn short_buffers(comparison: &mut Comparison, random: &mut Random, given: &Given
     Ok(())
 }
 
-/// A section in which so many events stand before number 2,049, and so many from it on: without the latter the file is
+/// A section in which so many of the caller's most events stand, and so many more: without the latter the file is
 /// accepted, with them it is refused, and a broken event anywhere in the section is refused first.
 fn too_many(comparison: &mut Comparison, random: &mut Random, before: usize, behind: usize) -> Result<(), String> {
-    let full = EVENTS_MAX - before;
+    let full = comparison.caller.sizes().events - before;
     let segments = [(0, full / 2), (3, full - full / 2), (40, before + behind), (41, 3)];
-    let given = Given::short(random, &segments);
-    let mut cuts = chunked(&segments);
+    let given = Given::short(comparison.caller, random, &segments);
+    let mut cuts = chunked(comparison.caller, &segments);
     cuts.insert(40, vec![before + behind]);
     let file = Layout::of(cuts).file(&given);
     let place = file.last() - 1;
@@ -67,20 +65,26 @@ fn too_many(comparison: &mut Comparison, random: &mut Random, before: usize, beh
     }
     // As many as there may be, and one more in a section of its own.
     let segments = [(0, full / 2), (3, full - full / 2), (40, before), (41, 1)];
-    let given = Given::short(random, &segments);
-    let file = Layout::of(chunked(&segments)).file(&given);
+    let given = Given::short(comparison.caller, random, &segments);
+    let file = Layout::of(chunked(comparison.caller, &segments)).file(&given);
     comparison.refused(26, file.last(), &file)?;
     let mut without = segments;
     without[3].1 = 0;
-    let given = Given::short(random, &without);
-    comparison.accepted(&Layout::of(chunked(&without)).file(&given))
+    let given = Given::short(comparison.caller, random, &without);
+    comparison.accepted(&Layout::of(chunked(comparison.caller, &without)).file(&given))
+}
+
+/// Events of a section, which has room for more if their chains are of at most a few bytes.
+fn chunk(caller: Caller) -> usize {
+    caller.sizes().room() / 27
 }
 
 /// The segments' events in sections that are not full.
-pub fn chunked(segments: &[(usize, usize)]) -> BTreeMap<usize, Vec<usize>> {
+pub fn chunked(caller: Caller, segments: &[(usize, usize)]) -> BTreeMap<usize, Vec<usize>> {
+    let chunk = chunk(caller);
     let chunks = |events: usize| {
-        let mut counts = vec![CHUNK; events / CHUNK];
-        counts.extend((events % CHUNK > 0).then_some(events % CHUNK));
+        let mut counts = vec![chunk; events / chunk];
+        counts.extend((events % chunk > 0).then_some(events % chunk));
         counts
     };
     let held = segments.iter().filter(|(_, events)| *events > 0);

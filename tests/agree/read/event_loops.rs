@@ -1,8 +1,8 @@
-//! Event loops that do not end with their section, chains that are none, sections without events that are not alone,
-//! and events that do not follow each other: 24.
+//! Event loops that do not end with their section, chains that are none, and sections without events that are not
+//! alone: 24.
 
 use super::comparison::Comparison;
-use super::event_fields::{chain_length, get, put, set_chain_length, set_start, start, EVENT_FRONT, ID};
+use super::event_fields::{chain_length, set_chain_length, EVENT_FRONT};
 use super::file::{File, CRC, FRONT};
 use super::given::Given;
 use super::layout::{rival, Layout};
@@ -10,23 +10,18 @@ use crate::random::Random;
 
 pub fn run(comparison: &mut Comparison) -> Result<(), String> {
     let random = &mut comparison.groups.begin("event loops");
-    for _ in 0..3 {
-        for segments in [&[(0, 1)][..], &[(0, 4), (2, 3)], &[(1, 6), (33, 5), (65, 2)]] {
-            let given = Given::short(random, segments);
-            let file = rival(random, &given);
-            for place in file.places_with(1) {
-                ends(comparison, random, &file, place)?;
-                chains(comparison, random, &file, place)?;
-            }
-            order_in_section(comparison, &file)?;
-            ids(comparison, random, &file)?;
+    for segments in [&[(0, 1)][..], &[(0, 4), (2, 3)], &[(1, 6), (33, 5), (65, 2)]].repeat(3) {
+        let given = Given::short(comparison.caller, random, segments);
+        let file = rival(random, &given);
+        for place in file.places_with(1) {
+            ends(comparison, random, &file, place)?;
+            chains(comparison, random, &file, place)?;
         }
     }
     for _ in 0..12 {
-        order_of_sections(comparison, random)?;
         without_events(comparison, random)?;
     }
-    many_ids(comparison, random)
+    Ok(())
 }
 
 /// Stray bytes behind the last event, and chain lengths that the section does not have.
@@ -87,71 +82,9 @@ fn chains(comparison: &mut Comparison, random: &mut Random, file: &File, place: 
     Ok(())
 }
 
-/// Starts that are equal, and that fall, inside a section.
-fn order_in_section(comparison: &mut Comparison, file: &File) -> Result<(), String> {
-    for place in file.places_with(2) {
-        let events = file.events_in(place);
-        for two in events.windows(2) {
-            let starts = [two[0], two[1]].map(|event| start(&file.sections[place], event));
-            let equal = file.with(place, |section| set_start(section, two[1], starts[0]));
-            comparison.refused(24, place, &equal)?;
-            let fall = file.with(place, |section| {
-                set_start(section, two[0], starts[1]);
-                set_start(section, two[1], starts[0]);
-            });
-            comparison.refused(24, place, &fall)?;
-        }
-    }
-    Ok(())
-}
-
-/// Starts that are equal to the last one of the section before, or before it, and one that is the next second.
-fn order_of_sections(comparison: &mut Comparison, random: &mut Random) -> Result<(), String> {
-    let given = Given::short(random, &[(0, 2), (2, 7)]);
-    let counts = random.pick(&[&[1, 1, 5][..], &[3, 4], &[2, 2, 3], &[6, 1]]);
-    let cuts = [(0, vec![2]), (2, counts.to_vec())].into();
-    let file = Layout::of(cuts).file(&given);
-    comparison.accepted(&file)?;
-    for place in 3..file.sections.len() {
-        let before = *file.events_in(place - 1).last().expect("an event");
-        let latest = start(&file.sections[place - 1], before);
-        let first = file.events_in(place)[0];
-        for back in [0, 1, 2] {
-            let changed = file.with(place, |section| set_start(section, first, latest - back));
-            let number = comparison.alike(&changed.bytes(), file.base_day)?.number;
-            if number != 24 {
-                let fault = format!("a start {back} seconds before the last section's is {number}");
-                return Err(comparison.describe(&fault, &changed.bytes(), file.base_day, None));
-            }
-        }
-        if latest + 1 < start(&file.sections[place], first) {
-            comparison.accepted(&file.with(place, |section| set_start(section, first, latest + 1)))?;
-        }
-    }
-    Ok(())
-}
-
-/// Each id again: later in the section, in a later section, and in a later table.
-fn ids(comparison: &mut Comparison, random: &mut Random, file: &File) -> Result<(), String> {
-    let all: Vec<_> = (0..file.sections.len())
-        .flat_map(|place| file.events_in(place).into_iter().map(move |event| (place, event)))
-        .collect();
-    for (k, (place, event)) in all.iter().enumerate() {
-        for (earlier_place, earlier) in &all[..k] {
-            let id: [u8; 2] = get(&file.sections[*earlier_place], earlier + ID);
-            comparison.refused(24, *place, &file.with(*place, |section| put(section, event + ID, &id)))?;
-            // An id of which one byte, or all bits but one, are the same.
-            let near = [[id[0], random.byte()], [random.byte(), id[1]], [id[0] ^ 1 << random.below(8), id[1]]];
-            let changed = file.with(*place, |section| put(section, event + ID, &random.pick(&near)));
-            comparison.alike(&changed.bytes(), file.base_day)?;
-        }
-    }
-    Ok(())
-}
-
 /// A section without events in a segment of several, first or later, is not alone; in a segment of its own it is.
 fn without_events(comparison: &mut Comparison, random: &mut Random) -> Result<(), String> {
-    let given = Given::short(random, &[(0, 1), (1, 6), (2, 1)]);
+    let given = Given::short(comparison.caller, random, &[(0, 1), (1, 6), (2, 1)]);
     let counts = random.pick(&[&[1, 1, 4][..], &[3, 3], &[2, 1, 1, 2], &[1, 1, 1, 1, 1, 1]]);
     let cuts = [(0, vec![1]), (1, counts.to_vec()), (2, vec![1])].into();
     let file = Layout::of(cuts).file(&given);
@@ -161,39 +94,6 @@ fn without_events(comparison: &mut Comparison, random: &mut Random) -> Result<()
     comparison.accepted(&emptied(file.last()))?;
     for place in 1..file.last() {
         comparison.refused(24, place, &emptied(place))?;
-    }
-    Ok(())
-}
-
-/// 2,048 ids of which each has neighbours one bit away; and each of some of them again, anywhere behind.
-fn many_ids(comparison: &mut Comparison, random: &mut Random) -> Result<(), String> {
-    let given = Given::short(random, &[(0, 1_000), (5, 600), (40, 448)]);
-    let file = rival(random, &given);
-    let first_bits = random.number() as u16 & 0xF800;
-    let mut next = first_bits;
-    let mut close = file.clone();
-    for place in 0..file.sections.len() {
-        let events = file.events_in(place);
-        close = close.with(place, |section| {
-            for event in events {
-                put(section, event + ID, &next.to_be_bytes());
-                next = next.wrapping_add(1);
-            }
-        });
-    }
-    comparison.accepted(&close)?;
-    let places = close.places_with(1);
-    for _ in 0..12 {
-        let place = random.pick(&places);
-        let event = random.pick(&close.events_in(place));
-        let own = u16::from_be_bytes(get(&close.sections[place], event + ID));
-        if own > first_bits {
-            let earlier = first_bits + random.below(usize::from(own - first_bits)) as u16;
-            let again = close.with(place, |section| put(section, event + ID, &earlier.to_be_bytes()));
-            comparison.refused(24, place, &again)?;
-        }
-        let bit = close.with(place, |section| put(section, event + ID, &(own ^ 0x8000).to_be_bytes()));
-        comparison.accepted(&bit)?;
     }
     Ok(())
 }

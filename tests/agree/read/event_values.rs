@@ -19,7 +19,7 @@ pub fn run(comparison: &mut Comparison) -> Result<(), String> {
         [&[(0, 1)], &[(0, 4), (2, 3)], &[(7, 3), (8, 2)], &[(31, 3), (32, 6), (40, 1)], &[(511, 5)]];
     for segments in files {
         for base_day in [0, 49_273, BASE_DAY_MAX] {
-            let mut given = Given::short(random, segments);
+            let mut given = Given::short(comparison.caller, random, segments);
             given.base_day = base_day;
             let file = rival(random, &given);
             let places = file.places_with(1);

@@ -1,22 +1,17 @@
 //! Sections that are cut, and table_ids, lengths and CRC_32s that are wrong: 20 and 21.
 
 use super::comparison::Comparison;
-use super::event_fields::set_chain_length;
 use super::file::{set_twelve_bits, File, CRC, FRONT, SECTION_LENGTH, TABLE_ID};
 use super::given::Given;
 use super::layout::rival;
 use crate::build::seal;
-use crate::lineup::Lineup;
 use crate::other::TABLE_IDS;
 use crate::random::Random;
-
-/// What a section has for the chain of a single event.
-const CHAIN_MAX: usize = 4_066;
 
 pub fn run(comparison: &mut Comparison) -> Result<(), String> {
     let random = &mut comparison.groups.begin("frames");
     for segments in [&[][..], &[(0, 1)], &[(0, 3), (2, 2)], &[(1, 2), (33, 4)]] {
-        let given = Given::short(random, segments);
+        let given = Given::short(comparison.caller, random, segments);
         let file = rival(random, &given);
         cut_anywhere(comparison, &file)?;
         bytes_behind(comparison, random, &file)?;
@@ -26,7 +21,7 @@ pub fn run(comparison: &mut Comparison) -> Result<(), String> {
             wrong_crcs(comparison, &file, place)?;
         }
     }
-    longest(comparison, random)
+    Ok(())
 }
 
 /// The first section, the last and one between.
@@ -91,9 +86,11 @@ fn lengths(comparison: &mut Comparison, random: &mut Random, file: &File, place:
     }
     let own = file.sections[place].len() - 3;
     let any = 15 + random.below(4_081);
-    for length in (15..80).chain([any, 255, 256, 4_092, 4_093, 4_094, 4_095]).filter(|length| *length != own) {
+    let most = *comparison.caller.sizes().section_lengths().end();
+    let long = [any, 255, 256, most - 1, most, most + 1, 4_092, 4_093, 4_094, 4_095];
+    for length in (15..80).chain(long).filter(|length| *length != own) {
         let wrong = file.with_raw(place, |section| set_twelve_bits(section, SECTION_LENGTH, length));
-        let is_framed = length <= 4_093 && file.offset(place) + 3 + length <= file.bytes().len();
+        let is_framed = length <= most && file.offset(place) + 3 + length <= file.bytes().len();
         comparison.refused(if is_framed { 21 } else { 20 }, place, &wrong)?;
     }
     Ok(())
@@ -110,25 +107,4 @@ fn wrong_crcs(comparison: &mut Comparison, file: &File, place: usize) -> Result<
     let inverted = file.with_raw(place, |section| section[at..].iter_mut().for_each(|byte| *byte ^= 0xFF));
     let of_others = file.with_raw(place, |section| seal(section, 3));
     [none, inverted, of_others].iter().try_for_each(|wrong| comparison.refused(21, place, wrong))
-}
-
-/// A section filled to the last byte, and one and two bytes longer, which no section is, whatever its CRC_32.
-fn longest(comparison: &mut Comparison, random: &mut Random) -> Result<(), String> {
-    let mut lineup = Lineup::new();
-    lineup.segment(random, 0, &[CHAIN_MAX]);
-    lineup.segment(random, 1, &[CHAIN_MAX]);
-    let given = Given::new(random, lineup);
-    let file = rival(random, &given);
-    comparison.accepted(&file)?;
-    for place in [0, 1] {
-        for more in [1, 2] {
-            let longer = file.with(place, |section| {
-                let end = section.len() - CRC;
-                section.splice(end..end, vec![0; more]);
-                set_chain_length(section, FRONT, CHAIN_MAX + more);
-            });
-            comparison.refused(20, place, &longer)?;
-        }
-    }
-    Ok(())
 }

@@ -1,14 +1,15 @@
-//! What a file is made of: events, base day and identity.
+//! What a file is made of: the caller it is for, events, base day and identity.
 
 use super::file::File;
 use crate::build::{nearby, Request};
 use crate::lineup::Lineup;
 use crate::lists::{rising, List, DURATION, ID, LENGTH, MARKS, NUMBERS, OFFSET, START};
-use crate::other::{self, Built, Event, Identity, Lent};
+use crate::other::{self, Built, Caller, Event, Identity, Lent};
 use crate::pools::Pools;
 use crate::random::Random;
 
 pub struct Given {
+    pub caller: Caller,
     pub pools: Pools,
     pub list: List,
     pub base_day: u32,
@@ -17,38 +18,38 @@ pub struct Given {
 
 impl Given {
     /// The events of the lineup, and a legal base day and any identity.
-    pub fn new(random: &mut Random, lineup: Lineup) -> Given {
+    pub fn new(caller: Caller, random: &mut Random, lineup: Lineup) -> Given {
         let (pools, list) = lineup.lend(random);
-        Given::of(random, pools, list)
+        Given::of(caller, random, pools, list)
     }
 
     /// The events of the list.
-    pub fn of(random: &mut Random, pools: Pools, list: List) -> Given {
+    pub fn of(caller: Caller, random: &mut Random, pools: Pools, list: List) -> Given {
         let Request { base_day, identity, .. } = Request::legal(random, 0);
-        Given { pools, list, base_day, identity }
+        Given { caller, pools, list, base_day, identity }
     }
 
     /// Events in some of the first segments of one table or a few.
-    pub fn some(random: &mut Random) -> Given {
+    pub fn some(caller: Caller, random: &mut Random) -> Given {
         let mut lineup = Lineup::new();
         let tables = 1 + random.below(3);
         for table in rising(random, tables, 5) {
             let count = 1 + random.below(3);
             for segment in rising(random, count, 5) {
-                nearby(random, &mut lineup, (32 * table + segment) as usize);
+                nearby(caller, random, &mut lineup, (32 * table + segment) as usize);
             }
         }
-        Given::new(random, lineup)
+        Given::new(caller, random, lineup)
     }
 
     /// Segments of so many events each, by segment index, with chains of at most a few bytes.
-    pub fn short(random: &mut Random, segments: &[(usize, usize)]) -> Given {
+    pub fn short(caller: Caller, random: &mut Random, segments: &[(usize, usize)]) -> Given {
         let mut lineup = Lineup::new();
         for (index, events) in segments {
             let lengths: Vec<_> = (0..*events).map(|_| random.pick(&[0, 0, 2, 3, 5, 9])).collect();
             lineup.segment(random, *index, &lengths);
         }
-        Given::new(random, lineup)
+        Given::new(caller, random, lineup)
     }
 
     pub fn lent(&self) -> Lent<'_> {
@@ -68,9 +69,9 @@ impl Given {
         (0..self.list.count).map(event).collect()
     }
 
-    /// The file that Build makes of it, if it is packable.
+    /// The file that Build makes of it for its caller, if it is packable.
     pub fn built(&self) -> Option<File> {
-        let build = |output: &mut [u8]| other::build(&self.lent(), self.base_day, self.identity, output);
+        let build = |output: &mut [u8]| other::build(self.caller, &self.lent(), self.base_day, self.identity, output);
         let Built { number: 11, value: need } = build(&mut []) else {
             return None;
         };

@@ -19,7 +19,7 @@ const FIXED: [(usize, u8); 7] = [
 pub fn run(comparison: &mut Comparison) -> Result<(), String> {
     let random = &mut comparison.groups.begin("headers");
     for segments in [&[(0, 1)][..], &[(1, 3)], &[(0, 3), (2, 2)], &[(1, 2), (33, 4), (64, 1)]] {
-        let given = Given::short(random, segments);
+        let given = Given::short(comparison.caller, random, segments);
         let file = rival(random, &given);
         for place in 0..file.sections.len().min(6) {
             fixed_bits(comparison, &file, place)?;

@@ -6,7 +6,7 @@ use super::file::{File, LAST_SECTION_NUMBER, TABLE_ID, VERSION};
 use super::given::Given;
 use super::layout::rival;
 use crate::lineup::Lineup;
-use crate::lists::EVENTS_MAX;
+use crate::other::Caller;
 use crate::random::Random;
 
 const MB: usize = 1 << 20;
@@ -14,30 +14,32 @@ const HUGE: usize = 100 * MB;
 
 pub fn run(comparison: &mut Comparison) -> Result<(), String> {
     let random = &mut comparison.groups.begin("large");
-    let given = longest(random);
+    let given = longest(comparison.caller, random);
     let file = rival(random, &given);
     comparison.accepted(&file)?;
-    let (_, records) = comparison.read(&file.bytes(), file.base_day, RECORDS_MAX)?;
-    if !given.is_carried(&records, &file.bytes()) {
+    let (reading, records) = comparison.read(&file.bytes(), file.base_day, RECORDS_MAX)?;
+    if !given.is_carried(&records[..6 * reading.count], &file.bytes()) {
         return Err(comparison.describe("Read returned other events", &file.bytes(), file.base_day, None));
     }
     far_refusals(comparison, random, &file)?;
     huge(comparison, random, &file)
 }
 
-/// 2,048 events, four in each segment, with chains of at most 4,066 bytes.
-fn longest(random: &mut Random) -> Given {
+/// The caller's most events, four in each segment from the first on, with chains as long as its sections hold or half.
+fn longest(caller: Caller, random: &mut Random) -> Given {
+    let sizes = caller.sizes();
     let mut lineup = Lineup::new();
-    for index in 0..512 {
-        let lengths = [(); EVENTS_MAX / 512].map(|_| 4_066 - random.pick(&[0, 0, 0, 2_100]));
+    for index in 0..sizes.events / 4 {
+        let lengths = [(); 4].map(|_| sizes.chain_max() / random.pick(&[1, 1, 1, 2]));
         lineup.segment(random, index, &lengths);
     }
-    Given::new(random, lineup)
+    Given::new(caller, random, lineup)
 }
 
 /// Refusals of sections that stand more and more bytes behind the start.
 fn far_refusals(comparison: &mut Comparison, random: &mut Random, file: &File) -> Result<(), String> {
-    for bit in [16, 18, 20, 22] {
+    let farthest = file.offset(file.last());
+    for bit in [16, 17, 18, 20, 22].into_iter().filter(|bit| farthest >= 1 << bit) {
         let place = (0..file.sections.len()).find(|place| file.offset(*place) >= 1 << bit).expect("a long file");
         let changes: [(u32, fn(&mut Vec<u8>)); 4] = [
             (20, |section| section[TABLE_ID] = 0x60),

@@ -37,7 +37,10 @@ impl Layout {
         for event in given.events() {
             by_segment.entry((event.start / SEGMENT_SECONDS) as usize).or_default().push(event);
         }
-        let cuts = by_segment.into_iter().map(|(index, events)| (index, cut(random, &events))).collect();
+        let cuts = by_segment
+            .into_iter()
+            .map(|(index, events)| (index, cut(random, given.caller.sizes().room(), &events)))
+            .collect();
         let mut layout = Layout::of(cuts);
         if random.one_in(2) {
             layout.segments.resize(layout.segments.len() + random.below(TABLES - layout.segments.len() + 1), 1);
@@ -73,18 +76,18 @@ impl Layout {
     }
 }
 
-/// A rival's file of the events, which are packable.
+/// A rival's file of the events, which are packable for their caller.
 pub fn rival(random: &mut Random, given: &Given) -> File {
     Layout::rival(random, given).file(given)
 }
 
-/// A way to cut a segment's events into sections that fit, of which there are at most eight.
-fn cut(random: &mut Random, events: &[Event]) -> Vec<usize> {
-    let needed = |rest: &[Event]| pack(rest).map_or(usize::MAX, |sections| sections.len());
+/// A way to cut a segment's events into sections with so many bytes for them, of which there are at most eight.
+fn cut(random: &mut Random, room: usize, events: &[Event]) -> Vec<usize> {
+    let needed = |rest: &[Event]| pack(room, rest).map_or(usize::MAX, |sections| sections.len());
     let mut counts = Vec::new();
     let mut rest = events;
     while !rest.is_empty() {
-        let most = pack(rest).map_or(0, |sections| sections[0].len());
+        let most = pack(room, rest).map_or(0, |sections| sections[0].len());
         let left = SECTIONS_MAX - counts.len() - 1;
         let may = |count: &usize| *count == rest.len() || needed(&rest[*count..]) <= left;
         let all: Vec<_> = (1..=most).filter(may).collect();

@@ -4,10 +4,12 @@
 mod answer_faults;
 mod bits;
 mod built;
+mod callers;
 mod comparison;
 mod ends;
 mod event_fields;
 mod event_loops;
+mod event_order;
 mod event_values;
 mod file;
 mod frames;
@@ -15,6 +17,7 @@ mod given;
 mod headers;
 mod large;
 mod layout;
+mod long_sections;
 mod noise;
 mod numbering;
 mod order;
@@ -27,7 +30,7 @@ mod tags;
 pub use comparison::{Comparison, Subject};
 
 use crate::faults::shows;
-use crate::other::{self, check, check_by, frame, read, read_by, Asked, RULES};
+use crate::other::{self, check, check_by, read, read_by, Asked, Caller, READ_PAPERS};
 
 /// The groups that show most faults soonest come first.
 pub fn all_groups(comparison: &mut Comparison) -> Result<(), String> {
@@ -36,6 +39,9 @@ pub fn all_groups(comparison: &mut Comparison) -> Result<(), String> {
     headers::run(comparison)?;
     frames::run(comparison)?;
     event_loops::run(comparison)?;
+    event_order::run(comparison)?;
+    long_sections::run(comparison)?;
+    callers::run(comparison)?;
     tags::run(comparison)?;
     precedence::run(comparison)?;
     numbering::run(comparison)?;
@@ -48,20 +54,9 @@ pub fn all_groups(comparison: &mut Comparison) -> Result<(), String> {
 
 /// The faults tried, or the one that the comparison did not show. Without a fault nothing shows.
 pub fn self_check() -> Result<Vec<String>, String> {
-    let right = Subject { build: other::build, read: &read, check: &check };
-    all_groups(&mut Comparison::new(right))?;
     let mut shown = Vec::new();
-    for (fault, rules) in rule_faults::rules() {
-        shown.push(shows("Read", &fault, all_groups_by(&Asked { frame, rules: &rules }))?);
-    }
-    for (fault, frame) in rule_faults::FRAMES {
-        shown.push(shows("Read", fault, all_groups_by(&Asked { frame, rules: &RULES }))?);
-    }
-    for (fault, read) in record_faults::ALL.into_iter().chain(answer_faults::READS) {
-        shown.push(shows("Read", fault, all_groups(&mut Comparison::new(Subject { read: &read, ..right })))?);
-    }
-    for (fault, check) in answer_faults::CHECKS {
-        shown.push(shows("check", fault, all_groups(&mut Comparison::new(Subject { check: &check, ..right })))?);
+    for caller in Caller::BOTH {
+        shown.extend(self_check_for(caller)?);
     }
     if !rivals::better_files_show() {
         return Err("a file that is better than Build's passes".to_string());
@@ -70,9 +65,32 @@ pub fn self_check() -> Result<Vec<String>, String> {
     Ok(shown)
 }
 
-/// Read and check that ask for this, in the library's place.
-fn all_groups_by(asked: &Asked) -> Result<(), String> {
-    let read = |file: &[u8], base_day, records: &mut [u32]| read_by(asked, file, base_day, records);
-    let check = |file: &[u8], base_day| check_by(asked, file, base_day);
-    all_groups(&mut Comparison::new(Subject { build: other::build, read: &read, check: &check }))
+fn self_check_for(caller: Caller) -> Result<Vec<String>, String> {
+    let right = Subject { build: other::build, read: &read, check: &check };
+    let outcome = |subject: Subject| all_groups(&mut Comparison::new(caller, subject));
+    // Read and check that ask for this, in the library's place.
+    let outcome_by = |asked: &Asked| {
+        let read = |caller, file: &[u8], base_day, records: &mut [u32]| read_by(asked, caller, file, base_day, records);
+        let check = |caller, file: &[u8], base_day| check_by(asked, caller, file, base_day);
+        outcome(Subject { read: &read, check: &check, ..right })
+    };
+    outcome(right)?;
+    let [reads, checks] = ["Read", "check"].map(|call| format!("{call} for {caller}"));
+    let mut shown = Vec::new();
+    for (fault, rules) in rule_faults::rules() {
+        shown.push(shows(&reads, &fault, outcome_by(&Asked { rules: &rules, ..READ_PAPERS }))?);
+    }
+    for (fault, sizes) in rule_faults::SIZES {
+        shown.push(shows(&reads, fault, outcome_by(&Asked { sizes, ..READ_PAPERS }))?);
+    }
+    for (fault, frame) in rule_faults::FRAMES {
+        shown.push(shows(&reads, fault, outcome_by(&Asked { frame, ..READ_PAPERS }))?);
+    }
+    for (fault, read) in record_faults::ALL.into_iter().chain(answer_faults::READS) {
+        shown.push(shows(&reads, fault, outcome(Subject { read: &read, ..right }))?);
+    }
+    for (fault, check) in answer_faults::CHECKS {
+        shown.push(shows(&checks, fault, outcome(Subject { check: &check, ..right }))?);
+    }
+    Ok(shown)
 }

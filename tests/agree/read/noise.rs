@@ -5,6 +5,7 @@ use super::comparison::Comparison;
 use super::file::{close, File, CRC, FRONT, LAST_TABLE_ID, SECTION_LENGTH, TABLE_ID, VERSION};
 use super::given::Given;
 use super::layout::rival;
+use crate::other::Caller;
 use crate::random::Random;
 
 pub fn run(comparison: &mut Comparison) -> Result<(), String> {
@@ -23,7 +24,7 @@ pub fn run(comparison: &mut Comparison) -> Result<(), String> {
     }
     let mut accepted = 0;
     for _ in 0..6_000 {
-        let file = changed(random);
+        let file = changed(comparison.caller, random);
         accepted += usize::from(comparison.alike(&file.bytes(), file.base_day)?.number == 0);
     }
     (accepted > 100).then_some(()).ok_or_else(|| format!("only {accepted} changed files are accepted"))
@@ -46,9 +47,9 @@ fn any_section(random: &mut Random) -> Vec<u8> {
 }
 
 /// A rival's file of a few events with up to three changes to its bytes, or to the order of its sections.
-fn changed(random: &mut Random) -> File {
+fn changed(caller: Caller, random: &mut Random) -> File {
     let segments = random.pick(&[&[(0, 1)][..], &[(0, 4)], &[(1, 3), (2, 2)], &[(0, 2), (33, 3)]]);
-    let given = Given::short(random, segments);
+    let given = Given::short(caller, random, segments);
     let mut file = rival(random, &given);
     for _ in 0..random.below(4) {
         if file.sections.is_empty() {

@@ -19,14 +19,14 @@ const FILES: [&[(usize, usize)]; 7] = [
 pub fn run(comparison: &mut Comparison) -> Result<(), String> {
     let random = &mut comparison.groups.begin("numbering");
     // Segments of several sections, with a segment behind them and without, and a table behind.
-    let given = Given::short(random, &[(0, 5), (1, 3), (32, 2)]);
+    let given = Given::short(comparison.caller, random, &[(0, 5), (1, 3), (32, 2)]);
     let cuts = [(0, vec![2, 2, 1]), (1, vec![1, 2]), (32, vec![1, 1])];
     let file = Layout::of(cuts.into()).file(&given);
     for place in 0..file.sections.len() {
         in_place(comparison, &file, place)?;
     }
     for segments in FILES.repeat(2) {
-        let given = Given::short(random, segments);
+        let given = Given::short(comparison.caller, random, segments);
         let file = rival(random, &given);
         let sections = file.sections.len();
         let places: Vec<_> = (0..sections).filter(|_| random.below(sections) < 3).collect();
@@ -91,7 +91,7 @@ fn out_of_place(comparison: &mut Comparison, file: &File, place: usize) -> Resul
 /// Files of a section without events whose G and L are any of the first and last ones, and a section behind it.
 fn every_triple(comparison: &mut Comparison) -> Result<(), String> {
     let random = &mut comparison.groups.begin("numbers");
-    let given = Given::short(random, &[(1, 2)]);
+    let given = Given::short(comparison.caller, random, &[(1, 2)]);
     let file = rival(random, &given);
     let numbers = [0, 1, 6, 7, 8, 9, 14, 15, 16, 17, 247, 248, 249, 254, 255];
     for last in numbers {

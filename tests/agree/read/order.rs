@@ -8,7 +8,11 @@ pub const END_ORDER: [u32; 2] = [25, 27];
 /// A section where 24 is for the forbidden tag.
 pub const TAGGED: &str = "tag 0xFF";
 
-/// Read's order in a section, of two sections, at the end, and over the call; and around the forbidden tag.
+/// A section where 20 is for its length, beyond the caller's.
+pub const LONG: &str = "long section";
+
+/// Read's order in a section, of two sections, at the end, and over the call; around the forbidden tag, and around a
+/// section that is too long.
 pub fn precedences() -> Vec<Precedence> {
     let mut all = in_order("section", &SECTION_ORDER);
     for first in SECTION_ORDER {
@@ -21,5 +25,8 @@ pub fn precedences() -> Vec<Precedence> {
     let tagged = in_order(TAGGED, &SECTION_ORDER);
     all.extend(tagged.into_iter().filter(|(_, first, second)| *first == 24 || *second == 24));
     all.extend(END_ORDER.map(|second| (TAGGED, 24, second)));
+
+    all.push((LONG, 1, 20));
+    all.extend(SECTION_ORDER[1..].iter().chain(&END_ORDER).map(|second| (LONG, 20, *second)));
     all
 }

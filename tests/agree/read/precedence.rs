@@ -11,7 +11,7 @@ use super::given::Given;
 use super::layout::Layout;
 use super::order::{END_ORDER, SECTION_ORDER};
 use crate::build::Section;
-use crate::lists::EVENTS_MAX;
+use crate::other::Caller;
 use crate::random::Random;
 use crate::stock::FORBIDDEN_TAG;
 
@@ -37,8 +37,8 @@ pub fn run(comparison: &mut Comparison) -> Result<(), String> {
     Ok(())
 }
 
-/// A file with two sections to be broken, and sections behind them. Event 2,049 is in the first of them, in the second,
-/// or missing.
+/// A file with two sections to be broken, and sections behind them. The first event that is too many is in the first of
+/// them, in the second, or missing.
 #[derive(Clone)]
 pub struct Scene {
     pub file: File,
@@ -47,16 +47,17 @@ pub struct Scene {
 }
 
 impl Scene {
-    /// Which of the two has event 2,049, if one has.
-    pub fn new(random: &mut Random, limit_in: Option<usize>) -> Scene {
+    /// Which of the two has the first event that is too many for the caller, if one has.
+    pub fn new(caller: Caller, random: &mut Random, limit_in: Option<usize>) -> Scene {
+        let most = caller.sizes().events;
         let before = match limit_in {
-            Some(0) => EVENTS_MAX - random.below(VICTIM),
-            Some(_) => EVENTS_MAX - VICTIM - random.below(VICTIM),
+            Some(0) => most - random.below(VICTIM),
+            Some(_) => most - VICTIM - random.below(VICTIM),
             None => 2 + random.below(30),
         };
         let segments = [(0, before / 2), (2, before - before / 2), (3, VICTIM), (5, VICTIM), (33, 1)];
-        let given = Given::short(random, &segments);
-        let file = Layout::of(chunked(&segments)).file(&given);
+        let given = Given::short(caller, random, &segments);
+        let file = Layout::of(chunked(caller, &segments)).file(&given);
         // The sections of segments 3, 4, which is empty, and 5, then the empty first segment of the next table, and the
         // last.
         let last = file.last();
@@ -133,7 +134,7 @@ fn break_rule(random: &mut Random, section: &mut Vec<u8>, number: u32) {
 fn in_section(comparison: &mut Comparison, random: &mut Random, broken: &[u32]) -> Result<(), String> {
     let victim = random.below(2);
     let limit_in = broken.contains(&26).then_some(victim);
-    let scene = Scene::new(random, limit_in).broken(random, victim, broken);
+    let scene = Scene::new(comparison.caller, random, limit_in).broken(random, victim, broken);
     comparison.refused(broken[0], scene.victims[victim], &scene.file)?;
     comparison.answers((1, 0), &scene.file.bytes(), 65_473)?;
     comparison.tally.precedence(("call", 1, broken[0]));
@@ -146,7 +147,8 @@ fn in_section(comparison: &mut Comparison, random: &mut Random, broken: &[u32]) 
 /// Of two sections that are refused the earlier one is.
 fn of_sections(comparison: &mut Comparison, random: &mut Random, first: u32, second: u32) -> Result<(), String> {
     let limit_in = [first, second].iter().position(|number| *number == 26);
-    let scene = Scene::new(random, limit_in).broken(random, 1, &[second]).broken(random, 0, &[first]);
+    let scene =
+        Scene::new(comparison.caller, random, limit_in).broken(random, 1, &[second]).broken(random, 0, &[first]);
     comparison.refused(first, scene.victims[0], &scene.file)?;
     comparison.tally.precedence(("earlier section", first, second));
     Ok(())
@@ -155,7 +157,7 @@ fn of_sections(comparison: &mut Comparison, random: &mut Random, first: u32, sec
 /// A section's refusal comes before that of a file that ends early, and of a record buffer that is short.
 fn at_end(comparison: &mut Comparison, random: &mut Random, first: u32) -> Result<(), String> {
     let limit_in = (first == 26).then_some(0);
-    let mut scene = Scene::new(random, limit_in).broken(random, 0, &[first]);
+    let mut scene = Scene::new(comparison.caller, random, limit_in).broken(random, 0, &[first]);
     let offset = scene.file.offset(scene.victims[0]);
     scene.file.sections.truncate(scene.victims[0] + 1 + random.below(3));
     comparison.answers((first, offset), &scene.file.bytes(), scene.file.base_day)?;
@@ -168,7 +170,7 @@ fn at_end(comparison: &mut Comparison, random: &mut Random, first: u32) -> Resul
 
 /// A file that ends early is refused for that, whatever the record buffer; a base day is refused before both.
 fn early_and_short(comparison: &mut Comparison, random: &mut Random) -> Result<(), String> {
-    let mut file = Scene::new(random, None).file;
+    let mut file = Scene::new(comparison.caller, random, None).file;
     let whole = file.bytes();
     file.sections.pop();
     let early = file.bytes();

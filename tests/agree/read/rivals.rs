@@ -6,8 +6,7 @@ use super::given::Given;
 use super::layout::{rival, Layout};
 use crate::build::{sections, with_neighbours, Section};
 use crate::lineup::Lineup;
-use crate::lists::EVENTS_MAX;
-use crate::other::{Built, Lent};
+use crate::other::{Built, Lent, EVENT_FRONT};
 use crate::random::Random;
 
 const SEGMENTS: usize = 512;
@@ -19,19 +18,23 @@ type Held = Vec<usize>;
 pub fn run(comparison: &mut Comparison) -> Result<(), String> {
     let random = &mut comparison.groups.begin("rivals");
     for _ in 0..300 {
-        let given = Given::some(random);
+        let given = Given::some(comparison.caller, random);
         carried(comparison, random, &given)?;
     }
+    let sizes = comparison.caller.sizes();
+    let longest = sizes.chain_max();
+    let empty = sizes.room() / EVENT_FRONT + 60;
+    let segments = [vec![0; 9], vec![longest / 4; 20], vec![longest; 8], vec![0; empty], vec![longest / 14; 60]];
     for index in [0, 31, 32, 511] {
-        for lengths in [vec![0; 9], vec![1_000; 20], vec![4_066; 8], vec![0; 400], vec![300; 60]] {
-            let (pools, list) = with_neighbours(random, index, &lengths);
-            let given = Given::of(random, pools, list);
+        for lengths in &segments {
+            let (pools, list) = with_neighbours(comparison.caller, random, index, lengths);
+            let given = Given::of(comparison.caller, random, pools, list);
             carried(comparison, random, &given)?;
         }
     }
-    for events_each in [4, EVENTS_MAX] {
-        let segments: Vec<_> = (0..EVENTS_MAX / events_each).map(|index| (index, events_each)).collect();
-        let given = Given::short(random, &segments);
+    for events_each in [4, sizes.events] {
+        let segments: Vec<_> = (0..sizes.events / events_each).map(|index| (index, events_each)).collect();
+        let given = Given::short(comparison.caller, random, &segments);
         carried(comparison, random, &given)?;
     }
     no_events(comparison, random)
@@ -41,7 +44,7 @@ pub fn run(comparison: &mut Comparison) -> Result<(), String> {
 fn no_events(comparison: &mut Comparison, random: &mut Random) -> Result<(), String> {
     for tables in 1..=16 {
         for segments in [1, 2, 31, 32] {
-            let given = Given::new(random, Lineup::new());
+            let given = Given::new(comparison.caller, random, Lineup::new());
             let layout = Layout { cuts: Default::default(), segments: vec![segments; tables] };
             comparison.accepted(&layout.file(&given))?;
         }
@@ -62,7 +65,7 @@ fn carried(comparison: &mut Comparison, random: &mut Random, given: &Given) -> R
         let lent = Lent { list: records, count: reading.count, day: &bytes, series: &[] };
         let mut output = vec![0; bytes.len()];
         // Build's file is never the longer one.
-        let built = (comparison.subject.build)(&lent, given.base_day, given.identity, &mut output);
+        let built = (comparison.subject.build)(given.caller, &lent, given.base_day, given.identity, &mut output);
         match built {
             Built { number: 0, value } => match better(&held(&bytes)?, &held(&output[..value])?) {
                 None => return Ok(()),

@@ -1,25 +1,36 @@
 //! Faults of what Read asks of a section: the other implementation with other rules stands in for the library.
 
-use crate::other::{frame, frame_within, Before, Frame, IsChain, Received, Rule, RULES, SECTION_LENGTHS, TABLE_IDS};
+use crate::other::{frame, frame_within, Before, Caller, Frame, IsChain, Received, Rule, Sizes, RULES, TABLE_IDS};
 use crate::wrong_chains;
 use std::collections::HashSet;
 
 /// The order of the checks that can change places: 20 finds the section.
 const ORDER: [u32; 5] = [21, 22, 23, 24, 26];
 
-pub const FRAMES: [(&str, Frame); 6] = [
-    ("takes table_id 0x4F", |bytes| frame_within(0x4F..=0x5F, SECTION_LENGTHS, bytes)),
-    ("takes table_id 0x60", |bytes| frame_within(0x50..=0x60, SECTION_LENGTHS, bytes)),
-    ("takes a section_length of 14", |bytes| frame_within(TABLE_IDS, 14..=4_093, bytes)),
-    ("takes a section_length of 4,094", |bytes| frame_within(TABLE_IDS, 15..=4_094, bytes)),
-    ("says 20 for bits that are not 1111", |bytes| frame(bytes).filter(|section| section[1] >> 4 == 0b1111)),
-    ("takes a section that is cut", |bytes| frame(bytes).or((bytes.len() >= 18).then_some(bytes))),
+/// Faults of the caller's sizes, for 20 and 26.
+pub const SIZES: [(&str, fn(Caller) -> Sizes); 4] = [
+    ("takes the other caller's sections", |caller| Sizes { section: caller.other().sizes().section, ..caller.sizes() }),
+    ("takes the other caller's events", |caller| Sizes { events: caller.other().sizes().events, ..caller.sizes() }),
+    ("takes an event too many", |caller| Sizes { events: caller.sizes().events + 1, ..caller.sizes() }),
+    ("does not take the last event", |caller| Sizes { events: caller.sizes().events - 1, ..caller.sizes() }),
+];
+
+pub const FRAMES: [(&str, Frame); 7] = [
+    ("takes table_id 0x4F", |sizes, bytes| frame_within(0x4F..=0x5F, sizes.section_lengths(), bytes)),
+    ("takes table_id 0x60", |sizes, bytes| frame_within(0x50..=0x60, sizes.section_lengths(), bytes)),
+    ("takes a section a byte too short", |sizes, bytes| frame_within(TABLE_IDS, 14..=sizes.section - 3, bytes)),
+    ("takes a section a byte too long", |sizes, bytes| frame_within(TABLE_IDS, 15..=sizes.section - 2, bytes)),
+    ("takes no section of the caller's size", |sizes, bytes| frame_within(TABLE_IDS, 15..=sizes.section - 4, bytes)),
+    ("says 20 for bits that are not 1111", |sizes, bytes| {
+        frame(sizes, bytes).filter(|section| section[1] >> 4 == 0b1111)
+    }),
+    ("takes a section that is cut", |sizes, bytes| frame(sizes, bytes).or((bytes.len() >= 18).then_some(bytes))),
 ];
 
 /// What a fault asks, and the rule in whose place it does.
 type Replaced = (&'static str, &'static str, fn(&Received, &Before) -> bool);
 
-const REPLACED: [Replaced; 27] = [
+const REPLACED: [Replaced; 26] = [
     ("takes any bits before the version but 00", "bits 11", |section, _| section.bytes[5] >> 6 != 0),
     ("takes last_table_ids below 0x50", "last_table_id in range", |section, _| section.header.last_table_id < 0x60),
     ("takes last_table_ids above 0x5F", "last_table_id in range", |section, _| section.header.last_table_id > 0x4F),
@@ -91,10 +102,9 @@ const REPLACED: [Replaced; 27] = [
         let is_new = |id: u16| !before.ids.contains(&id) && !before.ids.contains(&(id ^ 0x8000));
         section.events.iter().all(|event| is_new(event.id) && ids.insert(event.id & 0x7FFF))
     }),
-    ("does not look at events behind number 2,048", "durations of a second or more", |section, before| {
-        section.events.iter().take(2_048 - before.events).all(|event| event.duration > 0)
+    ("does not look at events that are too many", "durations of a second or more", |section, before| {
+        section.events.iter().take(before.events_left).all(|event| event.duration > 0)
     }),
-    ("refuses event 2,048", "at most 2,048 events", |section, before| before.events + section.events.len() < 2_048),
 ];
 
 fn are_chains(section: &Received, is_chain: IsChain) -> bool {

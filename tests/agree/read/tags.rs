@@ -11,6 +11,7 @@ use super::order::{END_ORDER, SECTION_ORDER, TAGGED};
 use super::precedence::Scene;
 use crate::lineup::Lineup;
 use crate::lists::{List, MARKS};
+use crate::other::Caller;
 use crate::pools::{Pool, Pools};
 use crate::random::Random;
 use crate::stock::{FORBIDDEN_TAG, HIGHEST_LEGAL_TAG};
@@ -18,7 +19,8 @@ use crate::tagged::ends_and_one_between;
 
 pub fn run(comparison: &mut Comparison) -> Result<(), String> {
     let random = &mut comparison.groups.begin("tags");
-    for given in [several(random), full_of_the_byte(random)] {
+    let caller = comparison.caller;
+    for given in [several(caller, random), full_of_the_byte(caller, random)] {
         let built = given.built().expect("a few events are packable");
         for file in [built, rival(random, &given)] {
             in_file(comparison, random, &file)?;
@@ -35,24 +37,25 @@ pub fn run(comparison: &mut Comparison) -> Result<(), String> {
 }
 
 /// Chains of several lengths, in Build's file also in the first section and in the last.
-fn several(random: &mut Random) -> Given {
+fn several(caller: Caller, random: &mut Random) -> Given {
     let mut lineup = Lineup::new();
-    let segments = [(0, &[2, 40, 0][..]), (1, &[300, 3, 700]), (3, &[12]), (33, &[0, 4_066, 60])];
+    let longest = caller.sizes().chain_max();
+    let segments = [(0, &[2, 40, 0][..]), (1, &[300, 3, 700]), (3, &[12]), (33, &[0, longest, 60])];
     for (index, lengths) in segments {
         lineup.segment(random, index, lengths);
     }
-    Given::new(random, lineup)
+    Given::new(caller, random, lineup)
 }
 
 /// Chains with the forbidden tag's byte wherever else it may be, two of them as long as their pools.
-fn full_of_the_byte(random: &mut Random) -> Given {
+fn full_of_the_byte(caller: Caller, random: &mut Random) -> Given {
     let pools = Pools { day: Pool::of_forbidden_bytes(random), series: Pool::of_forbidden_bytes(random) };
     let mut list = List::sound(random, &pools, 6, 6 * 6);
     for (place, marks) in [(0, 1), (5, 6)] {
         let length = pools.of_marks(marks).bytes().len() as u32;
         list.set(place, MARKS, &[marks, 0, length]);
     }
-    Given::of(random, pools, list)
+    Given::of(caller, random, pools, list)
 }
 
 /// The tag for the first descriptor of each event, one between and the last, and for one more in front of them.
@@ -65,7 +68,7 @@ fn in_file(comparison: &mut Comparison, random: &mut Random, file: &File) -> Res
                 both_tags(comparison, file, place, |section, tag| section[starts[descriptor]] = tag)?;
             }
             // A full section has no room for one more.
-            if file.sections[place].len() < 4_000 {
+            if file.sections[place].len() + 2 <= comparison.caller.sizes().section {
                 both_tags(comparison, file, place, |section, tag| put_descriptor(section, event, tag))?;
             }
         }
@@ -88,7 +91,7 @@ fn both_tags(
 /// Both tags in a section that asks for one more refusal: of it and 24 the first one comes, and without 24 it does.
 fn in_section(comparison: &mut Comparison, random: &mut Random, number: u32) -> Result<(), String> {
     let victim = random.below(2);
-    let scene = Scene::new(random, (number == 26).then_some(victim));
+    let scene = Scene::new(comparison.caller, random, (number == 26).then_some(victim));
     for (tag, first) in [(FORBIDDEN_TAG, number.min(24)), (HIGHEST_LEGAL_TAG, number)] {
         let scene = scene.clone().with_tag(random, victim, tag).broken(random, victim, &[number]);
         comparison.refused(first, scene.victims[victim], &scene.file)?;
@@ -99,7 +102,7 @@ fn in_section(comparison: &mut Comparison, random: &mut Random, number: u32) -> 
 
 /// Both tags in a file that ends early, with a record buffer that is short.
 fn at_end(comparison: &mut Comparison, random: &mut Random) -> Result<(), String> {
-    let mut scene = Scene::new(random, None);
+    let mut scene = Scene::new(comparison.caller, random, None);
     scene.file.sections.truncate(scene.victims[1] + 1);
     let [tagged, legal] = [FORBIDDEN_TAG, HIGHEST_LEGAL_TAG].map(|tag| scene.clone().with_tag(random, 1, tag).file);
     comparison.refused(24, scene.victims[1], &tagged)?;
