@@ -4,8 +4,9 @@
  *
  * A call serves one of two callers, broadcast or cable, which differ in their sizes alone: how many events a list or
  * file has at most, and how many bytes a section. Serve one caller with all calls that belong together, in the standby
- * generator, too: what is made for cable is taken for broadcast, but packed otherwise, and a list or file that is made
- * for broadcast can be refused for cable. docs/MANUAL.md, "Which caller", says what to do about it.
+ * generator, too: the same list can be packed otherwise for the other. What is made for cable is taken for broadcast,
+ * but a list or file that is made for broadcast can be refused for cable. docs/MANUAL.md, "Which caller", says what to
+ * do about it.
  *
  * What each call returns and leaves is proved for every input that keeps the following:
  *

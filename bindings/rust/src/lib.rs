@@ -42,8 +42,8 @@ use std::error::Error;
 use std::fmt::{self, Display, Formatter};
 
 /// Whom a call serves. The two differ in their sizes alone. Serve one with all calls that belong together, in the
-/// standby generator, too: what is made for cable is taken for broadcast, but packed otherwise, and a list or file that
-/// is made for broadcast can be refused for cable.
+/// standby generator, too: the same list can be packed otherwise for the other. What is made for cable is taken for
+/// broadcast, but a list or file that is made for broadcast can be refused for cable.
 #[derive(Clone, Copy, Debug, PartialEq, Eq)]
 #[repr(u8)]
 pub enum Caller {
