@@ -5,10 +5,11 @@ use Rattle.eit.specs.Pools.{choose}
 use Rattle.eit.specs.Records.{recordsOf}
 use Rattle.eit.specs.Events.{follows}
 use Rattle.eit.specs.Sound.{sound, eventsOf}
+use Rattle.eit.specs.Placing.{placingIn}
 use Rattle.eit.specs.Examples.{Examples}
 
 pub examples : Examples
-unfolding sound eventsOf recordsOf follows choose isChain
+unfolding sound eventsOf recordsOf follows choose isChain placingIn
 examples =
     record {
       most = refl;
@@ -39,6 +40,16 @@ examples =
       events = refl;
       position = (refl, refl);
       place = (refl, refl, refl);
+      search-before = refl;
+      search-on = refl;
+      search-between = refl;
+      search-behind = refl;
+      search-none = refl;
+      search-equal = refl;
+      search-falling = refl;
+      search-list = (refl, refl);
+      search-count = refl;
+      search-buffer = (refl, refl);
       numbers = (refl, refl);
       lent-pools = (refl, refl);
       lent-list = (refl, refl);

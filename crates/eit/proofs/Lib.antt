@@ -28,5 +28,7 @@ pub mod SameEvent
 pub mod Among
 -- what soundness says, part by part
 pub mod Sound
+-- the search for the place of a start: what it gives, and its passes
+pub mod Placing
 -- the examples, computed
 pub mod Examples

@@ -1,6 +1,6 @@
--- Chains, soundness and events computed from raw numbers (01, "Event record and sound list"; 02, W-202): each limit at
--- its two sides, each fault, and the order of a record's six numbers. The value is in proofs/Examples.antt. Assumes
--- nothing.
+-- Chains, soundness, events and the search for a place computed from raw numbers (01, "Event record and sound list";
+-- 02, W-202, W-203): each limit at its two sides, each fault, and the order of a record's six numbers. The value is in
+-- proofs/Examples.antt. Assumes nothing.
 use Prim.Native.Nat.{ℕ}
 use mathlib.Core.Path.{_≡_}
 use mathlib.Core.Bool.{Bool, true, false}
@@ -12,6 +12,7 @@ use Rattle.eit.specs.Records.{EventList, lentList, recordsOf}
 use Rattle.eit.specs.Pools.{Pools, lentPools, poolOf}
 use Rattle.eit.specs.Find.{positionOf, placeOf}
 use Rattle.eit.specs.Sound.{idsOf, startsOf, sound, eventsOf}
+use Rattle.eit.specs.Placing.{placing, placingIn}
 use Rattle.eit.specs.declared.Record.{Record}
 
 -- one descriptor in each pool
@@ -66,6 +67,21 @@ pub record Examples : Type 0 where
       ∷ record { id = 4; start = 5; duration = 6; offAir = false; freeCa = true; chain = 0x4E ∷ 0 ∷ [] } ∷ []
   pub position : (positionOf 4 records ≡ 1) × (positionOf 9 records ≡ 2)
   pub place : (placeOf 1 records ≡ 0) × (placeOf 2 records ≡ 1) × (placeOf 5 records ≡ 2)
+  -- 02, W-203: the place and how many are looked at, for a start before all, on a record, between two, behind all; of
+  -- no starts, of equal ones, and of some that do not rise
+  pub search-before : placing 9 (10 ∷ 20 ∷ 30 ∷ []) ≡ record { place = 0; looked = 1 }
+  pub search-on : placing 20 (10 ∷ 20 ∷ 30 ∷ []) ≡ record { place = 2; looked = 3 }
+  pub search-between : placing 21 (10 ∷ 20 ∷ 30 ∷ []) ≡ record { place = 2; looked = 3 }
+  pub search-behind : placing 30 (10 ∷ 20 ∷ 30 ∷ []) ≡ record { place = 3; looked = 3 }
+  pub search-none : placing 0 [] ≡ record { place = 0; looked = 0 }
+  pub search-equal : placing 20 (20 ∷ 20 ∷ 21 ∷ 20 ∷ []) ≡ record { place = 2; looked = 3 }
+  pub search-falling : placing 20 (10 ∷ 25 ∷ 5 ∷ 40 ∷ []) ≡ record { place = 1; looked = 2 }
+  -- over a lent list: records as many as it counts, and as its buffer holds
+  pub search-list : (placingIn 1 two ≡ record { place = 0; looked = 1 })
+      × (placingIn 2 two ≡ record { place = 1; looked = 2 })
+  pub search-count : placingIn 9 (lentList (two .buffer) 1) ≡ record { place = 1; looked = 1 }
+  pub search-buffer : (placingIn 9 (lentList (two .buffer) 3) ≡ record { place = 2; looked = 2 })
+      × (placingIn 9 (lentList (1 ∷ 2 ∷ 3 ∷ 5 ∷ 0 ∷ 3 ∷ 4 ∷ 5 ∷ 6 ∷ 3 ∷ 0 ∷ []) 3) ≡ record { place = 1; looked = 1 })
   pub numbers : (idsOf records ≡ 1 ∷ 4 ∷ []) × (startsOf records ≡ 2 ∷ 5 ∷ [])
   -- what a call is lent: the day pool before the series pool, the buffer before the count
   pub lent-pools : (poolOf (lentPools (1 ∷ []) (2 ∷ [])) 0 ≡ 1 ∷ []) × (poolOf (lentPools (1 ∷ []) (2 ∷ [])) 2 ≡ 2 ∷ [])

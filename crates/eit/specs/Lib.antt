@@ -13,4 +13,6 @@ pub mod Records  -- records in the lent buffer
 pub mod Find  -- the position of an id and the place of a start
 pub mod Events  -- what a record stands for, and `follows`
 pub mod Sound  -- soundness, and the events of a list
+pub mod Placing  -- the search for the place of a start
+pub mod PlaceSearch  -- what document 02 claims of it
 pub mod Examples  -- soundness and events computed from raw numbers

@@ -27,6 +27,12 @@ pub struct Record {
     pub chain_length: u32,
 }
 
+// What the search for the place of a start gives (02, W-203): the place, and how many records it looked at.
+pub struct Place {
+    pub place: usize,
+    pub looked: usize,
+}
+
 // The least start of an event that may stand behind this one.
 pub fn least_behind(event: Record) -> u64
     ensures { λ r. ⌜ r ≡ leastBehind (eventWith event []) ⌝ }
