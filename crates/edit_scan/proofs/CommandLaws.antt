@@ -10,15 +10,16 @@ use mathlib.Core.List.{List, [], _∷_}
 use Prim.Native.Nat.{ℕ, zero, suc, _+_, _-_, _*_, _/_, _%_, _^_, _≤_, _<_}
 use native.Mathlib.Nat.{zero-add}
 use native.Mathlib.Omega.{arith}
-use lib.Dec.{T, ltb, leb, ltb→lt}
+use lib.Dec.{T, eqb, ltb, leb, ltb→lt}
 use lib.ListN.{length, getD, drop, length-drop, drop-of-length-le}
 use lib.Seq.{drop-cons, drop-drop}
 use borrow.Author.Tests.{lt-ltb, le-ltb, ne-eqb}
 use Rattle.eit.proofs.Test.{and-left, and-right, true-is, false-is, test-or, le-or-lt}
 use Rattle.script.specs.Form.{Edit, Command, doEdit, undo, isCommand, operandBytes, commandOf, isWhole}
-use Rattle.script.specs.Form.{Form, commands, broken, before, formFrom, formOf}
+use Rattle.script.specs.Form.{Form, commands, broken, before, formFrom, formOf, offsetOf}
 use Rattle.script.proofs.Form.{whole-room, form-whole, form-broken, by-code, before-only}
 use Rattle.edit_scan.specs.Commands.{formFound, isWholeAt, wholeFrom, commandsAt}
+use Rattle.edit_scan.specs.Places.{isUndo}
 use Rattle.edit_scan.specs.declared.scan.Form as scanned
 use Rattle.edit_scan.specs.declared.scan.Form.the-variants.{Whole, Broken}
 
@@ -160,21 +161,29 @@ module _ (at : ℕ) (script : List ℕ) where
 
   -- ---- the form from an offset on
 
+  pub form-here : (next : ℕ)
+      → next ≡ at + (1 + operandBytes (getD script at 0))
+      → T (isWholeAt at script)
+      → formFrom 0 at (drop at script)
+      ≡ before (commandOf (getD script at 0) at (drop (suc at) script)) (formFrom 0 next (drop next script))
+  form-here next e whole =
+      let code : ℕ = getD script at 0 in
+      let same : at + 1 + operandBytes code ≡ next = omega arith in
+      rw (
+        drop-cons script at 0 (whole-here whole),
+        form-whole code at (drop (suc at) script) (whole-is whole),
+        behind,
+        same,
+      )
+
   pub form-next : (next : ℕ)
       → next ≡ at + (1 + operandBytes (getD script at 0))
       → T (isWholeAt at script)
       → (n : ℕ)
       → formAfter n (formFrom 0 at (drop at script)) ≡ formAfter (n + 1) (formFrom 0 next (drop next script))
   form-next next e whole n =
-      let code : ℕ = getD script at 0 in
-      let same : at + 1 + operandBytes code ≡ next = omega arith in
-      rw (
-        drop-cons script at 0 (whole-here whole),
-        form-whole code at (drop (suc at) script) (whole-is whole),
-        after-more n (commandOf code at (drop (suc at) script)),
-        behind,
-        same,
-      )
+      ap (formAfter n) (form-here next e whole)
+      ∙ after-more n (commandOf (getD script at 0) at (drop (suc at) script)) (formFrom 0 next (drop next script))
 
   pub form-stop : at < length script → T (not (isWholeAt at script)) → formFrom 0 at (drop at script) ≡ broken at
   form-stop h t =
@@ -192,6 +201,23 @@ edit-of at bs =
     (λ n. (_, refl)) (λ n. (_, refl))
     (λ n. absurd (n refl))
 
+-- of a whole command its code tells
+module _ (at : ℕ) (script : List ℕ) (whole : T (isWholeAt at script)) where
+  known : T (isCommand (getD script at 0))
+  known =
+      let code : ℕ = getD script at 0 in
+      and-left (isCommand code) (leb (operandBytes code) (length (drop (suc at) script))) (whole-is at script whole)
+
+  pub is-undo : isUndo (commandOf (getD script at 0) at (drop (suc at) script)) ≡ eqb (getD script at 0) 0x04
+  is-undo =
+      by-code (λ (k : ℕ). isUndo (commandOf k at (drop (suc at) script)) ≡ eqb k 0x04) refl refl refl refl
+      (getD script at 0) known
+
+  pub offset-is : offsetOf (commandOf (getD script at 0) at (drop (suc at) script)) ≡ at
+  offset-is =
+      by-code (λ (k : ℕ). offsetOf (commandOf k at (drop (suc at) script)) ≡ at) refl refl refl refl
+      (getD script at 0) known
+
 pub undo-of : (at : ℕ) (bs : List ℕ) (code : ℕ) → code ≡ 0x04 → commandOf code at bs ≡ undo at
 undo-of at bs code e = ap (λ (k : ℕ). commandOf k at bs) e
 
@@ -200,11 +226,7 @@ module _ (at : ℕ) (script : List ℕ) (next : ℕ) (e : next ≡ at + (1 + ope
   pub commands-edit : (getD script at 0 ≡ 0x04 → ⊥)
       → (f : Edit) × (commandsAt at script ≡ doEdit f ∷ commandsAt next script)
   commands-edit n =
-      let code : ℕ = getD script at 0 in
-      let bs : List ℕ = drop (suc at) script in
-      let known : T (isCommand code) =
-      and-left (isCommand code) (leb (operandBytes code) (length bs)) (whole-is at script whole) in
-      let (f, is) = edit-of at bs code known n in
+      let (f, is) = edit-of at (drop (suc at) script) (getD script at 0) (known at script whole) n in
       (f, commands-next at script next e whole ∙ ap (λ (c : Command). c ∷ commandsAt next script) is)
 
   pub commands-undo : getD script at 0 ≡ 0x04 → commandsAt at script ≡ undo at ∷ commandsAt next script

@@ -3,11 +3,19 @@
 pub mod CommandLaws
 -- a command's operands, as they are read
 pub mod OperandLaws
--- what the pass over UNDOs counts
-pub mod StrikeLaws
 -- parts of a script, counted in commands
 pub mod PartLaws
--- what the answers of the passes say of a script
+-- the commands of a part by their places
+pub mod StandLaws
+-- sets of places
+pub mod PlaceLaws
+-- the places of UNDOs, as a pass notes them
+pub mod NotedLaws
+-- live edits by their places
+pub mod LiveLaws
+-- what the pass over a script counts
+pub mod StrikeLaws
+-- what its answer says of the script
 pub mod ScanLaws
 -- the examples, computed
 pub mod Examples

@@ -7,23 +7,33 @@ use lib.Dec.{ltb}
 use lib.ListN.{length, getD, drop}
 use Rattle.script.specs.Form as model
 use Rattle.script.specs.Form.{put, withdraw, move, doEdit, undo, operandBytes, commandOf, isWhole, commands, broken}
-use Rattle.script.specs.Struck.{Unstruck, unstruck, nothingAt}
+use Rattle.script.specs.Struck.{Unstruck, unstruck, nothingAt, unstruckIn}
 use Rattle.edit_scan.specs.declared.command.Command.{Command}
 use Rattle.edit_scan.specs.declared.command.Command.the-variants.{Put, Withdraw, Move, Undo}
 use Rattle.edit_scan.specs.declared.scan.Form.{Form}
 use Rattle.edit_scan.specs.declared.scan.Form.the-variants.{Whole, Broken}
-use Rattle.edit_scan.specs.declared.scan.Strikes.{Strikes}
-use Rattle.edit_scan.specs.declared.scan.Strikes.the-variants.{Enough, NothingAt}
+use Rattle.edit_scan.specs.declared.scan.Scanned as scan
+use Rattle.edit_scan.specs.declared.scan.Scanned.{Scanned}
 
 -- 3 over the script: its form, and of the commands how many they are
 abbrev pub formFound : model.Form → Form
 formFound (commands cs) = Whole (length cs)
 formFound (broken at) = Broken at
 
--- 4 over the script: whether each UNDO has something to strike, without the edits that are left
-abbrev pub strikesFound : Unstruck → Strikes
-strikesFound (unstruck es) = Enough
-strikesFound (nothingAt at) = NothingAt at
+-- 3 and 4 over the script: k commands if each UNDO has something to strike
+abbrev pub strikesFound : ℕ → Unstruck → Scanned
+strikesFound k (unstruck es) = scan.the-variants.Whole k
+strikesFound k (nothingAt at) = scan.the-variants.NothingToUndo at
+
+-- 3, or 4 at an UNDO
+abbrev pub nothingFound : ℕ → model.Form → Scanned
+nothingFound undo-at (broken at) = scan.the-variants.Broken at
+nothingFound undo-at (commands cs) = scan.the-variants.NothingToUndo undo-at
+
+-- 3 comes before 4
+abbrev pub scanFound : model.Form → Scanned
+scanFound (broken at) = scan.the-variants.Broken at
+scanFound (commands cs) = strikesFound (length cs) (unstruckIn cs)
 
 -- a command whose byte stands at the offset `at`
 abbrev pub modelCommand : ℕ → Command → model.Command

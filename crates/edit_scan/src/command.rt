@@ -5,7 +5,7 @@ ghost use mathlib.Core.Path.{_≡_};
 ghost use Prim.Native.Nat.{suc};
 ghost use lib.ListN.{getD, drop};
 ghost use Rattle.script.specs.Form.{putRecord, isCommand, operandBytes, commandOf};
-ghost use Rattle.edit_scan.specs.Commands.{modelCommand};
+ghost use Rattle.edit_scan.specs.Commands.{modelCommand, isWholeAt};
 
 pub const PUT: u8 = 0x01;
 
@@ -43,6 +43,17 @@ pub fn operand_bytes(code: u8) -> usize
         return 0;
     }
     ((OPERAND_BYTES >> (8 * code)) % 256) as usize
+}
+
+// Whether a known command stands at `at` with its operands.
+pub fn is_whole_at(script: &[u8], at: usize) -> bool
+    ensures { λ r. ⌜ r ≡ isWholeAt at (now (script .entry)) ⌝ }
+{
+    if script.len() <= at {
+        return false;
+    }
+    let code = script[at];
+    is_command(code) && operand_bytes(code) <= script.len() - at - 1
 }
 
 // The record of PUT's operands, as far as there are bytes.

@@ -1,10 +1,11 @@
 // The passes over a script that come before any edit (01, "When a call says no": 3 over the script, 4 over the script),
 // and a pass that skips commands.
 use crate::command;
+use crate::places;
 ghost use mathlib.Core.Path.{_≡_};
 ghost use Rattle.script.specs.Form.{formOf};
-ghost use Rattle.script.specs.Struck.{unstruckIn};
-ghost use Rattle.edit_scan.specs.Commands.{formFound, strikesFound, isWholeAt, commandsAt, offsetBehind};
+ghost use Rattle.edit_scan.specs.Commands.{formFound, nothingFound, scanFound, commandsAt, offsetBehind};
+ghost use Rattle.edit_scan.specs.Places.{strikingNoted};
 
 // The form of a script.
 pub enum Form {
@@ -14,22 +15,14 @@ pub enum Form {
     Broken(usize),
 }
 
-// Whether each UNDO has something to strike.
-pub enum Strikes {
-    Enough,
-    // The offset of the first UNDO that has not.
-    NothingAt(usize),
-}
-
-// Whether a known command stands at `at` with its operands.
-pub fn is_whole_at(script: &[u8], at: usize) -> bool
-    ensures { λ r. ⌜ r ≡ isWholeAt at (now (script .entry)) ⌝ }
-{
-    if script.len() <= at {
-        return false;
-    }
-    let code = script[at];
-    command::is_command(code) && command::operand_bytes(code) <= script.len() - at - 1
+// What a pass over a script finds.
+pub enum Scanned {
+    // 3 and its offset: that of the first unknown command or truncated operand.
+    Broken(usize),
+    // 4 and its offset: that of the first UNDO that has nothing to strike.
+    NothingToUndo(usize),
+    // How many commands it has.
+    Whole(usize),
 }
 
 // A script is whole if its whole commands reach its end.
@@ -38,7 +31,7 @@ pub fn form_of(script: &[u8]) -> Form
 {
     let mut count: usize = 0;
     let mut at = 0;
-    while is_whole_at(script, at) {
+    while command::is_whole_at(script, at) {
         count += 1;
         at += 1 + command::operand_bytes(script[at]);
     }
@@ -48,22 +41,43 @@ pub fn form_of(script: &[u8]) -> Form
     Form::Whole(count)
 }
 
-// Whether each UNDO has something to strike: `kept` counts the edits that are not yet struck, one more for an edit and
-// one less for an UNDO, with no branch between the two that the processor would have to guess.
-pub fn strikes_in(script: &[u8]) -> Strikes
-    ensures { λ r. ⌜ r ≡ strikesFound (unstruckIn (commandsAt 0 (now (script .entry)))) ⌝ }
+// 3 over the script, and else 4 at an UNDO.
+fn unless_broken(script: &[u8], undo_at: usize) -> Scanned
+    ensures { λ r. ⌜ r ≡ nothingFound «undo_at» (formOf (now (script .entry))) ⌝ }
 {
+    if let Form::Broken(broken_at) = form_of(script) {
+        return Scanned::Broken(broken_at);
+    }
+    Scanned::NothingToUndo(undo_at)
+}
+
+// Notes for each command whether it is an UNDO, and looks whether each UNDO has something to strike: `kept` counts the
+// edits that are not yet struck, one more for an edit and one less for an UNDO, with no branch between the two that the
+// processor would have to guess. The next offset, for which the next turn waits, comes before the set is written.
+pub fn scan(script: &[u8], places: &mut [u64]) -> Scanned
+    ensures { λ r. ⌜
+        (r ≡ scanFound (formOf (now (script .entry))))
+        × (now (places .exit) ≡ strikingNoted 0 (now (places .entry)) 0 (commandsAt 0 (now (script .entry)))) ⌝ }
+{
+    let mut count: usize = 0;
     let mut kept: usize = 0;
     let mut at = 0;
-    while is_whole_at(script, at) {
-        let undo = (script[at] == command::UNDO) as usize;
+    while command::is_whole_at(script, at) {
+        let code = script[at];
+        let is_undo = code == command::UNDO;
+        let undo = is_undo as usize;
         if kept < undo {
-            return Strikes::NothingAt(at);
+            return unless_broken(script, at);
         }
         kept = kept + 1 - 2 * undo;
-        at += 1 + command::operand_bytes(script[at]);
+        at += 1 + command::operand_bytes(code);
+        places::set_place(places, count, is_undo);
+        count += 1;
     }
-    Strikes::Enough
+    if at < script.len() {
+        return Scanned::Broken(at);
+    }
+    Scanned::Whole(count)
 }
 
 // The offset behind k whole commands from `at` on, or behind as many as there are.
@@ -73,7 +87,7 @@ pub fn skip_commands(script: &[u8], at: usize, k: usize) -> usize
     let mut i = at;
     let mut left = k;
     while 0 < left {
-        if !is_whole_at(script, i) {
+        if !command::is_whole_at(script, i) {
             return i;
         }
         i += 1 + command::operand_bytes(script[i]);

@@ -1,4 +1,4 @@
--- `scan::is_whole_at` meets its contract: each return is what `isWholeAt` says after the tests before it.
+-- `command::is_whole_at` meets its contract: each return is what `isWholeAt` says after the tests before it.
 -- Assumes nothing.
 use mathlib.Core.Path.{sym, ap, _∙_}
 use Prim.Native.Nat.{ℕ, _-_}
@@ -6,8 +6,8 @@ use lib.Dec.{leb}
 use lib.ListN.{length}
 use Rattle.edit_scan.proofs.CommandLaws.{whole-beyond, whole-unknown, whole-known}
 use borrow.Author.Needs.{needs}
-use Rattle.edit_scan.proofs.scan.is_whole_at.Statement.{statement}
-use Rattle.edit_scan.proofs.scan.is_whole_at.Tie as tie
+use Rattle.edit_scan.proofs.command.is_whole_at.Statement.{statement}
+use Rattle.edit_scan.proofs.command.is_whole_at.Tie as tie
 
 returns : tie.Need-returns
 returns c = sym (whole-beyond (c .before .before .args .at) (c .before .before .args .script .now) (c .if1 .taken))
