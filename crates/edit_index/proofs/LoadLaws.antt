@@ -1,131 +1,162 @@
--- An index made from a list record by record, and written back to it record by record: each step puts one record more
--- at the end. Assumes nothing.
-use mathlib.Core.Path.{_≡_, refl, sym, ap, _∙_}
+-- An index of no records, one made from a list record by record, and the list written back record by record: each step
+-- puts one record more at the end. Assumes nothing.
+use mathlib.Core.Path.{_≡_, refl, sym, ap, ap₂, subst, _∙_}
 use mathlib.Core.Bool.{not}
-use mathlib.Core.List.{List, [], _∷_, _++_}
+use mathlib.Core.List.{List, [], _∷_, _++_, map}
 use Prim.Native.Nat.{ℕ, zero, suc, _+_, _*_, _≤_, _<_}
 use native.Mathlib.Omega.{arith}
-use lib.Dec.{T, not-T}
-use lib.ListN.{length, getD, take, drop, set, length-map, drop-of-length-le}
-use lib.Seq.{take-all, take-suc, length-take-le}
+use lib.Dec.{T, eqb}
+use lib.ListN.{length, getD, take, drop, length-map, drop-of-length-le}
+use lib.Seq.{take-all, take-suc, drop-drop, length-take-le}
 use Rattle.eit.specs.Overwrite.{overwrite}
 use Rattle.eit.specs.Among.{isAmong, allDiffer}
-use Rattle.eit.specs.Records.{recordSize, recordsIn, numbersOf, numbersOfAll}
+use Rattle.eit.specs.Records.{recordSize, frontRecord, recordsIn, numbersOf, numbersOfAll}
 use Rattle.eit.specs.Sound.{idsOf}
 use Rattle.eit.specs.declared.Record.{Record}
-use Rattle.eit.proofs.Among.{among-found, differ-at}
-use Rattle.eit.proofs.Overwrite.{over-nothing}
-use Rattle.eit.proofs.Records.{records-length, record-at, numbers-length}
-use Rattle.list_records.proofs.WriteLaws.{over-behind}
-use Rattle.script.specs.Machine.{zeroRecord}
-use Rattle.edit_index.specs.Order.{withSlot}
-use Rattle.edit_index.specs.Index.{orderLimit, slotRecord, slotRecords, Index, Loadable, Loaded, indexedNumbers}
-use Rattle.edit_index.proofs.IndexLaws.{held-length, add-records, add-index}
+use Rattle.eit.proofs.Among.{differ-snoc}
+use Rattle.eit.proofs.Overwrite.{over-nothing, over-length}
+use Rattle.eit.proofs.Records.{numbers-length, numbers-append}
+use Rattle.eit.proofs.Test.{tests, ne-test}
+use Rattle.list_records.specs.Written.{recordWritten}
+use Rattle.list_records.proofs.WriteLaws.{over-behind, written-is}
+use Rattle.edit_index.specs.Order.{slotIn, slotsIn, slotsFrom}
+use Rattle.edit_index.specs.Index.{Index, lentIndex, slotLimit, idLimit, noSlot, slotRecord, heldRecords}
+use Rattle.edit_index.specs.Index.{AllBelow, Holds, loaded, indexedNumbers, stored}
+use Rattle.edit_index.proofs.OrderLaws.{from-length}
+use Rattle.edit_index.proofs.SlotLaws.{map-joined}
+use Rattle.edit_index.proofs.IndexLaws.{held-length}
+use Rattle.edit_index.proofs.AddLaws.{add-records, add-holds}
 
--- ---- one record more
+-- ---- an index of no records
 
-id-take : (rs : List Record) (n k : ℕ) → k < n → k < length (idsOf (take n rs))
-    → getD (idsOf (take n rs)) k 0 ≡ getD (idsOf rs) k 0
-id-take [] zero k below within = absurd (omega arith)
-id-take [] (suc n) k below within = absurd (omega arith)
-id-take (r ∷ rs) zero k below within = absurd (omega arith)
-id-take (r ∷ rs) (suc n) zero below within = refl
-id-take (r ∷ rs) (suc n) (suc k) below within = id-take rs n k (omega arith) (omega arith)
+from-below : (first n : ℕ) → first + n ≤ slotLimit → AllBelow slotLimit (slotsIn (slotsFrom first n))
+from-below first zero few = tt
+from-below first (suc n) few = (omega arith, from-below (suc first) n (omega arith))
 
-id-at : (rs : List Record) (n : ℕ) (r : Record) → n < length rs → getD (idsOf rs) n 0 ≡ getD rs n r .id
-id-at [] n r within = absurd (omega arith)
-id-at (q ∷ rs) zero r within = refl
-id-at (q ∷ rs) (suc n) r within = id-at rs n r (omega arith)
+from-apart : (s first n : ℕ) → s < first → first + n ≤ slotLimit
+    → T (not (isAmong (slotIn s) (slotsIn (slotsFrom first n))))
+from-apart s first zero before few = tt
+from-apart s first (suc n) before few =
+    let one : T (not (eqb (slotIn s) (slotIn first))) = ne-test (slotIn s) (slotIn first) (λ e. omega (arith, e)) in
+    search (tests, one, from-apart s (suc first) n (omega arith) (omega arith))
 
-ids-length : (rs : List Record) → length (idsOf rs) ≡ length rs
-ids-length rs = length-map rs (λ (r : Record). r .id)
+from-differ : (first n : ℕ) → first + n ≤ slotLimit → T (allDiffer (slotsIn (slotsFrom first n)))
+from-differ first zero few = tt
+from-differ first (suc n) few =
+    search (
+      tests,
+      from-apart first (suc first) n (omega arith) (omega arith),
+      from-differ (suc first) n (omega arith),
+    )
 
--- where ids differ, the next record's is not among those before it
-next-new : (rs : List Record) → T (allDiffer (idsOf rs)) → (n : ℕ) (r : Record) → n < length rs
-    → T (not (isAmong (getD rs n r .id) (idsOf (take n rs))))
-next-new rs differ n r within =
-    not-T (isAmong (getD rs n r .id) (idsOf (take n rs)))
-    (λ a.
-    let found = among-found (getD rs n r .id) (idsOf (take n rs)) a in
-    let few : found .0 < n = omega (arith, ids-length (take n rs), length-take-le n rs (omega arith)) in
-    differ-at (idsOf rs) differ (found .0) n few (omega (arith, ids-length rs))
-    (sym (id-take rs n (found .0) few (found .1)) ∙ found .2 ∙ sym (id-at rs n r within)))
+pub holds-none : (slots order ids : List ℕ) → length slots ≡ slotLimit * recordSize → length order ≡ slotLimit
+    → length ids ≡ idLimit → ((id : ℕ) → id < idLimit → getD ids id noSlot ≡ noSlot)
+    → Holds (lentIndex slots (slotsFrom 0 (length order)) ids) 0
+holds-none slots order ids slotsAre orderIs idsAre none =
+    record {
+      slotsSize = slotsAre;
+      orderSize = from-length 0 (length order) ∙ orderIs;
+      idsSize = idsAre;
+      few = omega arith;
+      below = from-below 0 (length order) (omega arith);
+      differ = from-differ 0 (length order) (omega arith);
+      starts = refl;
+      found = none;
+    }
 
 -- ---- an index made
 
-pub load-none : (list : List ℕ) (count : ℕ) (slots order ids : List ℕ) → Index slots order ids 0 0
-    → Loaded list count 0 slots order ids
-load-none list count slots order ids x = record { index = x; records = refl }
+-- a list whose records an index can hold: few enough, with ids that differ
+pub record Loadable (list : List ℕ) (count : ℕ) : Type 0 where
+  pub few : count ≤ slotLimit
+  pub small : (i : ℕ) → i < count → slotRecord list i .id < idLimit
+  pub differ : T (allDiffer (idsOf (recordsIn count list)))
 
-module _ (list : List ℕ) (count : ℕ) (loadable : Loadable list count) (n : ℕ) (slots order ids : List ℕ)
-    (so-far : Loaded list count n slots order ids) (within : n < count) where
-  abbrev next : Record
-  next = slotRecord list n
+-- one record more
+records-more : (n : ℕ) (d : List ℕ) → recordsIn (suc n) d ≡ recordsIn n d ++ (slotRecord d n ∷ [])
+unfolding recordsIn
+records-more zero d = refl
+records-more (suc n) d =
+    let next : recordSize + n * recordSize ≡ suc n * recordSize = omega arith in
+    ap (λ (rs : List Record). frontRecord d ∷ rs)
+    (records-more n (drop recordSize d)
+    ∙ ap (λ (ns : List ℕ). recordsIn n (drop recordSize d) ++ (frontRecord ns ∷ []))
+    (drop-drop (n * recordSize) recordSize d ∙ ap (λ (k : ℕ). drop k d) next))
 
-  its-place : getD (recordsIn count list) n zeroRecord ≡ slotRecord list n
-  its-place = record-at count list n zeroRecord within
+module _ (list : List ℕ) where
+  ids-more : (n : ℕ) → idsOf (recordsIn (suc n) list) ≡ idsOf (recordsIn n list) ++ (slotRecord list n .id ∷ [])
+  ids-more n =
+      ap idsOf (records-more n list) ∙ map-joined (λ (r : Record). r .id) (recordsIn n list) (slotRecord list n ∷ [])
 
-  new : T (not (isAmong (slotRecord list n .id) (idsOf (slotRecords slots (take n order)))))
-  new =
-      rw (so-far .records)
-      (rw its-place at
-      (next-new (recordsIn count list) (loadable .differ) n zeroRecord (omega (arith, records-length count list))))
+  module _ (n : ℕ) (l : Loadable list (suc n)) where
+    parts : T (allDiffer (idsOf (recordsIn n list)))
+        × T (not (isAmong (slotRecord list n .id) (idsOf (recordsIn n list))))
+    parts = differ-snoc (idsOf (recordsIn n list)) (slotRecord list n .id) .0 (rw (ids-more n) at (l .differ))
 
-  pub load-next : (r : Record) → r ≡ slotRecord list n → (newSlots newOrder newIds : List ℕ)
-      → newSlots ≡ overwrite slots (n * recordSize) (numbersOf r) → newOrder ≡ withSlot order n n n
-      → newIds ≡ set ids (r .id) (n + 1)
-      → Loaded list count (n + 1) newSlots newOrder newIds
-  load-next r is newSlots newOrder newIds slotsAre orderIs idsAre =
-      let x = so-far .index in
-      let few : n < orderLimit = omega (arith, loadable .few) in
-      let rs : List Record = slotRecords slots (take n order) in
-      let size : length rs ≡ n = held-length slots order ids n n x in
-      let one : suc n ≡ n + 1 = omega arith in
-      let behind : drop n rs ≡ [] = drop-of-length-le rs {i = n} (omega arith) in
-      let more : take n rs ++ next ∷ drop n rs ≡ take (n + 1) (recordsIn count list) =
-      rw (take-all n rs (omega arith), behind, so-far .records, ← one)
-      (sym
-      (take-suc (recordsIn count list) n zeroRecord (omega (arith, records-length count list))
-      ∙ ap (λ (r : Record). take n (recordsIn count list) ++ (r ∷ [])) its-place)) in
-      rw (slotsAre, orderIs, idsAre, is)
-      record {
-        index = add-index slots order ids n n x n next (omega arith) few (omega arith) (loadable .small n within) new;
-        records = add-records slots order ids n n x n next (omega arith) few (omega arith) (loadable .small n within)
-            new ∙ more;
-      }
+    one-less : Loadable list n
+    one-less =
+        record { few = omega (arith, l .few); small = λ i h. l .small i (omega arith); differ = parts .0 }
+
+  module _ {x : Index} (h : Holds x 0) where
+    both : (n : ℕ) → Loadable list n
+        → Holds (loaded list n x) n × (heldRecords n (loaded list n x) ≡ recordsIn n list)
+    unfolding recordsIn
+    both zero l = (h, refl)
+    both (suc n) l =
+        let so-far = both n (one-less n l) in
+        let y : Index = loaded list n x in
+        let r : Record = slotRecord list n in
+        let rs : List Record = heldRecords n y in
+        let new : T (not (isAmong (r .id) (idsOf rs))) = rw (so-far .1) (parts n l .1) in
+        let room : n < slotLimit = omega (arith, l .few) in
+        let one : n + 1 ≡ suc n = omega arith in
+        let size : length rs ≡ n = held-length (so-far .0) in (
+          subst (Holds (loaded list (suc n) x)) one
+              (add-holds (so-far .0) room n r (omega arith) (l .small n (omega arith)) new),
+          ap (λ (m : ℕ). heldRecords m (loaded list (suc n) x)) (sym one)
+              ∙ add-records (so-far .0) room n r (omega arith)
+              ∙ ap₂ (λ (front back : List Record). front ++ r ∷ back) (take-all n rs (omega arith))
+              (drop-of-length-le rs {i = n} (omega arith))
+              ∙ ap (λ (front : List Record). front ++ (r ∷ [])) (so-far .1)
+              ∙ sym (records-more n list),
+        )
+
+    pub loaded-holds : (count : ℕ) → Loadable list count → Holds (loaded list count x) count
+    loaded-holds count l = both count l .0
+
+    pub loaded-records : (count : ℕ) → Loadable list count
+        → heldRecords count (loaded list count x) ≡ recordsIn count list
+    loaded-records count l = both count l .1
 
 -- ---- the list written back
 
-pub store-none : (list slots order : List ℕ) → list ≡ indexedNumbers list slots order 0
-store-none list slots order = sym (over-nothing list 0)
+module _ (list : List ℕ) (x : Index) where
+  more-numbers : (n : ℕ) → n < length (x .order)
+      → numbersOfAll (heldRecords (suc n) x)
+      ≡ numbersOfAll (heldRecords n x) ++ numbersOf (slotRecord (x .slots) (slotIn (getD (x .order) n 0)))
+  more-numbers n within =
+      let last : List ℕ = getD (x .order) n 0 ∷ [] in
+      ap (λ (es : List ℕ). numbersOfAll (map (slotRecord (x .slots)) (slotsIn es))) (take-suc (x .order) n 0 within)
+      ∙ ap (λ (ss : List ℕ). numbersOfAll (map (slotRecord (x .slots)) ss))
+      (map-joined slotIn (take n (x .order)) last)
+      ∙ ap numbersOfAll (map-joined (slotRecord (x .slots)) (slotsIn (take n (x .order))) (slotsIn last))
+      ∙ numbers-append (heldRecords n x) (map (slotRecord (x .slots)) (slotsIn last))
 
-module _ (list slots order : List ℕ) (n : ℕ) (within : n < length order) (fits : n * recordSize ≤ length list) where
-  more-records : numbersOfAll (slotRecords slots (take (n + 1) order))
-      ≡ numbersOfAll (slotRecords slots (take n order)) ++ numbersOf (slotRecord slots (getD order n 0))
-  more-records =
-      let one : n + 1 ≡ suc n = omega arith in
-      rw (one, take-suc order n 0 within)
-      (snoc (take n order) (getD order n 0))
-    where
-      snoc : (es : List ℕ) (s : ℕ)
-          → numbersOfAll (slotRecords slots (es ++ (s ∷ [])))
-          ≡ numbersOfAll (slotRecords slots es) ++ numbersOf (slotRecord slots s)
-      snoc [] s = refl
-      snoc (e ∷ es) s = ap (λ (ns : List ℕ). numbersOf (slotRecord slots e) ++ ns) (snoc es s)
-
-  pub store-next : (so-far next : List ℕ) → so-far ≡ indexedNumbers list slots order n
-      → next ≡ overwrite so-far (n * recordSize) (numbersOf (slotRecord slots (getD order n 0)))
-      → next ≡ indexedNumbers list slots order (n + 1)
-  store-next so-far next is written =
-      let front : List ℕ = numbersOfAll (slotRecords slots (take n order)) in
+  pub stored-is : (count : ℕ) → count * recordSize ≤ length list → count ≤ length (x .order)
+      → stored list x count ≡ indexedNumbers list x count
+  stored-is zero fits few = sym (over-nothing list 0)
+  stored-is (suc n) fits few =
+      let front : List ℕ = numbersOfAll (heldRecords n x) in
+      let r : Record = slotRecord (x .slots) (slotIn (getD (x .order) n 0)) in
       let size : 0 + length front ≡ n * recordSize =
       omega (
         arith,
-        numbers-length (slotRecords slots (take n order)),
-        length-map (take n order) (slotRecord slots),
-        length-take-le n order (omega arith),
+        numbers-length (heldRecords n x),
+        length-map (slotsIn (take n (x .order))) (slotRecord (x .slots)),
+        length-map (take n (x .order)) slotIn,
+        length-take-le n (x .order) (omega arith),
       ) in
-      written
-      ∙ ap (λ (l : List ℕ). overwrite l (n * recordSize) (numbersOf (slotRecord slots (getD order n 0)))) is
-      ∙ over-behind list 0 front (omega arith) (n * recordSize) (numbersOf (slotRecord slots (getD order n 0))) size
-      ∙ ap (overwrite list 0) (sym more-records)
+      ap (λ (ns : List ℕ). recordWritten ns n r) (stored-is n (omega arith) (omega arith))
+      ∙ written-is (overwrite list 0 front) n r (omega (arith, over-length list 0 front (omega arith)))
+      ∙ over-behind list 0 front (omega arith) (n * recordSize) (numbersOf r) size
+      ∙ ap (overwrite list 0) (sym (more-numbers n (omega arith)))

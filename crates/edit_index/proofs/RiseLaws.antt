@@ -21,7 +21,7 @@ use Rattle.eit.proofs.Test.{le-or-lt, test-or, ne-test, false-is}
 use Rattle.script.specs.Machine.{find, without, zeroRecord}
 use Rattle.script.proofs.Placing.{find-here, find-later, without-here, without-later, without-length, among-later}
 use Rattle.script.proofs.Places.{find-at, without-position}
-use Rattle.edit_index.specs.Index.{Rises}
+use Rattle.edit_index.specs.Rises.{Rises}
 use Rattle.edit_index.proofs.SlotLaws.{map-leave}
 
 pub starts-length : (rs : List Record) → length (startsOf rs) ≡ length rs
@@ -140,26 +140,6 @@ module _ (ss : List ℕ) (rises : Rises ss) (i : ℕ) (within : i < length ss) w
   others-length : suc (length others) ≡ length ss
   others-length = simp (length-append, length-take, length-drop) (omega arith)
 
-  -- the others rise
-  leave-rises : Rises others
-  leave-rises a b lt few =
-      let size : suc (length others) ≡ length ss = others-length in
-      ⊎-elim
-      (λ behind.
-      ⊎-elim
-      (λ both. omega (
-        arith,
-        leave-behind i ss a both,
-        leave-behind i ss b behind,
-        rises (suc a) (suc b) (omega arith) (omega arith),
-      ))
-      (λ before. omega
-      (arith, leave-before i ss a before, leave-behind i ss b behind, rises a (suc b) (omega arith) (omega arith)))
-      (le-or-lt i a))
-      (λ before. omega
-      (arith, leave-before i ss a (omega arith), leave-before i ss b before, rises a b lt (omega arith)))
-      (le-or-lt i b)
-
   -- none of them has its start
   leave-none : T (not (isAmong (getD ss i 0) others))
   leave-none =
@@ -212,9 +192,6 @@ module _ (id : ℕ) (rs : List Record) (a : T (isAmong id (idsOf rs))) where
 
     position-starts : positionOf id rs < length (startsOf rs)
     position-starts = omega (arith, starts-length rs, position-length id rs a)
-
-    pub without-rises : Rises (startsOf (without id rs))
-    without-rises = rw others-are (leave-rises (startsOf rs) rises (positionOf id rs) position-starts)
 
     -- its own start is not among the others
     pub own-start : T (not (isAmong (find id rs .start) (startsOf (without id rs))))

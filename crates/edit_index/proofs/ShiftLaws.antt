@@ -1,5 +1,5 @@
--- Slots that a loop moves by one place, one at a time: each step, and what is written in the end, keeps the form of one
--- overwrite. By the cuts of the order at the ends of the write. Assumes nothing.
+-- Entries that a loop moves by one place, one at a time: each step, and what is written in the end, keeps the form of
+-- one overwrite. By the cuts of the order at the ends of the write. Assumes nothing.
 use mathlib.Core.Path.{_≡_, sym, ap, _∙_}
 use mathlib.Core.List.{List, [], _∷_, _++_}
 use Prim.Native.Nat.{ℕ, suc, _+_, _-_, _≤_, _<_}
@@ -13,7 +13,7 @@ use Rattle.list_records.proofs.WriteLaws.{read-before, read-after, over-behind,
 part-length : (d : List ℕ) (from n : ℕ) → from + n ≤ length d → length (take n (drop from d)) ≡ n
 part-length d from n inside = length-take-le n (drop from d) (simp length-drop (omega arith))
 
--- ---- up: the slots from k to `end`, one higher
+-- ---- up: the entries from k to `end`, one higher
 
 abbrev pub movedUp : List ℕ → ℕ → ℕ → List ℕ
 movedUp d k end = overwrite d (k + 1) (take (end - k) (drop k d))
@@ -44,13 +44,13 @@ module _ (d : List ℕ) (end : ℕ) (room : end + 1 ≤ length d) where
       ∙ over-ahead d (k + 1) moved (omega arith) (j + 1) (x ∷ []) (omega arith)
       ∙ ap (overwrite d (j + 1)) (sym more)
 
-  -- a slot in front
+  -- an entry in front
   pub up-write : (at : ℕ) (ns : List ℕ) → at ≤ end → length ns ≡ 1
       → overwrite (movedUp d at end) at ns ≡ overwrite d at (ns ++ take (end - at) (drop at d))
   up-write at ns before size =
       over-ahead d (at + 1) (take (end - at) (drop at d)) (omega arith) at ns (omega arith)
 
--- ---- down: the slots behind `at`, one lower, up to k
+-- ---- down: the entries behind `at`, one lower, up to k
 
 abbrev pub movedDown : List ℕ → ℕ → ℕ → List ℕ
 movedDown d at k = overwrite d at (take (k - at) (drop (at + 1) d))
@@ -86,3 +86,10 @@ module _ (d : List ℕ) (at : ℕ) where
       ∙ over-one (movedDown d at k) k x (omega (arith, down-length k after (omega arith)))
       ∙ over-behind d at moved (omega arith) k (x ∷ []) (omega arith)
       ∙ ap (overwrite d at) (sym more)
+
+  -- an entry behind
+  pub down-write : (last : ℕ) (ns : List ℕ) → at ≤ last → last + 1 ≤ length d
+      → overwrite (movedDown d at last) last ns ≡ overwrite d at (take (last - at) (drop (at + 1) d) ++ ns)
+  down-write last ns after inside =
+      over-behind d at (take (last - at) (drop (at + 1) d)) (omega arith) last ns
+      (omega (arith, behind-length last after inside))

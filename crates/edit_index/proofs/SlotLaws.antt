@@ -1,43 +1,103 @@
--- The records in slots and the slot of an id, with a slot put in or taken out. By induction over the slots.
--- Assumes nothing.
-use mathlib.Core.Path.{_≡_, refl, sym, ap, ap₂, _∙_}
+-- The records in slots and the slot of an id, with a slot put in or taken out, and slots of which one moves to another
+-- place. By induction over the slots. Assumes nothing.
+use mathlib.Core.Path.{_≡_, refl, sym, ap, ap₂, subst, _∙_}
 use mathlib.Core.Logic.{⊎-elim}
-use mathlib.Core.Bool.{true, false, not}
-use mathlib.Core.List.{List, [], _∷_, _++_, map}
-use Prim.Native.Nat.{ℕ, zero, suc, _≤_, _<_}
+use mathlib.Core.Bool.{Bool, true, false, not, _&&_, _||_}
+use mathlib.Core.List.{List, [], _∷_, _++_, map, append-assoc}
+use Prim.Native.Nat.{ℕ, zero, suc, _+_, _*_, _≤_, _<_}
 use native.Mathlib.Omega.{arith}
-use lib.Dec.{T, eqb, not-T}
+use lib.Dec.{T, eqb, eqb→eq, T-not}
 use lib.ListN.{length, getD, take, drop}
-use Rattle.eit.specs.Among.{isAmong}
+use lib.Seq.{getD-drop, drop-at, length-take-le}
+use Rattle.eit.specs.Overwrite.{overwrite}
+use Rattle.eit.specs.Among.{isAmong, allDiffer}
 use Rattle.eit.specs.Find.{positionOf}
-use Rattle.eit.specs.Sound.{idsOf, startsOf}
+use Rattle.eit.specs.Records.{recordSize, frontRecord, numbersOf}
+use Rattle.eit.specs.Sound.{idsOf}
 use Rattle.eit.specs.declared.Record.{Record}
+use Rattle.eit.proofs.Among.{among-append}
 use Rattle.eit.proofs.Find.{position-here, position-later}
-use Rattle.eit.proofs.Test.{or-other, nor-left, nor-right, test-or, true-is, false-is}
-use Rattle.edit_index.specs.Index.{slotOf, AllBelow}
+use Rattle.eit.proofs.Test.{or-other, nor-left, nor-right, test-or, true-is, false-is, both-ways, eq-test, le-or-lt}
+use Rattle.list_records.specs.Written.{recordWritten}
+use Rattle.list_records.proofs.WriteLaws.{read-before, read-after, written-is}
+use Rattle.edit_index.specs.Index.{noSlot, slotRecord, slotOf, AllBelow}
+
+-- the number named for a place beyond the end does not matter before it
+pub default-free : (ns : List ℕ) (k m n : ℕ) → k < length ns → getD ns k m ≡ getD ns k n
+default-free [] k m n h = absurd (omega arith)
+default-free (s ∷ ns) zero m n h = refl
+default-free (s ∷ ns) (suc k) m n h = default-free ns k m n (omega arith)
 
 -- ---- slots below a number
 
 module _ (n : ℕ) where
-  pub below-more : (m : ℕ) (es : List ℕ) → n ≤ m → AllBelow n es → AllBelow m es
-  below-more m [] h all = tt
-  below-more m (s ∷ es) h all = (omega arith, below-more m es h (all .1))
-
-  pub below-at : (es : List ℕ) → AllBelow n es → (k : ℕ) → k < length es → getD es k 0 < n
+  pub below-at : (ss : List ℕ) → AllBelow n ss → (k : ℕ) → k < length ss → getD ss k 0 < n
   below-at [] all k h = absurd (omega arith)
-  below-at (s ∷ es) all zero h = all .0
-  below-at (s ∷ es) all (suc k) h = below-at es (all .1) k (omega arith)
+  below-at (s ∷ ss) all zero h = all .0
+  below-at (s ∷ ss) all (suc k) h = below-at ss (all .1) k (omega arith)
 
-  pub below-insert : (s : ℕ) → s < n → (p : ℕ) (es : List ℕ) → AllBelow n es → AllBelow n (take p es ++ s ∷ drop p es)
-  below-insert s h zero es all = (h, all)
-  below-insert s h (suc p) [] all = (h, tt)
-  below-insert s h (suc p) (e ∷ es) all = (all .0, below-insert s h p es (all .1))
+  pub below-front : (ss rest : List ℕ) → AllBelow n (ss ++ rest) → AllBelow n ss
+  below-front [] rest all = tt
+  below-front (s ∷ ss) rest all = (all .0, below-front ss rest (all .1))
 
-  pub below-leave : (p : ℕ) (es : List ℕ) → AllBelow n es → AllBelow n (take p es ++ drop (suc p) es)
-  below-leave zero [] all = tt
-  below-leave zero (e ∷ es) all = all .1
-  below-leave (suc p) [] all = tt
-  below-leave (suc p) (e ∷ es) all = (all .0, below-leave p es (all .1))
+  -- one of them, and the others
+  pub below-parts : (xs : List ℕ) (s : ℕ) (ys : List ℕ) → AllBelow n (xs ++ s ∷ ys) → (s < n) × AllBelow n (xs ++ ys)
+  below-parts [] s ys all = all
+  below-parts (x ∷ xs) s ys all = let rest = below-parts xs s ys (all .1) in (rest .0, (all .0, rest .1))
+
+  pub below-joined : (xs : List ℕ) (s : ℕ) (ys : List ℕ) → s < n → AllBelow n (xs ++ ys) → AllBelow n (xs ++ s ∷ ys)
+  below-joined [] s ys h all = (h, all)
+  below-joined (x ∷ xs) s ys h all = (all .0, below-joined xs s ys h (all .1))
+
+-- ---- slots that differ
+
+eqb-sym : (m n : ℕ) → eqb m n ≡ eqb n m
+eqb-sym m n =
+    both-ways (eqb m n) (eqb n m) (λ t. eq-test n m (sym (eqb→eq m n t))) (λ t. eq-test m n (sym (eqb→eq n m t)))
+
+among-one : (n : ℕ) (xs : List ℕ) (s : ℕ) (ys : List ℕ)
+    → isAmong n (xs ++ s ∷ ys) ≡ (eqb n s || isAmong n (xs ++ ys))
+among-one n [] s ys = refl
+among-one n (x ∷ xs) s ys =
+    ap (λ (b : Bool). eqb n x || b) (among-one n xs s ys) ∙ swapped (eqb n x) (eqb n s) (isAmong n (xs ++ ys))
+  where
+    swapped : (a b c : Bool) → (a || (b || c)) ≡ (b || (a || c))
+    swapped true true c = refl
+    swapped true false c = refl
+    swapped false b c = refl
+
+-- one differs from the others, and they do from each other
+pub differ-one : (xs : List ℕ) (s : ℕ) (ys : List ℕ)
+    → allDiffer (xs ++ s ∷ ys) ≡ (not (isAmong s (xs ++ ys)) && allDiffer (xs ++ ys))
+differ-one [] s ys = refl
+differ-one (x ∷ xs) s ys =
+    rw (among-one x xs s ys, differ-one xs s ys, eqb-sym x s)
+    (swapped (eqb s x) (isAmong x (xs ++ ys)) (isAmong s (xs ++ ys)) (allDiffer (xs ++ ys)))
+  where
+    swapped : (a b c d : Bool) → (not (a || b) && (not c && d)) ≡ (not (a || c) && (not b && d))
+    swapped true b c d = refl
+    swapped false true true d = refl
+    swapped false true false d = refl
+    swapped false false true d = refl
+    swapped false false false d = refl
+
+pub none-front : (n : ℕ) (xs ys : List ℕ) → T (not (isAmong n (xs ++ ys))) → T (not (isAmong n xs))
+none-front n xs ys t = nor-left (isAmong n xs) (isAmong n ys) (rw (among-append n xs ys) at t)
+
+-- ---- one slot in another place among the others
+
+module _ (s : ℕ) (xs ys to behind : List ℕ) (others : xs ++ ys ≡ to ++ behind) where
+  pub below-moved : (n : ℕ) → AllBelow n (xs ++ s ∷ ys) → AllBelow n (to ++ s ∷ behind)
+  below-moved n all =
+      let parts = below-parts n xs s ys all in
+      below-joined n to s behind (parts .0) (subst (AllBelow n) others (parts .1))
+
+  pub differ-moved : T (allDiffer (xs ++ s ∷ ys)) → T (allDiffer (to ++ s ∷ behind))
+  differ-moved t =
+      subst T
+      (differ-one xs s ys
+      ∙ ap (λ (ss : List ℕ). not (isAmong s ss) && allDiffer ss) others
+      ∙ sym (differ-one to s behind)) t
 
 -- ---- any values, mapped, with one put in or taken out
 
@@ -55,92 +115,130 @@ module _ {A B : Type 0} (f : A → B) where
   map-leave (suc p) [] = refl
   map-leave (suc p) (e ∷ es) = ap (λ (rs : List B). f e ∷ rs) (map-leave p es)
 
+  pub map-joined : (xs ys : List A) → map f (xs ++ ys) ≡ map f xs ++ map f ys
+  map-joined [] ys = refl
+  map-joined (x ∷ xs) ys = ap (λ (rs : List B). f x ∷ rs) (map-joined xs ys)
+
+  pub map-at : (es : List A) (k : ℕ) (a : A) (b : B) → k < length es → getD (map f es) k b ≡ f (getD es k a)
+  map-at [] k a b h = absurd (omega arith)
+  map-at (e ∷ es) zero a b h = refl
+  map-at (e ∷ es) (suc k) a b h = map-at es k a b (omega arith)
+
+-- ---- the slot of an id
+
 module _ (f : ℕ → Record) where
-  -- ---- records
-
-  pub map-at : (es : List ℕ) (k : ℕ) (d : Record) → k < length es → getD (map f es) k d ≡ f (getD es k 0)
-  map-at [] k d h = absurd (omega arith)
-  map-at (e ∷ es) zero d h = refl
-  map-at (e ∷ es) (suc k) d h = map-at es k d (omega arith)
-
-  pub start-at : (es : List ℕ) (k : ℕ) → k < length es → getD (startsOf (map f es)) k 0 ≡ f (getD es k 0) .start
-  start-at [] k h = absurd (omega arith)
-  start-at (e ∷ es) zero h = refl
-  start-at (e ∷ es) (suc k) h = start-at es k (omega arith)
-
-  -- ---- the slot of an id
-
-  module _ (id s : ℕ) (es : List ℕ) where
-    slot-here : T (eqb id (f s .id)) → slotOf f id (s ∷ es) ≡ suc s
+  module _ (id s : ℕ) (ss : List ℕ) where
+    slot-here : T (eqb id (f s .id)) → slotOf f id (s ∷ ss) ≡ s
     slot-here t = rw (slotOf, true-is (eqb id (f s .id)) t)
 
-    slot-later : T (not (eqb id (f s .id))) → slotOf f id (s ∷ es) ≡ slotOf f id es
+    slot-later : T (not (eqb id (f s .id))) → slotOf f id (s ∷ ss) ≡ slotOf f id ss
     slot-later t = rw (slotOf, false-is (eqb id (f s .id)) t)
 
   -- the slots behind the first one change
-  rest-changes : (id e m n : ℕ) → m ≡ n
-      → _≡_ {A = ℕ} (elim (eqb id (f e .id)) [ true ↦ suc e | false ↦ m ])
-      (elim (eqb id (f e .id)) [ true ↦ suc e | false ↦ n ])
-  rest-changes id e m n q = ap (λ (k : ℕ). elim (eqb id (f e .id)) [ true ↦ suc e | false ↦ k ]) q
+  rest-changes : (id s m n : ℕ) → m ≡ n
+      → _≡_ {A = ℕ} (elim (eqb id (f s .id)) [ true ↦ s | false ↦ m ])
+      (elim (eqb id (f s .id)) [ true ↦ s | false ↦ n ])
+  rest-changes id s m n q = ap (λ (k : ℕ). elim (eqb id (f s .id)) [ true ↦ s | false ↦ k ]) q
 
-  pub slot-insert-other : (id s : ℕ) → T (not (eqb id (f s .id))) → (p : ℕ) (es : List ℕ)
-      → slotOf f id (take p es ++ s ∷ drop p es) ≡ slotOf f id es
-  slot-insert-other id s t zero es = slot-later id s es t
+  pub slot-insert-other : (id s : ℕ) → T (not (eqb id (f s .id))) → (p : ℕ) (ss : List ℕ)
+      → slotOf f id (take p ss ++ s ∷ drop p ss) ≡ slotOf f id ss
+  slot-insert-other id s t zero ss = slot-later id s ss t
   slot-insert-other id s t (suc p) [] = slot-later id s [] t
-  slot-insert-other id s t (suc p) (e ∷ es) =
-      rest-changes id e (slotOf f id (take p es ++ s ∷ drop p es)) (slotOf f id es) (slot-insert-other id s t p es)
+  slot-insert-other id s t (suc p) (e ∷ ss) =
+      rest-changes id e (slotOf f id (take p ss ++ s ∷ drop p ss)) (slotOf f id ss) (slot-insert-other id s t p ss)
 
-  pub slot-insert-same : (id s : ℕ) → T (eqb id (f s .id)) → (p : ℕ) (es : List ℕ)
-      → T (not (isAmong id (idsOf (map f es))))
-      → slotOf f id (take p es ++ s ∷ drop p es) ≡ suc s
-  slot-insert-same id s t zero es n = slot-here id s es t
+  pub slot-insert-same : (id s : ℕ) → T (eqb id (f s .id)) → (p : ℕ) (ss : List ℕ)
+      → T (not (isAmong id (idsOf (map f ss))))
+      → slotOf f id (take p ss ++ s ∷ drop p ss) ≡ s
+  slot-insert-same id s t zero ss n = slot-here id s ss t
   slot-insert-same id s t (suc p) [] n = slot-here id s [] t
-  slot-insert-same id s t (suc p) (e ∷ es) n =
-      slot-later id e (take p es ++ s ∷ drop p es) (nor-left (eqb id (f e .id)) (isAmong id (idsOf (map f es))) n)
-      ∙ slot-insert-same id s t p es (nor-right (eqb id (f e .id)) (isAmong id (idsOf (map f es))) n)
+  slot-insert-same id s t (suc p) (e ∷ ss) n =
+      slot-later id e (take p ss ++ s ∷ drop p ss) (nor-left (eqb id (f e .id)) (isAmong id (idsOf (map f ss))) n)
+      ∙ slot-insert-same id s t p ss (nor-right (eqb id (f e .id)) (isAmong id (idsOf (map f ss))) n)
 
-  pub slot-leave-other : (id p : ℕ) (es : List ℕ) → p < length es → T (not (eqb id (f (getD es p 0) .id)))
-      → slotOf f id (take p es ++ drop (suc p) es) ≡ slotOf f id es
+  pub slot-leave-other : (id p : ℕ) (ss : List ℕ) → p < length ss → T (not (eqb id (f (getD ss p 0) .id)))
+      → slotOf f id (take p ss ++ drop (suc p) ss) ≡ slotOf f id ss
   slot-leave-other id p [] h t = absurd (omega arith)
-  slot-leave-other id zero (e ∷ es) h t = sym (slot-later id e es t)
-  slot-leave-other id (suc p) (e ∷ es) h t =
-      rest-changes id e (slotOf f id (take p es ++ drop (suc p) es)) (slotOf f id es)
-      (slot-leave-other id p es (omega arith) t)
+  slot-leave-other id zero (e ∷ ss) h t = sym (slot-later id e ss t)
+  slot-leave-other id (suc p) (e ∷ ss) h t =
+      rest-changes id e (slotOf f id (take p ss ++ drop (suc p) ss)) (slotOf f id ss)
+      (slot-leave-other id p ss (omega arith) t)
 
   -- absent, present
-  pub slot-none : (id : ℕ) (es : List ℕ) → T (not (isAmong id (idsOf (map f es)))) → slotOf f id es ≡ 0
+  pub slot-none : (id : ℕ) (ss : List ℕ) → T (not (isAmong id (idsOf (map f ss)))) → slotOf f id ss ≡ noSlot
   slot-none id [] n = refl
-  slot-none id (e ∷ es) n =
-      slot-later id e es (nor-left (eqb id (f e .id)) (isAmong id (idsOf (map f es))) n)
-      ∙ slot-none id es (nor-right (eqb id (f e .id)) (isAmong id (idsOf (map f es))) n)
+  slot-none id (s ∷ ss) n =
+      slot-later id s ss (nor-left (eqb id (f s .id)) (isAmong id (idsOf (map f ss))) n)
+      ∙ slot-none id ss (nor-right (eqb id (f s .id)) (isAmong id (idsOf (map f ss))) n)
 
-  pub slot-some : (id : ℕ) (es : List ℕ) → T (isAmong id (idsOf (map f es)))
-      → slotOf f id es ≡ suc (getD es (positionOf id (map f es)) 0)
+  pub slot-some : (id : ℕ) (ss : List ℕ) → T (isAmong id (idsOf (map f ss)))
+      → slotOf f id ss ≡ getD ss (positionOf id (map f ss)) 0
   slot-some id [] a = absurd a
-  slot-some id (e ∷ es) a =
-      ⊎-elim (λ t. rw (position-here id (f e) (map f es) t) (slot-here id e es t))
+  slot-some id (s ∷ ss) a =
+      ⊎-elim (λ t. rw (position-here id (f s) (map f ss) t) (slot-here id s ss t))
       (λ t.
-      rw (position-later id (f e) (map f es) t)
-      (slot-later id e es t ∙ slot-some id es (or-other (eqb id (f e .id)) (isAmong id (idsOf (map f es))) t a)))
-      (test-or (eqb id (f e .id)))
+      rw (position-later id (f s) (map f ss) t)
+      (slot-later id s ss t ∙ slot-some id ss (or-other (eqb id (f s .id)) (isAmong id (idsOf (map f ss))) t a)))
+      (test-or (eqb id (f s .id)))
 
-  pub slot-absent : (id : ℕ) (es : List ℕ) → slotOf f id es ≡ 0 → T (not (isAmong id (idsOf (map f es))))
-  slot-absent id es z = not-T (isAmong id (idsOf (map f es))) (λ a. omega (arith, slot-some id es a))
+-- ---- slots that hold the same records: all but one, which is not among them
 
-  pub slot-present : (id : ℕ) (es : List ℕ) → (slotOf f id es ≡ 0 → ⊥) → T (isAmong id (idsOf (map f es)))
-  slot-present id es nz =
-      ⊎-elim (λ a. a) (λ n. absurd (nz (slot-none id es n))) (test-or (isAmong id (idsOf (map f es))))
+module _ (f g : ℕ → Record) (free : ℕ) (same : (s : ℕ) → (s ≡ free → ⊥) → g s ≡ f s) where
+  first-apart : (s : ℕ) (ss : List ℕ) → T (not (isAmong free (s ∷ ss))) → s ≡ free → ⊥
+  first-apart s ss t e = T-not (eqb free s) (nor-left (eqb free s) (isAmong free ss) t) (eq-test free s (sym e))
 
--- ---- slots that hold the same records
+  pub records-same : (ss : List ℕ) → T (not (isAmong free ss)) → map g ss ≡ map f ss
+  records-same [] t = refl
+  records-same (s ∷ ss) t =
+      ap₂ (λ (r : Record) (rs : List Record). r ∷ rs) (same s (first-apart s ss t))
+      (records-same ss (nor-right (eqb free s) (isAmong free ss) t))
 
-module _ (f g : ℕ → Record) (used : ℕ) (same : (s : ℕ) → s < used → g s ≡ f s) where
-  pub records-same : (es : List ℕ) → AllBelow used es → map g es ≡ map f es
-  records-same [] all = refl
-  records-same (s ∷ es) all =
-      ap₂ (λ (r : Record) (rs : List Record). r ∷ rs) (same s (all .0)) (records-same es (all .1))
+  pub slot-same : (id : ℕ) (ss : List ℕ) → T (not (isAmong free ss)) → slotOf g id ss ≡ slotOf f id ss
+  slot-same id [] t = refl
+  slot-same id (s ∷ ss) t =
+      ap₂ (λ (r : Record) (k : ℕ). elim (eqb id (r .id)) [ true ↦ s | false ↦ k ]) (same s (first-apart s ss t))
+      (slot-same id ss (nor-right (eqb free s) (isAmong free ss) t))
 
-  pub slot-same : (id : ℕ) (es : List ℕ) → AllBelow used es → slotOf g id es ≡ slotOf f id es
-  slot-same id [] all = refl
-  slot-same id (s ∷ es) all =
-      ap₂ (λ (r : Record) (k : ℕ). elim (eqb id (r .id)) [ true ↦ suc s | false ↦ k ]) (same s (all .0))
-      (slot-same id es (all .1))
+-- ---- a record written into a slot
+
+module _ (slots : List ℕ) (s : ℕ) (r : Record) (room : s * recordSize + recordSize ≤ length slots) where
+  abbrev at : ℕ
+  at = s * recordSize
+
+  -- it stands there
+  pub slot-new : slotRecord (recordWritten slots s r) s ≡ r
+  slot-new =
+      let rest : List ℕ = drop (at + recordSize) slots in
+      ap (λ (ns : List ℕ). slotRecord ns s) (written-is slots s r room)
+      ∙ ap frontRecord
+      (ap (drop at) (append-assoc (take at slots) (numbersOf r) rest)
+      ∙ drop-at (take at slots) (numbersOf r ++ rest) at (length-take-le at slots (omega arith)))
+
+  -- the other slots stay
+  pub slot-kept : (t : ℕ) → (t ≡ s → ⊥) → slotRecord (recordWritten slots s r) t ≡ slotRecord slots t
+  slot-kept t other =
+      ap (λ (ns : List ℕ). slotRecord ns t) (written-is slots s r room)
+      ∙ (λ i. record {
+        id = number 0 (omega arith) i;
+        start = number 1 (omega arith) i;
+        duration = number 2 (omega arith) i;
+        marks = number 3 (omega arith) i;
+        offset = number 4 (omega arith) i;
+        «chain_length» = number 5 (omega arith) i;
+      })
+    where
+      with-record : List ℕ
+      with-record = overwrite slots at (numbersOf r)
+
+      one : (k : ℕ) → k < recordSize → getD with-record (t * recordSize + k) 0 ≡ getD slots (t * recordSize + k) 0
+      one k few =
+          ⊎-elim
+          (λ upto. read-after slots at (numbersOf r) (omega arith) (t * recordSize + k) (omega arith))
+          (λ before. read-before slots at (numbersOf r) (omega arith) (t * recordSize + k) (omega arith))
+          (le-or-lt s t)
+
+      number : (k : ℕ) → k < recordSize
+          → getD (drop (t * recordSize) (overwrite slots at (numbersOf r))) k 0
+          ≡ getD (drop (t * recordSize) slots) k 0
+      number k few =
+          getD-drop (t * recordSize) with-record k 0 ∙ one k few ∙ sym (getD-drop (t * recordSize) slots k 0)

@@ -1,4 +1,4 @@
--- `insert_slot` meets its contract: at each turn the slots from k on have moved up, and the slot is written in front of
+-- `insert` meets its contract: at each turn the entries from k on have moved up, and the entry is written in front of
 -- them. Assumes nothing.
 use mathlib.Core.Path.{_≡_, refl, sym}
 use mathlib.Core.Logic.{inl, inr}
@@ -8,25 +8,25 @@ use borrow.Author.Tests.{ltb-true, ltb-false}
 use lib.ListN.{length, length-set}
 use Rattle.edit_index.proofs.ShiftLaws.{movedUp, up-none, up-step}
 use Rattle.edit_index.proofs.OrderLaws.{with-full, with-beyond, with-ends}
-use Rattle.edit_index.proofs.insert_slot.Statement.{statement}
-use Rattle.edit_index.proofs.insert_slot.Tie as tie
+use Rattle.edit_index.proofs.order.insert.Statement.{statement}
+use Rattle.edit_index.proofs.order.insert.Tie as tie
 
 abbrev Inv-loop : tie.InvT-loop
-Inv-loop order₀ count place slot k₀ order k =
+Inv-loop order₀ count place entry k₀ order k =
     (place ≤ k) × (k ≤ count) × (order ≡ movedUp order₀ k count) × (length order ≡ length order₀)
 
 abbrev μ-loop : tie.MeasureT-loop
-μ-loop order₀ count place slot k₀ order k = k
+μ-loop order₀ count place entry k₀ order k = k
 
 returns : tie.Need-returns Inv-loop μ-loop
 returns c =
     let args = c .before .args in
     let d = args .order .now in
     elim (c .if1 .came) [
-      | inl w ↦ sym (with-full d (args .count) (args .place) (args .slot) (w .taken))
+      | inl w ↦ sym (with-full d (args .count) (args .place) (args .entry) (w .taken))
       | inr w ↦
           let beyond = ltb-true (args .count) (args .place) (w .1 .taken) in
-          sym (with-beyond d (args .count) (args .place) (args .slot) (w .0 .left) beyond)
+          sym (with-beyond d (args .count) (args .place) (args .entry) (w .0 .left) beyond)
     ]
 
 loop-holds : tie.Need-loop-holds Inv-loop μ-loop
@@ -77,12 +77,12 @@ returns-2 : tie.Need-returns-2 Inv-loop μ-loop
 returns-2 c =
     let loop = c .before .loop in
     let args = c .before .before .before .before .args in
-    with-ends (args .order .now) (args .count) (args .place) (args .slot) (omega arith) (omega (arith, ltb-false))
+    with-ends (args .order .now) (args .count) (args .place) (args .entry) (omega arith) (omega (arith, ltb-false))
     (loop .order) (loop .k)
     (omega arith) (loop .inv .2) (loop .inv .3)
 
-pub insert-slot-spec : {M : Type 1} → statement M
-insert-slot-spec =
+pub insert-spec : {M : Type 1} → statement M
+insert-spec =
     tie.close
     (tie.spec
     Inv-loop
