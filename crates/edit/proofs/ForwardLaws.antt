@@ -3,28 +3,22 @@
 use mathlib.Core.Path.{_≡_, refl, sym, ap, _∙_, subst}
 use mathlib.Core.Bool.{true, false}
 use mathlib.Core.List.{List, _∷_, _++_}
-use Prim.Native.Nat.{ℕ, _+_, _*_, _≤_, _<_}
+use Prim.Native.Nat.{ℕ, _+_, _≤_, _<_}
 use lib.Dec.{T}
 use lib.ListN.{length, drop, drop-of-length-le}
 use Rattle.eit.specs.declared.Sizes.{Sizes}
 use Rattle.eit.specs.Pools.{lentPools}
-use Rattle.eit.specs.Records.{EventList, lentList, recordSize}
+use Rattle.eit.specs.Records.{EventList}
 use Rattle.eit.specs.Sound.{sound}
-use Rattle.eit.proofs.Sound.{sound-list}
 use Rattle.codec.specs.Seen.{isSeen}
 use Rattle.script.specs.Form.{Command}
 use Rattle.script.specs.Struck.{live}
 use Rattle.script.specs.Edit.{Edited, run}
 use Rattle.script.proofs.Edit.{run-append, run-sound}
-use Rattle.edit.specs.Run.{editsOf, runOne}
-use Rattle.edit.specs.Live.{beginsLive, LivePlaces}
-use Rattle.edit.proofs.LiveLaws.{live-begins, live-passes}
+use Rattle.edit_scan.specs.Places.{editsOf, beginsLive, LivePlaces}
+use Rattle.edit_scan.proofs.LiveLaws.{live-begins, live-passes}
+use Rattle.edit.specs.Run.{runOne}
 use Rattle.edit.proofs.RunLaws.{none-done, run-ends}
-
--- the buffer of a sound list has room for its records
-pub sound-held : (sizes : Sizes) (day series d : List ℕ) (n : ℕ) → T (sound sizes (lentPools day series) (lentList d n))
-    → n * recordSize ≤ length d
-sound-held sizes day series d n t = sound-list sizes (lentPools day series) (lentList d n) t .held
 
 module _ (sizes : Sizes) (day series : List ℕ) (first : EventList) (places : List ℕ) (cs : List Command) where
   -- all live edits on the first list come to those from this place on on this list, which is sound
