@@ -19,7 +19,7 @@
  * wrong.
  *
  * No call allocates, keeps a pointer, has a state or prints, so calls that write to different buffers may run at the
- * same time. Each runs on the thread's stack, Edit with some 370 KB of it: docs/MANUAL.md, "Stack", has the figures.
+ * same time. Each runs on the thread's stack, Edit with some 230 KB of it: docs/MANUAL.md, "Stack", has the figures.
  * The library is for x86-64 Linux, and of the C library it needs memcpy, memmove, memset and memcmp at most. */
 #ifndef CHIRDALUKO_H
 #define CHIRDALUKO_H
@@ -28,17 +28,19 @@
 #include <stdint.h>
 
 /* The version of this face, by semantic versioning of its names, values and calls; the Rust wrapper has the same. Link
- * a library of the same major version: one before 3 has calls of the same names that take other arguments. */
+ * a library of the same major version: one before 3 has calls of the same names that take other arguments. One before
+ * 3.1 has no eit_place. */
 #define CHIRDALUKO_VERSION_MAJOR 3
-#define CHIRDALUKO_VERSION_MINOR 0
+#define CHIRDALUKO_VERSION_MINOR 1
 #define CHIRDALUKO_VERSION_PATCH 0
-#define CHIRDALUKO_VERSION "3.0.0"
+#define CHIRDALUKO_VERSION "3.1.0"
 
 #ifdef __cplusplus
 extern "C" {
 #endif
 
-/* The callers: the first argument of every call but eit_crc32. Every value of the byte but 0 is served as cable. */
+/* The callers: the first argument of every call but eit_place and eit_crc32, which depend on no size. Every value of
+ * the byte but 0 is served as cable. */
 enum {
     EIT_BROADCAST = 0,
     EIT_CABLE = 1
@@ -207,6 +209,26 @@ typedef struct EitEdited {
 EitEdited eit_edit(uint8_t caller, uint32_t *list, size_t list_length, size_t count, const uint8_t *day,
                    size_t day_length, const uint8_t *series, size_t series_length, const uint8_t *script,
                    size_t script_length);
+
+/* What place returns. */
+typedef struct EitPlace {
+    size_t place;  /* how many records stand before the place */
+    size_t looked; /* how many records are looked at: place + 1, or all of them if none has a later start */
+} EitPlace;
+
+/* Searches the place of a start in an event list: before the first record with a later start, so behind one with the
+ * same start; behind the last record if none has a later start. The search goes from the front and ends at the record
+ * that it finds: nothing behind that one matters.
+ *
+ *   list, list_length  the list's buffer; only read
+ *   count              how many records the list has; those that the buffer has no six numbers for are left out
+ *   start              seconds after midnight UTC of the base day; any number is taken
+ *
+ * In a sound list it is the place where eit_edit inserts a PUT of that start. Whether the list is sound is not looked
+ * at: a record's start is all that counts, and starts may stand in any order.
+ *
+ * There is no refusal. */
+EitPlace eit_place(const uint32_t *list, size_t list_length, size_t count, uint32_t start);
 
 /* What Build returns. */
 typedef struct EitBuilt {

@@ -54,6 +54,11 @@ static void edit(void) {
     expect("Edit", answer.number);
 }
 
+/* Behind all records, so that every one is looked at. */
+static void find_place(void) {
+    eit_place(list, EIT_NUMBERS_MAX, count, UINT32_MAX);
+}
+
 static void plan_list(void) {
     eit_plan(caller, list, EIT_NUMBERS_MAX, count, pool, POOL, pool, 0, plan);
 }
@@ -82,7 +87,8 @@ static const struct {
     const char *name;
     void (*make)(void);
 } calls[] = {
-    {"Edit", edit}, {"Plan", plan_list}, {"Build", build}, {"check", check}, {"Read", read_file}, {"CRC_32", crc},
+    {"Edit", edit},   {"place", find_place}, {"Plan", plan_list}, {"Build", build},
+    {"check", check}, {"Read", read_file},   {"CRC_32", crc},
 };
 
 enum { CALLERS = sizeof callers / sizeof *callers, CALLS = sizeof calls / sizeof *calls };

@@ -1,4 +1,4 @@
-/* What a call answers, compared with what tests/face.c and tests/callers.c want of it. */
+/* What a call answers, compared with what tests/face.c, tests/callers.c and tests/place.c want of it. */
 #include "chirdaluko.h"
 
 #include <stdio.h>
@@ -13,7 +13,7 @@ static void expect(const char *what, unsigned long long got, unsigned long long 
     }
 }
 
-static void expect_reading(const char *what, EitReading got, EitReading wanted) {
+static inline void expect_reading(const char *what, EitReading got, EitReading wanted) {
     expect(what, got.number, wanted.number);
     expect("its value", got.value, wanted.value);
     expect("its count", got.count, wanted.count);

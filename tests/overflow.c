@@ -1,7 +1,7 @@
-/* Runs each call, for each caller, on stacks that are too small for it, from 2 KB up in steps of 1 KB until one is
- * large enough. Below each stack lie a page that nobody may touch and, below that, memory that must stay as it is. A
- * call that runs out of stack is stopped at the first address that it touches in that page, and has written nothing
- * below. */
+/* Runs each call, for each caller, on stacks that are too small for it: from one that is enough for no call at all,
+ * doubled up to 1 KB, then in steps of 1 KB until one is large enough. Below each stack lie a page that nobody may
+ * touch and, below that, memory that must stay as it is. A call that runs out of stack is stopped at the first address
+ * that it touches in that page, and has written nothing below. */
 #define _GNU_SOURCE
 #include <signal.h>
 #include <sys/mman.h>
@@ -13,7 +13,7 @@
 enum { MOVES = 300000 };
 #include "calls.h"
 
-enum { PAGE = 4096, STEP = 1024, BELOW = 1 << 20, STACK = 512 << 10, UNTOUCHED = 0xA5 };
+enum { PAGE = 4096, LEAST = 16, STEP = 1024, BELOW = 1 << 20, STACK = 512 << 10, UNTOUCHED = 0xA5 };
 enum { RETURNED = 0, STOPPED = 40, ELSEWHERE = 41, OVERWRITTEN = 42 };
 
 /* The memory below, the page, and the stack, which ends where the memory ends. */
@@ -63,26 +63,34 @@ static int ends(void (*call)(void), size_t stack) {
     return WEXITSTATUS(status);
 }
 
-static void try(const char *name, void (*call)(void)) {
-    size_t stack = 2 * STEP;
+/* The first stack, from this one on, on which the call is not stopped but returns. */
+static size_t enough(const char *name, void (*call)(void), size_t stack) {
     int end = ends(call, stack);
     for (; end == STOPPED && stack < STACK; end = ends(call, stack)) {
-        stack += STEP;
+        stack += stack < STEP ? stack : STEP;
     }
-    if (end != RETURNED || stack == 2 * STEP) {
+    if (end != RETURNED) {
         fprintf(stderr, "overflow: %s for caller %u on %zu bytes of stack: %s\n", name, caller, stack,
                 end == OVERWRITTEN ? "memory below is overwritten" : "it is not stopped at the page below");
         exit(1);
     }
-    printf("%s %zu\n", name, stack);
+    return stack;
 }
+
+static void nothing(void) {}
 
 int main(void) {
     for (size_t served = 0; served < CALLERS; served++) {
         serve(callers[served]);
         build();
+        size_t without = enough("no call", nothing, LEAST);
         for (size_t call = 0; call < CALLS; call++) {
-            try(calls[call].name, calls[call].make);
+            size_t stack = enough(calls[call].name, calls[call].make, without);
+            if (stack == without) {
+                fprintf(stderr, "overflow: %s is never stopped\n", calls[call].name);
+                return 1;
+            }
+            printf("%s %zu\n", calls[call].name, stack);
         }
     }
     return 0;

@@ -41,7 +41,9 @@ int main(void) {
         serve(callers[served]);
         size_t without = depth(nothing);
         for (size_t call = 0; call < CALLS; call++) {
-            size_t bytes = depth(calls[call].make) - without;
+            /* A thread's own beginning and end can take more than a call. */
+            size_t deepest = depth(calls[call].make);
+            size_t bytes = deepest > without ? deepest - without : 0;
             most[call] = bytes > most[call] ? bytes : most[call];
         }
     }

@@ -1,6 +1,7 @@
-//! A program of a package that depends on the wrapper's: it edits a list, builds its file and reads the file back.
+//! A program of a package that depends on the wrapper's: it edits a list, asks where an earlier programme would
+//! stand, builds the list's file and reads the file back.
 
-use chirdaluko::{build, crc32, edit, read, Caller, Identity, Pools, Record, RECORD};
+use chirdaluko::{build, crc32, edit, place, read, Caller, Identity, Place, Pools, Record, RECORD};
 
 const CALLER: Caller = Caller::Cable;
 
@@ -10,11 +11,13 @@ fn main() {
     let pools = Pools { day: &[], series: &[] };
     let mut list = [0; RECORD];
     let count = edit(CALLER, &mut list, 0, pools, &script).expect("a script that is carried out");
+    let Place { place, looked } = place(&list, count, 0);
     let mut out = [0; 102];
     let built = build(CALLER, &list, count, pools, 49_273, Identity::default(), &mut out);
     let length = built.expect("a list that can be packed");
     let mut records = [0; RECORD];
     let reading = read(CALLER, &out[..length], 49_273, &mut records).expect("a file that is accepted");
     let record = Record::from(records);
-    println!("{} {} {} {:08X}", reading.count, record.start, record.duration, crc32(&out[72..length]));
+    let crc = crc32(&out[72..length]);
+    println!("{place} {looked} {} {} {} {crc:08X}", reading.count, record.start, record.duration);
 }

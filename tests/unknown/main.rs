@@ -1,6 +1,6 @@
 //! The Rust wrapper over a library of another version: an answer that it does not know panics, and says what it is.
 
-// Plan and CRC_32 have no answer that could be unknown, and are not there.
+// Of place, Plan and CRC_32 every answer is passed on as it is, and they are not there.
 #[allow(dead_code)]
 #[path = "../../bindings/rust/src/lib.rs"]
 mod chirdaluko;

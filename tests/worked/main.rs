@@ -18,6 +18,7 @@ mod forbidden_tag;
 mod inputs;
 mod layout;
 mod lines;
+mod places;
 mod read_details;
 mod schedule;
 mod sections;
@@ -38,6 +39,7 @@ fn main() {
     let mut list = [0; 30];
     let count = edit(CALLER, &mut list, 0, pools, &script.bytes).expect("a script that is carried out");
     block("The list that it makes:", &schedule::rows(&list[..RECORD * count]));
+    block("Places in the list:", &places::rows(&list, count));
 
     let mut counts = [0; SEGMENTS];
     plan(CALLER, &list, count, pools, &mut counts);

@@ -3,17 +3,17 @@
 //! by itself (build.rs), and this file alone can be a module: README.md, "How to link", has the commands, and
 //! docs/MANUAL.md shows every call at work.
 //!
-//! Each call but [`crc32`] takes first which [`Caller`] it serves. What it returns and leaves is proved. Slices keep
-//! all that the C face asks for: pointers that are not null, lengths that are true, and written buffers that overlap
-//! nothing else. Any value of any argument is taken.
+//! Each call but [`place`] and [`crc32`] takes first which [`Caller`] it serves. What a call returns and leaves is
+//! proved. Slices keep all that the C face asks for: pointers that are not null, lengths that are true, and written
+//! buffers that overlap nothing else. Any value of any argument is taken.
 //!
 //! An answer that is none of a call's, an unknown number or a value that its number does not come with, panics: the
 //! library is proved to return no such answer, so it is then of another version than this file, and no program could
 //! go on from there. Link a library of the same major version: one before 3 has calls of the same names that take other
-//! arguments, and what they do then is undefined.
+//! arguments, and what they do then is undefined. One before 3.1 has no [`place`].
 //!
 //! ```
-//! use chirdaluko::{build, check, edit, read, BuildRefusal, Caller, Identity, Pools, Record};
+//! use chirdaluko::{build, check, edit, place, read, BuildRefusal, Caller, Identity, Place, Pools, Record};
 //!
 //! let caller = Caller::Broadcast;
 //! // PUT: id 1, at 12:45:00, for 1:45:30, no marks, no descriptors.
@@ -22,6 +22,8 @@
 //! let mut list = [0; 6];
 //! let count = edit(caller, &mut list, 0, pools, &script).unwrap();
 //! assert_eq!(count, 1);
+//! // A programme at 13:00:00 would stand behind it.
+//! assert_eq!(place(&list, count, 46_800), Place { place: 1, looked: 1 });
 //!
 //! let identity = Identity { service_id: 1, transport_stream_id: 2, original_network_id: 3, version: 0 };
 //! let mut out = [0; 200];
@@ -332,6 +334,15 @@ impl ReadRefusal {
     }
 }
 
+/// Where a start belongs in a list.
+#[derive(Clone, Copy, Debug, PartialEq, Eq)]
+pub struct Place {
+    /// How many records stand before the place.
+    pub place: usize,
+    /// How many records are looked at: place + 1, or all of them if none has a later start.
+    pub looked: usize,
+}
+
 /// What an accepted file has: how many events, and its identity.
 #[derive(Clone, Copy, Debug, PartialEq, Eq)]
 pub struct Reading {
@@ -411,6 +422,16 @@ pub fn edit(caller: Caller, list: &mut [u32], count: usize, pools: Pools, script
         unknown("eit_edit", number, value);
     }
     Err(refusal)
+}
+
+/// Searches the place of a start in a list of `count` records, from the front: before the first record with a later
+/// start, so behind one with the same start; behind the last record if none has a later start. Records that the buffer
+/// has no six numbers for are left out. In a sound list it is the place where [`edit`] inserts a PUT of that start;
+/// whether the list is sound is not looked at.
+pub fn place(list: &[u32], count: usize, start: u32) -> Place {
+    // As in `edit`.
+    let EitPlace { place, looked } = unsafe { eit_place(list.as_ptr(), list.len(), count, start) };
+    Place { place, looked }
 }
 
 /// Writes the file of sections of a list of `count` records to the front of `out`, and returns the file's length. The
@@ -576,6 +597,12 @@ struct EitEdited {
 }
 
 #[repr(C)]
+struct EitPlace {
+    place: usize,
+    looked: usize,
+}
+
+#[repr(C)]
 struct EitBuilt {
     number: u32,
     value: usize,
@@ -605,6 +632,8 @@ extern "C" {
         script: *const u8,
         script_length: usize,
     ) -> EitEdited;
+
+    fn eit_place(list: *const u32, list_length: usize, count: usize, start: u32) -> EitPlace;
 
     fn eit_build(
         caller: Caller,

@@ -8,10 +8,12 @@ use Rattle.eit.specs.declared.Caller.{Caller}
 use Rattle.eit.specs.declared.Caller.the-variants.{Broadcast, Cable}
 use Rattle.eit.specs.Records.{lentList}
 use Rattle.eit.specs.declared.Identity.{Identity}
+use Rattle.eit.specs.declared.Place.{Place}
 use Rattle.script.specs.Edit.{Edited}
 use Rattle.sections.specs.Read.{Answer, Reading}
 use Rattle.schedule.specs.Build.{Built}
 use Rattle.chirdaluko.specs.declared.EitEdited.{EitEdited}
+use Rattle.chirdaluko.specs.declared.EitPlace.{EitPlace}
 use Rattle.chirdaluko.specs.declared.EitBuilt.{EitBuilt}
 use Rattle.chirdaluko.specs.declared.EitReading.{EitReading}
 
@@ -28,6 +30,9 @@ givenIdentity service stream network version =
 
 abbrev pub editedOf : EitEdited → List ℕ → Edited
 editedOf r buffer = record { number = r .number; value = r .value; list = lentList buffer (r .count) }
+
+abbrev pub placedOf : EitPlace → Place
+placedOf r = record { place = r .place; looked = r .looked }
 
 abbrev pub builtOf : EitBuilt → List ℕ → Built
 builtOf r output = record { number = r .number; value = r .value; output = output }

@@ -4,6 +4,7 @@ use eit::Caller;
 use eit::Identity;
 use eit::Triplet;
 use eit::limits::SEGMENTS;
+use list_records::place;
 use read_answer::ReadResult;
 ghost use mathlib.Core.Path.{_≡_};
 ghost use mathlib.Core.List.{flatten};
@@ -11,12 +12,14 @@ ghost use Rattle.eit.specs.Crc.{crc32};
 ghost use Rattle.eit.specs.Sizes.{sizesOf};
 ghost use Rattle.eit.specs.Pools.{lentPools};
 ghost use Rattle.eit.specs.Records.{lentList};
+ghost use Rattle.eit.specs.Placing.{placingIn};
 ghost use Rattle.script.specs.Edit.{edit};
 ghost use Rattle.sections.specs.Read.{checkFile, read};
 ghost use Rattle.schedule.specs.Plan.{plan};
 ghost use Rattle.schedule.specs.Build.{build};
 ghost use Rattle.read_answer.specs.Outcome.{outcomeOf};
-ghost use Rattle.chirdaluko.specs.Face.{callerOf, editedOf, builtOf, givenIdentity, answerOf, readingOf};
+ghost use Rattle.chirdaluko.specs.Face.{callerOf, editedOf, placedOf, builtOf, givenIdentity, answerOf};
+ghost use Rattle.chirdaluko.specs.Face.{readingOf};
 
 // What Edit returns: document 01's number and value, and the count then held.
 #[repr(C)]
@@ -24,6 +27,13 @@ pub struct EitEdited {
     pub number: u32,
     pub value: usize,
     pub count: usize,
+}
+
+// What the search for a place returns: the place, and how many records it looked at (02, W-203).
+#[repr(C)]
+pub struct EitPlace {
+    pub place: usize,
+    pub looked: usize,
 }
 
 // What Build returns: document 01's number and value.
@@ -79,6 +89,18 @@ pub extern "C" fn eit_edit<'a>(
         number: edit_answer::number_of(answer),
         value: edit_answer::value_of(answer, held),
         count: held,
+    }
+}
+
+// The place of a start among the records of a list, from the front.
+#[no_mangle]
+pub extern "C" fn eit_place(list: &[u32], count: usize, start: u32) -> EitPlace
+    ensures { λ r. ⌜ placingIn start (lentList (now (list .entry)) count) ≡ placedOf r ⌝ }
+{
+    let found = place::place_in(list, count, start);
+    EitPlace {
+        place: found.place,
+        looked: found.looked,
     }
 }
 
