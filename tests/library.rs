@@ -2,7 +2,7 @@
 //! for the other. The wrapper's cases give number and value back.
 
 use crate::chirdaluko::{self, Pools, ReadRefusal};
-use crate::other::{Answer, Built, Caller, Identity, Lent, Plan, Reading};
+use crate::other::{Answer, Built, Caller, Identity, Lent, Place, Plan, Reading};
 
 pub use crate::chirdaluko::crc32;
 
@@ -11,6 +11,11 @@ pub fn edit(caller: Caller, list: &mut [u32], count: usize, day: &[u8], series: 
         Ok(count) => Answer { number: 0, value: count, count },
         Err(refusal) => Answer { number: refusal.number(), value: refusal.value(), count: refusal.count() },
     }
+}
+
+pub fn place(list: &[u32], count: usize, start: u32) -> Place {
+    let chirdaluko::Place { place, looked } = chirdaluko::place(list, count, start);
+    Place { place, looked }
 }
 
 pub fn build(caller: Caller, lent: &Lent, base_day: u32, identity: Identity, output: &mut [u8]) -> Built {

@@ -1,6 +1,7 @@
 //! Compares the library, through its Rust wrapper and so through its C face, with the other implementation on seeded
 //! inputs, for both callers. It first checks that faults show; with `--self-check` it does only that.
 
+mod at_places;
 mod breaking;
 mod build;
 mod chains;
@@ -25,12 +26,15 @@ mod long;
 mod mixed;
 #[path = "../other/mod.rs"]
 mod other;
+mod place;
 mod pools;
 mod precedence;
 mod random;
 mod read;
+mod reuse;
 mod scripts;
 mod soundness;
+mod spaced;
 mod stock;
 mod tagged;
 mod tags;
@@ -60,7 +64,7 @@ fn main() -> ExitCode {
 }
 
 fn self_check() -> Result<Vec<String>, String> {
-    let faults = [faults::run(all_groups)?, build::self_check()?, read::self_check()?].concat();
+    let faults = [faults::run(all_groups)?, place::self_check()?, build::self_check()?, read::self_check()?].concat();
     println!("self-check  {} faults, each shown", faults.len());
     Ok(faults)
 }
@@ -68,6 +72,8 @@ fn self_check() -> Result<Vec<String>, String> {
 fn compare() -> Result<(), String> {
     let crcs = crcs::run(library::crc32)?;
     println!("CRC_32      {crcs} inputs agree, seed {}", crcs::SEED);
+    let searches = place::run(library::place)?;
+    println!("place       {searches} searches agree, seed {}", place::SEED);
     let mut missing = Vec::new();
     for caller in Caller::BOTH {
         missing.extend(compare_for(caller)?);
@@ -115,5 +121,7 @@ fn all_groups(comparison: &mut Comparison) -> Result<(), String> {
     chains::run(comparison)?;
     soundness::run(comparison)?;
     mixed::run(comparison)?;
-    long::run(comparison)
+    long::run(comparison)?;
+    at_places::run(comparison)?;
+    reuse::run(comparison)
 }

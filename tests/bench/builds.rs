@@ -13,12 +13,19 @@ pub fn run(inputs: &[Input]) {
     rows("Plan, MB of the file it plans", inputs, plan_times);
 }
 
-/// One call of the library with the largest input.
+/// One call of the library with the largest input: Build, and Plan.
 pub fn once(random: &mut Random) {
     let input = largest(random);
     let mut output = vec![0; input.size];
     let built = library::build(input.caller, &input.lent(), BASE_DAY, IDENTITY, &mut output);
     assert_eq!(built.number, 0, "a refusal");
+}
+
+pub fn once_planned(random: &mut Random) {
+    let input = largest(random);
+    let mut plan = [0; 512];
+    library::plan(input.caller, &input.lent(), &mut plan);
+    assert!(plan == other::plan(input.caller, &input.lent()), "the two disagree");
 }
 
 fn build_times(input: &Input) -> [f64; 2] {

@@ -10,6 +10,7 @@ mod edits;
 mod inputs;
 #[path = "../library.rs"]
 mod library;
+mod places;
 mod reads;
 mod table;
 
@@ -49,11 +50,13 @@ fn main() {
     match arguments.iter().map(String::as_str).collect::<Vec<_>>()[..] {
         [] => all(random),
         ["once", "edit"] => edits::once(random),
+        ["once", "place"] => places::once(random),
+        ["once", "plan"] => builds::once_planned(random),
         ["once", "build"] => builds::once(random),
         ["once", "check"] => reads::once_checked(random),
         ["once", "read"] => reads::once(random),
         ["once", "crc32"] => crcs::once(random),
-        _ => panic!("the arguments are none, or `once` and one of edit, build, check, read, crc32"),
+        _ => panic!("the arguments are none, or `once` and one of edit, place, plan, build, check, read, crc32"),
     }
 }
 
@@ -66,4 +69,5 @@ fn all(random: &mut Random) {
     builds::run(&inputs);
     reads::run(&inputs);
     crcs::run(random);
+    places::run(random);
 }

@@ -1,6 +1,6 @@
-//! Another implementation of document 01, with W-202 and W-206 of document 02, written from the papers alone and in a
-//! shape of its own. The library's answers are compared with it. Every function whose outcome depends on a size takes
-//! the caller, or its sizes.
+//! Another implementation of document 01, with W-202, W-203 and W-206 of document 02, written from the papers alone and
+//! in a shape of its own. The library's answers are compared with it. Every function whose outcome depends on a size
+//! takes the caller, or its sizes.
 
 mod build;
 mod caller;
@@ -8,6 +8,7 @@ mod crc;
 mod crc_table;
 mod edit;
 mod list;
+mod place;
 mod plan;
 mod read;
 mod received;
@@ -21,6 +22,7 @@ pub use crc::crc32;
 pub use crc_table::crc32_by_table;
 pub use edit::{edit, edit_by, Answer, EditMethod, EDIT_PAPERS};
 pub use list::{is_chain, Event, IsChain};
+pub use place::{place, Place};
 pub use plan::{plan, plan_by, Plan};
 pub use read::{check, check_by, read, read_by, refused, Asked, Reading, READ_PAPERS};
 pub use received::{frame, frame_within, Frame, Received, TABLE_IDS};
