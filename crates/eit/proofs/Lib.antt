@@ -22,6 +22,8 @@ pub mod Records
 pub mod Find
 -- `follows`, and lists of events that rise
 pub mod Events
+-- events that overlap, and where in a list they stand
+pub mod OverlapLaws
 -- two records of one event
 pub mod SameEvent
 -- numbers that are among others, and numbers that all differ

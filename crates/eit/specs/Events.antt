@@ -1,10 +1,10 @@
 -- Events: what a record stands for, apart from where its chain lies (01, "Event record and sound list"). Laws:
 -- proofs/Events.antt, proofs/SameEvent.antt. Assumes nothing.
 use mathlib.Core.Path.{_≡_}
-use Prim.Native.Nat.{ℕ, _+_, _*_, _/_, _%_}
+use Prim.Native.Nat.{ℕ, _+_, _*_, _/_, _%_, max}
 use mathlib.Core.Bool.{Bool, true, _&&_}
 use mathlib.Core.List.{List, [], _∷_, map}
-use lib.Dec.{ltb}
+use lib.Dec.{leb, ltb}
 use Rattle.eit.specs.Pools.{Pools, choose, marksFreeCa, marksOffAir}
 use Rattle.eit.specs.declared.Record.{Record}
 
@@ -56,13 +56,14 @@ AllSame p q (r ∷ rs) (s ∷ ss) = Same p q r s × AllSame p q rs ss
 abbrev pub eventsIn : Pools → List Record → List Event
 eventsIn pools rs = map (eventOf pools) rs
 
--- starts rise strictly: the second event may follow the first
+-- the second event may follow the first: starts rise strictly, and (02, W-204) each event's start + duration is at most
+-- the next event's start; touching is legal
 unfoldable pub follows : Event → Event → Bool
-follows first second = ltb (first .start) (second .start)
+follows first second = ltb (first .start) (second .start) && leb (first .start + first .duration) (second .start)
 
 -- the least start that may follow an event: `follows-least`
 unfoldable pub leastBehind : Event → ℕ
-leastBehind e = e .start + 1
+leastBehind e = e .start + max 1 (e .duration)
 
 -- each event but the first follows the one before it
 abbrev pub rising : List Event → Bool

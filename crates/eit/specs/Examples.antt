@@ -56,10 +56,17 @@ pub record Examples : Type 0 where
       sound broadcast (lentPools (0x4D ∷ 1 ∷ 9 ∷ 0xFF ∷ 0 ∷ []) []) (lentList (0 ∷ 0 ∷ 1 ∷ 0 ∷ 0 ∷ 5 ∷ []) 1) ≡ false
   pub tag-outside :
       sound broadcast (lentPools (0x4D ∷ 1 ∷ 9 ∷ 0xFF ∷ 0 ∷ []) []) (lentList (0 ∷ 0 ∷ 1 ∷ 0 ∷ 0 ∷ 3 ∷ []) 1) ≡ true
-  pub overlap : isSound 2 (1 ∷ 0 ∷ 60 ∷ 0 ∷ 0 ∷ 0 ∷ 2 ∷ 1 ∷ 60 ∷ 0 ∷ 0 ∷ 0 ∷ []) ≡ true
+  -- 02, W-204: events that touch, and that overlap by a second; one around the next, and one that starts with it; the
+  -- third behind the second and inside the first, which the second is inside, too; an end past the last segment
+  pub touching : isSound 2 (1 ∷ 0 ∷ 60 ∷ 0 ∷ 0 ∷ 0 ∷ 2 ∷ 60 ∷ 60 ∷ 0 ∷ 0 ∷ 0 ∷ []) ≡ true
+  pub one-second : isSound 2 (1 ∷ 0 ∷ 61 ∷ 0 ∷ 0 ∷ 0 ∷ 2 ∷ 60 ∷ 60 ∷ 0 ∷ 0 ∷ 0 ∷ []) ≡ false
+  pub around : isSound 2 (1 ∷ 0 ∷ 600 ∷ 0 ∷ 0 ∷ 0 ∷ 2 ∷ 60 ∷ 60 ∷ 0 ∷ 0 ∷ 0 ∷ []) ≡ false
   pub same-start : isSound 2 (1 ∷ 5 ∷ 60 ∷ 0 ∷ 0 ∷ 0 ∷ 2 ∷ 5 ∷ 60 ∷ 0 ∷ 0 ∷ 0 ∷ []) ≡ false
-  pub same-id : isSound 2 (1 ∷ 0 ∷ 60 ∷ 0 ∷ 0 ∷ 0 ∷ 1 ∷ 5 ∷ 60 ∷ 0 ∷ 0 ∷ 0 ∷ []) ≡ false
-  pub same-id-apart : isSound 3 (1 ∷ 0 ∷ 60 ∷ 0 ∷ 0 ∷ 0 ∷ 2 ∷ 5 ∷ 60 ∷ 0 ∷ 0 ∷ 0 ∷ 1 ∷ 9 ∷ 60 ∷ 0 ∷ 0 ∷ 0 ∷ []) ≡ false
+  pub longer-earlier : isSound 3 (1 ∷ 0 ∷ 600 ∷ 0 ∷ 0 ∷ 0 ∷ 2 ∷ 60 ∷ 60 ∷ 0 ∷ 0 ∷ 0 ∷ 3 ∷ 120 ∷ 60 ∷ 0 ∷ 0 ∷ 0 ∷ [])
+      ≡ false
+  pub ends-late : isSound 2 (1 ∷ 0 ∷ 60 ∷ 0 ∷ 0 ∷ 0 ∷ 2 ∷ 5_529_599 ∷ 359_999 ∷ 0 ∷ 0 ∷ 0 ∷ []) ≡ true
+  pub same-id : isSound 2 (1 ∷ 0 ∷ 5 ∷ 0 ∷ 0 ∷ 0 ∷ 1 ∷ 5 ∷ 60 ∷ 0 ∷ 0 ∷ 0 ∷ []) ≡ false
+  pub same-id-apart : isSound 3 (1 ∷ 0 ∷ 5 ∷ 0 ∷ 0 ∷ 0 ∷ 2 ∷ 5 ∷ 4 ∷ 0 ∷ 0 ∷ 0 ∷ 1 ∷ 9 ∷ 60 ∷ 0 ∷ 0 ∷ 0 ∷ []) ≡ false
   pub buffer-short : isSound 1 (0 ∷ 0 ∷ 1 ∷ 0 ∷ 0 ∷ []) ≡ false
   pub events :
       eventsOf pools two

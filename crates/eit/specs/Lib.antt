@@ -12,6 +12,7 @@ pub mod Among  -- a number that is one of some, and numbers that all differ
 pub mod Records  -- records in the lent buffer
 pub mod Find  -- the position of an id and the place of a start
 pub mod Events  -- what a record stands for, and `follows`
+pub mod Overlap  -- events that are on at the same time
 pub mod Sound  -- soundness, and the events of a list
 pub mod Placing  -- the search for the place of a start
 pub mod PlaceSearch  -- what document 02 claims of it

@@ -39,8 +39,8 @@ idsOf rs = map (λ (r : Record). r .id) rs
 abbrev pub startsOf : List Record → List ℕ
 startsOf rs = map (λ (r : Record). r .start) rs
 
--- what soundness asks of the records: values in range, parts and chains, starts rise strictly, and ids differ. Overlap
--- is not looked at
+-- what soundness asks of the records: values in range, parts and chains, starts rise strictly, ids differ, and (02,
+-- W-204) each event's start + duration is at most the next event's start
 unfoldable pub soundRecords : Pools → List Record → Bool
 soundRecords pools rs = allValid pools rs && (rising (eventsIn pools rs) && allDiffer (idsOf rs))
 

@@ -33,11 +33,11 @@ pub struct Place {
     pub looked: usize,
 }
 
-// The least start of an event that may stand behind this one.
+// The least start of an event that may stand behind this one: its end, where it lasts at all.
 pub fn least_behind(event: Record) -> u64
     ensures { λ r. ⌜ r ≡ leastBehind (eventWith event []) ⌝ }
 {
-    event.start as u64 + 1
+    event.start as u64 + event.duration as u64 + (event.duration == 0) as u64
 }
 
 // A DVB triplet: the ids of a service.

@@ -12,13 +12,15 @@ use Rattle.eit.specs.Pools.{Pools}
 use Rattle.eit.specs.Limits.{windowSeconds}
 use Rattle.eit.specs.Records.{EventList, recordsOf}
 use Rattle.eit.specs.Among.{isAmong}
+use Rattle.eit.specs.Overlap.{overlapsOne}
 use Rattle.eit.specs.Sound.{inRange, hasChain, idsOf, startsOf, sound}
 use Rattle.eit.proofs.Test.{test-or, true-is, false-is}
 use Rattle.script.specs.Form.{Edit, Act, put, withdraw, move, Command, Form, commands, broken, formOf}
 use Rattle.script.specs.Struck.{Unstruck, unstruck, nothingAt, unstruckIn}
-use Rattle.script.specs.Machine.{limitOf, without, afterPut, afterWithdraw, afterMove, Step, done, refused, check}
-use Rattle.script.specs.Machine.{step}
+use Rattle.script.specs.Machine.{limitOf, without, moved, afterPut, afterWithdraw, afterMove, Step, done, refused}
+use Rattle.script.specs.Machine.{check, step}
 use Rattle.script.specs.Edit.{Stopped, Edited, run, refusal, edit}
+use Rattle.script.proofs.Steps.{done-none}
 use Rattle.script.proofs.Machine.{step-sound}
 
 -- an edit is done or refused
@@ -28,34 +30,46 @@ step-or (refused number) = inr (number, refl)
 
 -- ---- refusals of an edit
 
--- what a step refuses with is one of 5 to 9
+-- what a step refuses with is one of 5 to 9, or 30
+abbrev pub EditNumber : ℕ → Type 0
+EditNumber n = ((5 ≤ n) × (n ≤ 9)) ⊎ (n ≡ 30)
+
 abbrev Numbered : Step → Type 0
-Numbered s = (n : ℕ) → s ≡ refused n → (5 ≤ n) × (n ≤ 9)
+Numbered s = (n : ℕ) → s ≡ refused n → EditNumber n
 
 done-numbered : (next : EventList) → Numbered (done next)
-done-numbered next n e = let z : _≡_ {A = ℕ} 0 1 = cc in absurd (omega arith)
+done-numbered next n e = absurd (done-none next n e)
 
-check-numbered : (b : Bool) (k : ℕ) {s : Step} → (5 ≤ k) × (k ≤ 9) → Numbered s → Numbered (check b k s)
-check-numbered true k within h n e = h n e
-check-numbered false k within h n e = let same : k ≡ n = cc in omega arith
+check-numbered : (b : Bool) (k : ℕ) {s : Step} → EditNumber k → Numbered s → Numbered (check b k s)
+check-numbered true k is h n e = h n e
+check-numbered false k is h n e = let same : k ≡ n = cc in subst EditNumber same is
 
 pub step-number : (sizes : Sizes) (pools : Pools) (list : EventList) (a : Act) → Numbered (step sizes pools list a)
 unfolding step
 step-number sizes pools list (put r) =
     let rs = recordsOf list in
-    check-numbered (inRange r) 5 (omega arith)
-    (check-numbered (hasChain pools r) 9 (omega arith)
-    (check-numbered (not (isAmong (r .id) (idsOf rs))) 6 (omega arith)
-    (check-numbered (not (isAmong (r .start) (startsOf rs))) 7 (omega arith)
-    (check-numbered (ltb (list .count) (limitOf sizes list)) 8 (omega arith) (done-numbered (afterPut list r))))))
+    check-numbered (inRange r) 5 (inl (omega arith))
+    (check-numbered (hasChain pools r) 9 (inl (omega arith))
+    (check-numbered (not (isAmong (r .id) (idsOf rs))) 6 (inl (omega arith))
+    (check-numbered (not (overlapsOne r rs)) 30 (inr refl)
+    (check-numbered (not (isAmong (r .start) (startsOf rs))) 7 (inl (omega arith))
+    (check-numbered (ltb (list .count) (limitOf sizes list)) 8 (inl (omega arith))
+    (done-numbered (afterPut list r)))))))
 step-number sizes pools list (withdraw id) =
-    check-numbered (isAmong id (idsOf (recordsOf list))) 6 (omega arith) (done-numbered (afterWithdraw list id))
+    check-numbered (isAmong id (idsOf (recordsOf list))) 6 (inl (omega arith)) (done-numbered (afterWithdraw list id))
 step-number sizes pools list (move id start) =
     let rs = recordsOf list in
-    check-numbered (ltb start windowSeconds) 5 (omega arith)
-    (check-numbered (isAmong id (idsOf rs)) 6 (omega arith)
-    (check-numbered (not (isAmong start (startsOf (without id rs)))) 7 (omega arith)
-    (done-numbered (afterMove list id start))))
+    check-numbered (ltb start windowSeconds) 5 (inl (omega arith))
+    (check-numbered (isAmong id (idsOf rs)) 6 (inl (omega arith))
+    (check-numbered (not (overlapsOne (moved id start rs) (without id rs))) 30 (inr refl)
+    (check-numbered (not (isAmong start (startsOf (without id rs)))) 7 (inl (omega arith))
+    (done-numbered (afterMove list id start)))))
+
+-- and so none of 0, 3, 4 and 12
+number-apart : (n : ℕ) → EditNumber n → (5 ≤ n) × (n ≡ 12 → ⊥)
+number-apart n =
+    ⊎-elim (λ (low : (5 ≤ n) × (n ≤ 9)). (omega arith, λ z. omega arith))
+    (λ (high : n ≡ 30). (omega arith, λ z. omega arith))
 
 module _ (sizes : Sizes) (pools : Pools) where
   -- ---- the machine's run, edit by edit
@@ -109,15 +123,15 @@ module _ (sizes : Sizes) (pools : Pools) where
       ∙ ap (λ (o : Edited). run sizes pools (o .list) fs) (sym (run-done list e es (d .0) (d .1))))
       (λ r.
       let q : r .0 ≡ 0 = rw (run-refused list e es (r .0) (r .1)) at z in
-      absurd (omega (arith, step-number sizes pools list (e .act) (r .0) (r .1))))
+      absurd (omega (arith, number-apart (r .0) (step-number sizes pools list (e .act) (r .0) (r .1)) .0)))
       (step-or (step sizes pools list (e .act)))
 
-  -- a run ends with 0 and the new count, or with one of 5 to 9
+  -- a run ends with 0 and the new count, or with one of 5 to 9, or 30
   pub run-number : (list : EventList) (es : List Edit)
       → let o = run sizes pools list es in
-      ((o .number ≡ 0) × (o .value ≡ o .list .count)) ⊎ ((5 ≤ o .number) × (o .number ≤ 9))
+      ((o .number ≡ 0) × (o .value ≡ o .list .count)) ⊎ EditNumber (o .number)
   run-number =
-      run-ind (λ list o. ((o .number ≡ 0) × (o .value ≡ o .list .count)) ⊎ ((5 ≤ o .number) × (o .number ≤ 9)))
+      run-ind (λ list o. ((o .number ≡ 0) × (o .value ≡ o .list .count)) ⊎ EditNumber (o .number))
       (λ list. inl (refl, refl))
       (λ list e n q. inr (step-number sizes pools list (e .act) n q))
       (λ list e next o q ih. ih)
@@ -211,8 +225,9 @@ module _ (sizes : Sizes) (pools : Pools) where
       (λ at n. refl)
       (λ es t n. absurd (never (run sizes pools list es .number) (run-number list es) n))
     where
-      never : {A : Type 0} (n : ℕ) → ((n ≡ 0) × A) ⊎ ((5 ≤ n) × (n ≤ 9)) → (n ≡ 12) ⊎ ((n ≡ 3) ⊎ (n ≡ 4)) → ⊥
-      never n r =
-          ⊎-elim (λ twelve. ⊎-elim (λ a. omega arith) (λ a. omega arith) r)
-          (⊎-elim (λ three. ⊎-elim (λ a. omega arith) (λ a. omega arith) r)
-          (λ four. ⊎-elim (λ a. omega arith) (λ a. omega arith) r))
+      never : {A : Type 0} (n : ℕ) → ((n ≡ 0) × A) ⊎ EditNumber n → (n ≡ 12) ⊎ ((n ≡ 3) ⊎ (n ≡ 4)) → ⊥
+      never n =
+          ⊎-elim (λ zero. ⊎-elim (λ twelve. omega (arith, zero .0))
+          (⊎-elim (λ three. omega (arith, zero .0)) (λ four. omega (arith, zero .0))))
+          (λ is. ⊎-elim (number-apart n is .1)
+          (⊎-elim (λ three. omega (arith, number-apart n is .0)) (λ four. omega (arith, number-apart n is .0))))

@@ -4,6 +4,7 @@ use Rattle.eit.specs.Chain.{isChain}
 use Rattle.eit.specs.Pools.{choose}
 use Rattle.eit.specs.Records.{recordsOf}
 use Rattle.eit.specs.Events.{follows}
+use Rattle.eit.specs.Overlap.{overlap}
 use Rattle.eit.specs.Sound.{sound}
 use Rattle.script.specs.Form.{formOf}
 use Rattle.script.specs.Struck.{unstruckIn}
@@ -11,7 +12,7 @@ use Rattle.script.specs.Edit.{edit}
 use Rattle.script.specs.Examples.{Examples}
 
 pub examples : Examples
-unfolding edit formOf unstruckIn sound recordsOf follows choose isChain
+unfolding edit formOf unstruckIn sound recordsOf follows overlap choose isChain
 examples =
     record {
       paper-script = refl;
@@ -48,7 +49,6 @@ examples =
       no-chain = refl;
       other-pool = refl;
       present = refl;
-      taken = refl;
       full = refl;
       at-event-limit = refl;
       below-event-limit = refl;
@@ -57,5 +57,4 @@ examples =
       moved-late = refl;
       moved-absent = refl;
       moved-when-full = refl;
-      moved-onto = refl;
     }

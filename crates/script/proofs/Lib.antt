@@ -14,9 +14,12 @@ pub mod Machine
 pub mod OwnStart
 -- Edit: its run, its refusals, and that it keeps a list sound
 pub mod Edit
+-- events that overlap: what document 02 claims
+pub mod NoOverlap
 -- PUT and WITHDRAW as one write from the record's place on, MOVE as both
 pub mod Writes
 -- the other numbers that an edit does not touch
 pub mod Frame
 -- the examples, computed
 pub mod Examples
+pub mod OverlapExamples

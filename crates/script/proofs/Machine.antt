@@ -1,6 +1,6 @@
 -- One edit of the plain machine keeps a list sound: what it writes are records, which are read back as they are
 -- (`records-front`). Assumes nothing.
-use mathlib.Core.Path.{_≡_, _∙_}
+use mathlib.Core.Path.{_≡_, sym, _∙_}
 use mathlib.Core.Logic.{_↔_}
 use mathlib.Core.Bool.{Bool, true, false, not}
 use Prim.Native.Nat.{ℕ, suc, _+_, _-_, _*_, _≤_, _<_}
@@ -14,18 +14,20 @@ use Rattle.eit.specs.Limits.{windowSeconds}
 use Rattle.eit.specs.Pools.{Pools}
 use Rattle.eit.specs.Records.{EventList, recordSize, recordsOf, numbersOfAll}
 use Rattle.eit.specs.Among.{isAmong}
+use Rattle.eit.specs.Overlap.{overlapsOne}
 use Rattle.eit.specs.Sound.{inRange, hasChain, idsOf, startsOf, sound}
 use Rattle.eit.specs.declared.Record.{Record}
 use Rattle.eit.proofs.Test.{tests}
 use Rattle.eit.proofs.Overwrite.{over-length}
 use Rattle.eit.proofs.Records.{count-records, numbers-length, records-front}
 use Rattle.eit.proofs.Sound.{RecordFacts, ListFacts, list-sound, sound-list}
-use Rattle.script.specs.Machine.{limitOf, insert, find, without, withStart, zeroRecord, written, afterPut}
+use Rattle.script.specs.Machine.{limitOf, insert, find, without, moved, zeroRecord, written, afterPut}
 use Rattle.script.specs.Machine.{afterWithdraw, afterMove, Step, done, check, step}
 use Rattle.script.specs.Form.{Act, put, withdraw, move}
 use Rattle.script.proofs.Placing.{insert-length, without-length, insert-valid, without-valid, find-valid}
-use Rattle.script.proofs.Placing.{new-start, insert-rises, without-rises, insert-differ, without-differ}
+use Rattle.script.proofs.Placing.{apart-place, insert-rises, without-rises, insert-differ, without-differ}
 use Rattle.script.proofs.Placing.{without-gone, find-id}
+use Rattle.script.proofs.Steps.{done-none}
 
 -- records written over the front of the buffer are the records of the list, as many as it counts
 pub written-records : (list : EventList) (rs : List Record) (n : ℕ) → n ≤ length rs
@@ -65,10 +67,9 @@ module _ (list : EventList) where
     move-length r = insert-length r (without id (recordsOf list)) ∙ withdraw-length
 
     pub move-records : (start : ℕ)
-        → recordsOf (afterMove list id start)
-        ≡ insert (withStart start (find id (recordsOf list))) (without id (recordsOf list))
+        → recordsOf (afterMove list id start) ≡ insert (moved id start (recordsOf list)) (without id (recordsOf list))
     move-records start =
-        let r : Record = withStart start (find id (recordsOf list)) in
+        let r : Record = moved id start (recordsOf list) in
         let rs : List Record = insert r (without id (recordsOf list)) in
         let whole : length rs ≡ list .count = move-length r in
         written-records list rs (list .count) (omega arith) ∙ take-all (list .count) rs (omega arith)
@@ -88,16 +89,17 @@ module _ (sizes : Sizes) (pools : Pools) (list : EventList) where
       }
 
   put-sound : (r : Record) → ListFacts sizes pools list → T (inRange r) → T (hasChain pools r)
-      → T (not (isAmong (r .id) (idsOf (recordsOf list)))) → T (not (isAmong (r .start) (startsOf (recordsOf list))))
+      → T (not (isAmong (r .id) (idsOf (recordsOf list)))) → T (not (overlapsOne r (recordsOf list)))
       → list .count < limitOf sizes list → ListFacts sizes pools (afterPut list r)
-  put-sound r f range chain id start limit =
+  put-sound r f range chain id clear limit =
       let rs : List Record = recordsOf list in
       let whole : length (insert r rs) ≡ list .count + 1 = put-length list r in
       written-sound (insert r rs) (list .count + 1) (omega arith) (omega arith) (omega arith)
       (rw (put-records list r)
       record {
         valid = insert-valid pools r rs range chain (f .records .valid);
-        rises = insert-rises pools r rs (new-start pools r rs start) (f .records .rises);
+        rises =
+            insert-rises pools r rs (apart-place pools r rs range (f .records .valid) clear) (f .records .rises);
         differ = insert-differ r rs id (f .records .differ);
       })
 
@@ -118,22 +120,24 @@ module _ (sizes : Sizes) (pools : Pools) (list : EventList) where
 
   move-sound : (id start : ℕ) → ListFacts sizes pools list → T (ltb start windowSeconds)
       → T (isAmong id (idsOf (recordsOf list)))
-      → T (not (isAmong start (startsOf (without id (recordsOf list)))))
+      → T (not (overlapsOne (moved id start (recordsOf list)) (without id (recordsOf list))))
       → ListFacts sizes pools (afterMove list id start)
-  move-sound id start f limit a other =
+  move-sound id start f limit a clear =
       let rs : List Record = recordsOf list in
-      let r : Record = withStart start (find id rs) in
+      let r : Record = moved id start rs in
       let others : List Record = without id rs in
       let was = find-valid pools id rs a (f .records .valid) in
       let range : T (inRange r) = search (tests, was .0) in
       let gone : T (not (isAmong (find id rs .id) (idsOf others))) =
       rw (find-id id rs a) (without-gone id rs (f .records .differ)) in
+      let valid = without-valid pools id rs (f .records .valid) in
       let whole : length (insert r others) ≡ list .count = move-length list id a r in
       written-sound (insert r others) (list .count) (omega arith) (f .few) (omega (arith, f .held))
       (rw (move-records list id a start)
       record {
-        valid = insert-valid pools r others range (was .1) (without-valid pools id rs (f .records .valid));
-        rises = insert-rises pools r others (new-start pools r others other)
+        valid = insert-valid pools r others range (was .1) valid;
+        rises =
+            insert-rises pools r others (apart-place pools r others range valid clear)
             (without-rises pools id rs (f .records .rises));
         differ = insert-differ r others gone (without-differ id rs (f .records .differ));
       })
@@ -143,7 +147,7 @@ module _ (sizes : Sizes) (pools : Pools) (list : EventList) where
 -- a check that does not refuse has passed
 check-done : (b : Bool) (n : ℕ) (s : Step) {next : EventList} → check b n s ≡ done next → T b × (s ≡ done next)
 check-done true n s e = (tt, e)
-check-done false n s e = let z : _≡_ {A = ℕ} 0 1 = cc in absurd (omega arith)
+check-done false n s {next} e = absurd (done-none next n (sym e))
 
 module _ (sizes : Sizes) (pools : Pools) (list : EventList) where
   -- what PUT, WITHDRAW and MOVE have passed, and what they leave
@@ -151,6 +155,7 @@ module _ (sizes : Sizes) (pools : Pools) (list : EventList) where
     pub range : T (inRange r)
     pub chain : T (hasChain pools r)
     pub newId : T (not (isAmong (r .id) (idsOf (recordsOf list))))
+    pub apart : T (not (overlapsOne r (recordsOf list)))
     pub newStart : T (not (isAmong (r .start) (startsOf (recordsOf list))))
     pub limit : T (ltb (list .count) (limitOf sizes list))
     pub after : next ≡ afterPut list r
@@ -162,6 +167,7 @@ module _ (sizes : Sizes) (pools : Pools) (list : EventList) where
   pub record MoveDone (id start : ℕ) (next : EventList) : Type 0 where
     pub range : T (ltb start windowSeconds)
     pub oldId : T (isAmong id (idsOf (recordsOf list)))
+    pub apart : T (not (overlapsOne (moved id start (recordsOf list)) (without id (recordsOf list))))
     pub newStart : T (not (isAmong start (startsOf (without id (recordsOf list)))))
     pub after : next ≡ afterMove list id start
 
@@ -171,9 +177,18 @@ module _ (sizes : Sizes) (pools : Pools) (list : EventList) where
       let a = check-done (inRange r) 5 _ e in
       let b = check-done (hasChain pools r) 9 _ (a .1) in
       let c = check-done (not (isAmong (r .id) (idsOf (recordsOf list)))) 6 _ (b .1) in
-      let d = check-done (not (isAmong (r .start) (startsOf (recordsOf list)))) 7 _ (c .1) in
-      let f = check-done (ltb (list .count) (limitOf sizes list)) 8 _ (d .1) in
-      record { range = a .0; chain = b .0; newId = c .0; newStart = d .0; limit = f .0; after = cc (f .1) }
+      let d = check-done (not (overlapsOne r (recordsOf list))) 30 _ (c .1) in
+      let f = check-done (not (isAmong (r .start) (startsOf (recordsOf list)))) 7 _ (d .1) in
+      let g = check-done (ltb (list .count) (limitOf sizes list)) 8 _ (f .1) in
+      record {
+        range = a .0;
+        chain = b .0;
+        newId = c .0;
+        apart = d .0;
+        newStart = f .0;
+        limit = g .0;
+        after = cc (g .1);
+      }
 
   pub withdraw-done : (id : ℕ) (next : EventList) → step sizes pools list (withdraw id) ≡ done next
       → WithdrawDone id next
@@ -187,8 +202,10 @@ module _ (sizes : Sizes) (pools : Pools) (list : EventList) where
   move-done id start next e =
       let a = check-done (ltb start windowSeconds) 5 _ e in
       let b = check-done (isAmong id (idsOf (recordsOf list))) 6 _ (a .1) in
-      let c = check-done (not (isAmong start (startsOf (without id (recordsOf list))))) 7 _ (b .1) in
-      record { range = a .0; oldId = b .0; newStart = c .0; after = cc (c .1) }
+      let others : List Record = without id (recordsOf list) in
+      let c = check-done (not (overlapsOne (moved id start (recordsOf list)) others)) 30 _ (b .1) in
+      let d = check-done (not (isAmong start (startsOf others))) 7 _ (c .1) in
+      record { range = a .0; oldId = b .0; apart = c .0; newStart = d .0; after = cc (d .1) }
 
   -- it leaves a sound list sound
   pub step-sound : (a : Act) (next : EventList) → step sizes pools list a ≡ done next → T (sound sizes pools list)
@@ -197,7 +214,7 @@ module _ (sizes : Sizes) (pools : Pools) (list : EventList) where
       let p = put-done r next e in
       rw (p .after)
       (list-sound sizes pools (afterPut list r)
-      (put-sound sizes pools list r (sound-list sizes pools list t) (p .range) (p .chain) (p .newId) (p .newStart)
+      (put-sound sizes pools list r (sound-list sizes pools list t) (p .range) (p .chain) (p .newId) (p .apart)
       (ltb→lt (list .count) (limitOf sizes list) (p .limit))))
   step-sound (withdraw id) next e t =
       let p = withdraw-done id next e in
@@ -208,4 +225,4 @@ module _ (sizes : Sizes) (pools : Pools) (list : EventList) where
       let p = move-done id start next e in
       rw (p .after)
       (list-sound sizes pools (afterMove list id start)
-      (move-sound sizes pools list id start (sound-list sizes pools list t) (p .range) (p .oldId) (p .newStart)))
+      (move-sound sizes pools list id start (sound-list sizes pools list t) (p .range) (p .oldId) (p .apart)))

@@ -14,14 +14,16 @@ use Rattle.eit.specs.Limits.{windowSeconds}
 use Rattle.eit.specs.Overwrite.{overwrite}
 use Rattle.eit.specs.Pools.{Pools}
 use Rattle.eit.specs.Records.{EventList, recordSize, recordsOf, numbersOfAll}
-use Rattle.eit.specs.Events.{eventOf, eventsIn, rising}
+use Rattle.eit.specs.Events.{eventOf, eventsIn, follows, rising}
 use Rattle.eit.specs.Among.{isAmong}
+use Rattle.eit.specs.Overlap.{overlap, overlapsOne}
 use Rattle.eit.specs.Sound.{idsOf, startsOf, sound}
 use Rattle.eit.specs.declared.Record.{Record}
 use Rattle.eit.proofs.Test.{tests, nor-both, ne-test, test-or}
 use Rattle.eit.proofs.Overwrite.{over-self}
 use Rattle.eit.proofs.Records.{numbers-back}
-use Rattle.eit.proofs.Events.{AllAfter, rising-rest, rising-after}
+use Rattle.eit.proofs.Events.{AllAfter, AllFollow, rising-rest, rising-after, rising-follow}
+use Rattle.eit.proofs.OverlapLaws.{follows-apart, follows-apart-back}
 use Rattle.eit.proofs.Sound.{sound-list}
 use Rattle.script.specs.Form.{move}
 use Rattle.script.specs.Machine.{insert, find, without, afterMove, done, step}
@@ -81,6 +83,35 @@ module _ (pools : Pools) where
       (start-other id rs (among-later id r rs there a) (rising-rest (eventOf pools r) (eventsIn pools rs) t))))
       (test-or (eqb id (r .id)))
 
+  -- an event that all others follow overlaps none of them, and neither does one that follows
+  first-apart : (r : Record) (rs : List Record) → AllFollow (eventOf pools r) (eventsIn pools rs)
+      → T (not (overlapsOne r rs))
+  first-apart r [] all = tt
+  first-apart r (s ∷ rs) all =
+      nor-both (overlap r s) (overlapsOne r rs) (follows-apart pools r s (all .0)) (first-apart r rs (all .1))
+
+  find-follows : (r : Record) (id : ℕ) (rs : List Record) → T (isAmong id (idsOf rs))
+      → AllFollow (eventOf pools r) (eventsIn pools rs) → T (follows (eventOf pools r) (eventOf pools (find id rs)))
+  find-follows r id [] a all = absurd a
+  find-follows r id (s ∷ rs) a all =
+      ⊎-elim (λ t. rw (find-here id s rs t) (all .0))
+      (λ t. rw (find-later id s rs t) (find-follows r id rs (among-later id s rs t a) (all .1)))
+      (test-or (eqb id (s .id)))
+
+  own-apart : (id : ℕ) (rs : List Record) → T (isAmong id (idsOf rs)) → T (rising (eventsIn pools rs))
+      → T (not (overlapsOne (find id rs) (without id rs)))
+  own-apart id [] a t = absurd a
+  own-apart id (r ∷ rs) a t =
+      let all = rising-follow (eventOf pools r) (eventsIn pools rs) t in
+      ⊎-elim (λ here. rw (find-here id r rs here, without-here id r rs here) (first-apart r rs all))
+      (λ there.
+      let among = among-later id r rs there a in
+      rw (find-later id r rs there, without-later id r rs there)
+      (nor-both (overlap (find id rs) r) (overlapsOne (find id rs) (without id rs))
+      (follows-apart-back pools r (find id rs) (find-follows r id rs among all))
+      (own-apart id rs among (rising-rest (eventOf pools r) (eventsIn pools rs) t))))
+      (test-or (eqb id (r .id)))
+
 module _ (sizes : Sizes) (pools : Pools) (list : EventList) (id : ℕ) (t : T (sound sizes pools list))
     (a : T (isAmong id (idsOf (recordsOf list)))) where
   -- the records are written over themselves
@@ -103,4 +134,5 @@ module _ (sizes : Sizes) (pools : Pools) (list : EventList) (id : ℕ) (t : T (s
       let start : ℕ = find id rs .start in
       let was = find-valid pools id rs a (f .records .valid) in
       let range : T (ltb start windowSeconds) = search (tests, was .0) in
-      move-passes sizes pools list id start range a (start-other pools id rs a (f .records .rises)) ∙ ap done move-same
+      move-passes sizes pools list id start range a (own-apart pools id rs a (f .records .rises))
+      (start-other pools id rs a (f .records .rises)) ∙ ap done move-same

@@ -1,21 +1,23 @@
 -- Inserting a record and taking one away keep what soundness asks of the records: by induction over the records.
 -- Assumes nothing.
 use mathlib.Core.Path.{_≡_, refl, sym, ap, _∙_}
-use mathlib.Core.Logic.{_⊎_, inl, inr, ⊎-elim}
+use mathlib.Core.Logic.{_⊎_, ⊎-elim}
 use mathlib.Core.Bool.{not}
 use Prim.Native.Nat.{ℕ, suc}
 use native.Mathlib.Omega.{arith}
 use mathlib.Core.List.{List, [], _∷_}
 use lib.Dec.{T, eqb, eqb→eq, ltb, ltb→lt, nltb→le}
 use lib.ListN.{length}
-use borrow.Author.Tests.{eqb-false}
 use Rattle.eit.specs.Pools.{Pools}
 use Rattle.eit.specs.Events.{Event, eventOf, eventsIn, follows, rising}
 use Rattle.eit.specs.Among.{isAmong, allDiffer}
-use Rattle.eit.specs.Sound.{inRange, hasChain, allValid, idsOf, startsOf}
+use Rattle.eit.specs.Overlap.{overlap, overlapsOne}
+use Rattle.eit.specs.Sound.{inRange, hasChain, allValid, idsOf}
 use Rattle.eit.specs.declared.Record.{Record}
-use Rattle.eit.proofs.Test.{tests, and-both, or-other, ne-sym, test-or, true-is, false-is}
-use Rattle.eit.proofs.Events.{AllFollow, follows-later, later-follows, rising-rest, rising-follow, follow-rising}
+use Rattle.eit.proofs.Test.{tests, and-both, or-other, nor-left, nor-right, ne-sym, test-or, true-is, false-is}
+use Rattle.eit.proofs.Events.{AllFollow, follows-later, rising-rest, rising-follow, follow-rising}
+use Rattle.eit.proofs.OverlapLaws.{apart-follows}
+use Rattle.eit.proofs.Sound.{range-facts}
 use Rattle.script.specs.Machine.{insert, find, without}
 
 -- ---- the two cases of each definition
@@ -95,20 +97,15 @@ module _ (pools : Pools) where
       (T (follows (eventOf pools r) (eventOf pools s)) ⊎ T (follows (eventOf pools s) (eventOf pools r)))
       × HasPlace r rs
 
-  -- one whose start none of them has
-  pub new-start : (r : Record) (rs : List Record) → T (not (isAmong (r .start) (startsOf rs))) → HasPlace r rs
-  new-start r [] n = tt
-  new-start r (s ∷ rs) n =
-      let other : T (not (eqb (r .start) (s .start))) = search tests in
-      let others : T (not (isAmong (r .start) (startsOf rs))) = search tests in (
-        ⊎-elim (λ b. inl (later-follows (eventOf pools r) (eventOf pools s) (ltb→lt (r .start) (s .start) b)))
-            (λ b.
-            let differ = eqb-false (r .start) (s .start) (false-is (eqb (r .start) (s .start)) other) in
-            inr (later-follows (eventOf pools s) (eventOf pools r)
-            (omega (arith, nltb→le (r .start) (s .start) b, differ))))
-            (test-or (ltb (r .start) (s .start))),
-        new-start r rs others,
-      )
+  -- one that overlaps none of them
+  pub apart-place : (r : Record) (rs : List Record) → T (inRange r) → T (allValid pools rs)
+      → T (not (overlapsOne r rs)) → HasPlace r rs
+  apart-place r [] range valid clear = tt
+  apart-place r (s ∷ rs) range valid clear = (
+    apart-follows pools r s (range-facts r range .durationLow) (range-facts s (search tests) .durationLow)
+        (nor-left (overlap r s) (overlapsOne r rs) clear),
+    apart-place r rs range (search tests) (nor-right (overlap r s) (overlapsOne r rs) clear),
+  )
 
   insert-follow : (e : Event) (r : Record) (rs : List Record) → T (follows e (eventOf pools r))
       → AllFollow e (eventsIn pools rs)

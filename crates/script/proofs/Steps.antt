@@ -1,21 +1,28 @@
--- Which number an edit is refused with, and when it is done: the first check that fails, in the paper's order (01,
--- "When a call says no": per edit 5, 9, 6, 7, 8). With `put-done`, `withdraw-done` and `move-done` each answer is
--- exact. Assumes nothing.
+-- Which number an edit is refused with, and when it is done: the first check that fails, in the papers' order (01,
+-- "When a call says no": per edit 5, 9, 6, 7, 8; 02, W-204: 30 just before 7). With `put-done`, `withdraw-done` and
+-- `move-done` each answer is exact. Assumes nothing.
 use mathlib.Core.Path.{_≡_, refl, _∙_}
 use mathlib.Core.Bool.{Bool, true, false, not}
 use Prim.Native.Nat.{ℕ}
+use native.Mathlib.Omega.{arith}
+use mathlib.Core.List.{List}
 use lib.Dec.{T, ltb}
 use Rattle.eit.specs.declared.Sizes.{Sizes}
 use Rattle.eit.specs.Limits.{windowSeconds}
 use Rattle.eit.specs.Pools.{Pools}
 use Rattle.eit.specs.Records.{EventList, recordsOf}
 use Rattle.eit.specs.Among.{isAmong}
+use Rattle.eit.specs.Overlap.{overlapsOne}
 use Rattle.eit.specs.Sound.{inRange, hasChain, idsOf, startsOf}
 use Rattle.eit.specs.declared.Record.{Record}
 use Rattle.eit.proofs.Test.{not-not}
 use Rattle.script.specs.Form.{put, withdraw, move}
-use Rattle.script.specs.Machine.{limitOf, without, afterPut, afterWithdraw, afterMove, Step, done, refused, check}
-use Rattle.script.specs.Machine.{step}
+use Rattle.script.specs.Machine.{limitOf, without, moved, afterPut, afterWithdraw, afterMove, Step, done, refused}
+use Rattle.script.specs.Machine.{check, step}
+
+-- what is done is not refused
+pub done-none : (next : EventList) (n : ℕ) → done next ≡ refused n → ⊥
+done-none next n e = let z : _≡_ {A = ℕ} 0 1 = cc in absurd (omega arith)
 
 check-passed : (b : Bool) (n : ℕ) (s : Step) → T b → check b n s ≡ s
 check-passed true n s t = refl
@@ -28,6 +35,9 @@ check-failed false n s t = refl
 module _ (sizes : Sizes) (pools : Pools) (list : EventList) (r : Record) where
   abbrev newId : Bool
   newId = not (isAmong (r .id) (idsOf (recordsOf list)))
+
+  abbrev apart : Bool
+  apart = not (overlapsOne r (recordsOf list))
 
   abbrev newStart : Bool
   newStart = not (isAmong (r .start) (startsOf (recordsOf list)))
@@ -51,24 +61,33 @@ module _ (sizes : Sizes) (pools : Pools) (list : EventList) (r : Record) where
           ∙ check-failed newId 6 _ c
 
       module _ (id : T newId) where
-        pub put-7 : T (not newStart) → step sizes pools list (put r) ≡ refused 7
+        pub put-30 : T (overlapsOne r (recordsOf list)) → step sizes pools list (put r) ≡ refused 30
         unfolding step
-        put-7 d =
+        put-30 d =
             check-passed (inRange r) 5 _ range ∙ check-passed (hasChain pools r) 9 _ chain ∙ check-passed newId 6 _ id
-            ∙ check-failed newStart 7 _ d
+            ∙ check-failed apart 30 _ (not-not (overlapsOne r (recordsOf list)) d)
 
-        module _ (start : T newStart) where
-          pub put-8 : T (not below) → step sizes pools list (put r) ≡ refused 8
+        module _ (clear : T apart) where
+          pub put-7 : T (not newStart) → step sizes pools list (put r) ≡ refused 7
           unfolding step
-          put-8 e =
+          put-7 e =
               check-passed (inRange r) 5 _ range ∙ check-passed (hasChain pools r) 9 _ chain ∙ check-passed newId 6 _ id
-              ∙ check-passed newStart 7 _ start ∙ check-failed below 8 _ e
+              ∙ check-passed apart 30 _ clear ∙ check-failed newStart 7 _ e
 
-          pub put-passes : T below → step sizes pools list (put r) ≡ done (afterPut list r)
-          unfolding step
-          put-passes e =
-              check-passed (inRange r) 5 _ range ∙ check-passed (hasChain pools r) 9 _ chain ∙ check-passed newId 6 _ id
-              ∙ check-passed newStart 7 _ start ∙ check-passed below 8 _ e
+          module _ (start : T newStart) where
+            pub put-8 : T (not below) → step sizes pools list (put r) ≡ refused 8
+            unfolding step
+            put-8 f =
+                check-passed (inRange r) 5 _ range ∙ check-passed (hasChain pools r) 9 _ chain
+                ∙ check-passed newId 6 _ id
+                ∙ check-passed apart 30 _ clear ∙ check-passed newStart 7 _ start ∙ check-failed below 8 _ f
+
+            pub put-passes : T below → step sizes pools list (put r) ≡ done (afterPut list r)
+            unfolding step
+            put-passes f =
+                check-passed (inRange r) 5 _ range ∙ check-passed (hasChain pools r) 9 _ chain
+                ∙ check-passed newId 6 _ id
+                ∙ check-passed apart 30 _ clear ∙ check-passed newStart 7 _ start ∙ check-passed below 8 _ f
 
 module _ (sizes : Sizes) (pools : Pools) (list : EventList) (id : ℕ) where
   pub withdraw-6 : T (not (isAmong id (idsOf (recordsOf list)))) → step sizes pools list (withdraw id) ≡ refused 6
@@ -92,19 +111,35 @@ module _ (sizes : Sizes) (pools : Pools) (list : EventList) (id : ℕ) where
           check-passed (ltb start windowSeconds) 5 _ range ∙ check-failed (isAmong id (idsOf (recordsOf list))) 6 _ b
 
       module _ (old : T (isAmong id (idsOf (recordsOf list)))) where
-        pub move-7 : T (isAmong start (startsOf (without id (recordsOf list))))
-            → step sizes pools list (move id start) ≡ refused 7
-        unfolding step
-        move-7 c =
-            check-passed (ltb start windowSeconds) 5 _ range
-            ∙ check-passed (isAmong id (idsOf (recordsOf list))) 6 _ old
-            ∙ check-failed (not (isAmong start (startsOf (without id (recordsOf list))))) 7 _
-            (not-not (isAmong start (startsOf (without id (recordsOf list)))) c)
+        abbrev others : List Record
+        others = without id (recordsOf list)
 
-        pub move-passes : T (not (isAmong start (startsOf (without id (recordsOf list)))))
-            → step sizes pools list (move id start) ≡ done (afterMove list id start)
+        abbrev among : Bool
+        among = overlapsOne (moved id start (recordsOf list)) others
+
+        pub move-30 : T (overlapsOne (moved id start (recordsOf list)) (without id (recordsOf list)))
+            → step sizes pools list (move id start) ≡ refused 30
         unfolding step
-        move-passes c =
+        move-30 c =
             check-passed (ltb start windowSeconds) 5 _ range
             ∙ check-passed (isAmong id (idsOf (recordsOf list))) 6 _ old
-            ∙ check-passed (not (isAmong start (startsOf (without id (recordsOf list))))) 7 _ c
+            ∙ check-failed (not among) 30 _ (not-not among c)
+
+        module _ (clear : T (not (overlapsOne (moved id start (recordsOf list)) (without id (recordsOf list))))) where
+          pub move-7 : T (isAmong start (startsOf (without id (recordsOf list))))
+              → step sizes pools list (move id start) ≡ refused 7
+          unfolding step
+          move-7 d =
+              check-passed (ltb start windowSeconds) 5 _ range
+              ∙ check-passed (isAmong id (idsOf (recordsOf list))) 6 _ old
+              ∙ check-passed (not among) 30 _ clear
+              ∙ check-failed (not (isAmong start (startsOf others))) 7 _ (not-not (isAmong start (startsOf others)) d)
+
+          pub move-passes : T (not (isAmong start (startsOf (without id (recordsOf list)))))
+              → step sizes pools list (move id start) ≡ done (afterMove list id start)
+          unfolding step
+          move-passes d =
+              check-passed (ltb start windowSeconds) 5 _ range
+              ∙ check-passed (isAmong id (idsOf (recordsOf list))) 6 _ old
+              ∙ check-passed (not among) 30 _ clear
+              ∙ check-passed (not (isAmong start (startsOf others))) 7 _ d

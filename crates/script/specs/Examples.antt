@@ -1,5 +1,5 @@
--- Edit on a list of two events, computed: what each command does, each refusal, and which refusal comes first (01,
--- "Edit", "When a call says no"). The value is in proofs/Examples.antt. Assumes nothing.
+-- Edit on a list of two events, computed: what each command does, each refusal but 30 (specs/OverlapExamples.antt), and
+-- which refusal comes first (01, "Edit", "When a call says no"). The value is in proofs/Examples.antt. Assumes nothing.
 use Prim.Native.Nat.{ℕ}
 use mathlib.Core.Path.{_≡_}
 use mathlib.Core.List.{List, [], _∷_, _++_}
@@ -13,22 +13,24 @@ use Rattle.script.specs.Form.{put, withdraw, move, doEdit, undo, command
 use Rattle.script.specs.Encode.{actBytes}
 use Rattle.script.specs.Edit.{edit}
 
--- an event of a minute with the part of its pool that begins at 0
+-- an event of 50 seconds with the part of its pool that begins at 0
 abbrev pub eventRecord : ℕ → ℕ → ℕ → ℕ → Record
 eventRecord id start marks size =
-    record { id = id; start = start; duration = 60; marks = marks; offset = 0; «chain_length» = size }
+    record { id = id; start = start; duration = 50; marks = marks; offset = 0; «chain_length» = size }
 
 abbrev pub plain : ℕ → ℕ → Record
 plain id start = eventRecord id start 0 0
 
-abbrev pub lasting : ℕ → Record
-lasting duration = record { id = 3; start = 150; duration = duration; marks = 0; offset = 0; «chain_length» = 0 }
+abbrev pub lasting : ℕ → ℕ → Record
+lasting start duration =
+    record { id = 3; start = start; duration = duration; marks = 0; offset = 0; «chain_length» = 0 }
 
 -- one descriptor, and an empty series pool
 abbrev pub pools : Pools
 pools = record { day = 0x4D ∷ 1 ∷ 9 ∷ []; series = [] }
 
--- events 1 and 2 in a buffer with room for three; the two numbers left over belong to no record
+-- events 1 and 2 in a buffer with room for three, and between them time for one; the two numbers left over belong to no
+-- record
 abbrev pub list : ℕ → EventList
 list count = record { buffer = numbersOfAll (plain 1 100 ∷ plain 2 200 ∷ []) ++ replicate 8 7; count = count }
 
@@ -98,19 +100,18 @@ pub record Examples : Type 0 where
   pub form-first : resultOf (undoByte ++ (0x05 ∷ [])) ≡ (3, 1, 2)
   pub undo-alone : resultOf undoByte ≡ (4, 0, 2)
   pub nothing-to-strike : resultOf (actBytes (withdraw 1) ++ undoByte ++ undoByte) ≡ (4, 4, 2)
-  -- per edit 5, 9, 6, 7, 8: PUT
+  -- per edit: PUT
   pub start-most : resultOf (actBytes (put (plain 3 5_529_599))) ≡ (0, 3, 3)
   pub start-above : resultOf (actBytes (put (plain 3 5_529_600))) ≡ (5, 0, 2)
-  pub duration-most : resultOf (actBytes (put (lasting 359_999))) ≡ (0, 3, 3)
-  pub duration-above : resultOf (actBytes (put (lasting 360_000))) ≡ (5, 0, 2)
-  pub no-duration : resultOf (actBytes (put (lasting 0))) ≡ (5, 0, 2)
+  pub duration-most : resultOf (actBytes (put (lasting 250 359_999))) ≡ (0, 3, 3)
+  pub duration-above : resultOf (actBytes (put (lasting 250 360_000))) ≡ (5, 0, 2)
+  pub no-duration : resultOf (actBytes (put (lasting 250 0))) ≡ (5, 0, 2)
   pub marks-above : resultOf (actBytes (put (eventRecord 3 150 8 0))) ≡ (5, 0, 2)
   pub range-first : resultOf (actBytes (put (eventRecord 1 windowSeconds 0 4))) ≡ (5, 0, 2)
   pub outside : resultOf (actBytes (put (eventRecord 1 200 0 4))) ≡ (9, 0, 2)
   pub no-chain : resultOf (actBytes (put (eventRecord 3 150 0 2))) ≡ (9, 0, 2)
   pub other-pool : resultOf (actBytes (put (eventRecord 3 150 2 3))) ≡ (9, 0, 2)
   pub present : resultOf (actBytes (put (plain 1 200))) ≡ (6, 0, 2)
-  pub taken : resultOf (actBytes (put (plain 3 300)) ++ actBytes (put (plain 4 200))) ≡ (7, 18, 3)
   pub full : resultOf (actBytes (put (plain 3 300)) ++ actBytes (put (plain 4 400))) ≡ (8, 18, 3)
   pub at-event-limit :
       edit (record { «section_limit» = 4096; «event_limit» = 2 }) pools (list 2) (actBytes (put (plain 3 150))) .number
@@ -125,4 +126,3 @@ pub record Examples : Type 0 where
   pub moved-late : resultOf (actBytes (move 9 windowSeconds)) ≡ (5, 0, 2)
   pub moved-absent : resultOf (actBytes (move 9 200)) ≡ (6, 0, 2)
   pub moved-when-full : resultOf (actBytes (put (plain 3 300)) ++ actBytes (move 3 400)) ≡ (0, 3, 3)
-  pub moved-onto : resultOf (actBytes (move 1 200)) ≡ (7, 0, 2)

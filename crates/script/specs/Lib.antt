@@ -4,4 +4,6 @@ pub mod Encode  -- commands as bytes, for the laws of the form
 pub mod Struck  -- which edits UNDO strikes
 pub mod Machine  -- the plain machine: one edit on the whole buffer and the count
 pub mod Edit  -- the call: 12, 3, 4, then the unstruck edits in order
-pub mod Examples  -- Edit computed: each command, each refusal, and which comes first
+pub mod NoOverlap  -- what document 02 claims of overlap
+pub mod Examples  -- Edit computed: each command, its refusals, and which comes first
+pub mod OverlapExamples  -- 30 computed

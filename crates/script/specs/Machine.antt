@@ -1,5 +1,6 @@
 -- 01's term: plain machine ("Edit"). Its state is the whole buffer and the count; a number that no command changes
--- stays. Laws: proofs/Placing, Places, Steps, Machine, OwnStart and Frame. Assumes nothing.
+-- stays. Laws: proofs/Placing, Places, Steps, Machine, OwnStart and Frame; claims of overlap: NoOverlap.antt. Assumes
+-- nothing.
 use Prim.Native.Nat.{ℕ, _+_, _-_, _/_, min}
 use mathlib.Core.Bool.{Bool, true, false, not}
 use mathlib.Core.List.{List, [], _∷_, _++_}
@@ -11,6 +12,7 @@ use Rattle.eit.specs.Overwrite.{overwrite}
 use Rattle.eit.specs.Pools.{Pools}
 use Rattle.eit.specs.Records.{EventList, recordSize, recordsOf, numbersOfAll}
 use Rattle.eit.specs.Among.{isAmong}
+use Rattle.eit.specs.Overlap.{overlapsOne}
 use Rattle.eit.specs.Sound.{inRange, hasChain, idsOf, startsOf}
 use Rattle.eit.specs.declared.Record.{Record}
 use Rattle.script.specs.Form.{Act, put, withdraw, move}
@@ -49,6 +51,10 @@ withStart start r =
       «chain_length» = r .«chain_length»;
     }
 
+-- the record of an id as MOVE leaves it, with its own duration
+abbrev pub moved : ℕ → ℕ → List Record → Record
+moved id start rs = withStart start (find id rs)
+
 -- the list with some records over the front of its buffer, and a new count; all other numbers stay
 abbrev pub written : EventList → List Record → ℕ → EventList
 written list rs count = record { buffer = overwrite (list .buffer) 0 (numbersOfAll rs); count = count }
@@ -65,7 +71,7 @@ afterWithdraw list id = written list (without id (recordsOf list) ++ (zeroRecord
 abbrev pub afterMove : EventList → ℕ → ℕ → EventList
 afterMove list id start =
     let rs = recordsOf list in
-    written list (insert (withStart start (find id rs)) (without id rs)) (list .count)
+    written list (insert (moved id start rs) (without id rs)) (list .count)
 
 -- an edit on a list: the list after it, or the number of the first check that fails
 pub data Step : Type 0 where
@@ -78,19 +84,22 @@ check true number next = next
 check false number next = refused number
 
 -- 01, "When a call says no": per edit 5, 9, 6, 7, 8. 5 value out of range (PUT, MOVE); 9 part outside pool, or no chain
--- (PUT); 6 id present (PUT), absent (others); 7 start of another event; 8 list at its limit (PUT)
+-- (PUT); 6 id present (PUT), absent (others); 7 start of another event; 8 list at its limit (PUT). 02, W-204: "30, a
+-- PUT or MOVE that would overlap another event .. it stands just before 7"
 unfoldable pub step : Sizes → Pools → EventList → Act → Step
 step sizes pools list (put r) =
     let rs = recordsOf list in
     check (inRange r) 5
     (check (hasChain pools r) 9
     (check (not (isAmong (r .id) (idsOf rs))) 6
+    (check (not (overlapsOne r rs)) 30
     (check (not (isAmong (r .start) (startsOf rs))) 7
-    (check (ltb (list .count) (limitOf sizes list)) 8 (done (afterPut list r))))))
+    (check (ltb (list .count) (limitOf sizes list)) 8 (done (afterPut list r)))))))
 step sizes pools list (withdraw id) =
     check (isAmong id (idsOf (recordsOf list))) 6 (done (afterWithdraw list id))
 step sizes pools list (move id start) =
     let rs = recordsOf list in
     check (ltb start windowSeconds) 5
     (check (isAmong id (idsOf rs)) 6
-    (check (not (isAmong start (startsOf (without id rs)))) 7 (done (afterMove list id start))))
+    (check (not (overlapsOne (moved id start rs) (without id rs))) 30
+    (check (not (isAmong start (startsOf (without id rs)))) 7 (done (afterMove list id start)))))
