@@ -38,7 +38,7 @@ use Rattle.edit_index.specs.Rises.{Rises}
 use Rattle.edit_index.proofs.IndexLaws.{held-length, index-records, held-place, held-start, id-absent, id-present}
 use Rattle.edit_index.proofs.IndexLaws.{id-record}
 use Rattle.edit_index.proofs.TakeOutLaws.{take-out-records, take-out-holds}
-use Rattle.edit_index.proofs.RiseLaws.{own-place, start-has, start-none}
+use Rattle.edit_index.proofs.RiseLaws.{rising-starts, own-place, start-has, start-none}
 use Rattle.edit.specs.Run.{runOne}
 use Rattle.edit.specs.Indexed.{startBefore, Kept, Leaves}
 use Rattle.edit.proofs.RunLaws.{one-done, one-refused}
@@ -107,6 +107,9 @@ module _ (sizes : Sizes) (day series list : List ℕ) (x : Index) (count : ℕ) 
   pub records-length : length rs ≡ count
   records-length = held-length (k .holds)
 
+  pub starts-rise : Rises (startsOf (heldRecords count x))
+  starts-rise = rising-starts (lentPools day series) rs (k .rises (lentPools day series))
+
   -- what the search finds
   pub found-place : (p : Place) (start : ℕ) → p ≡ placing start (heldStarts count x)
       → p .place ≡ placeOf start (heldRecords count x)
@@ -174,7 +177,7 @@ module _ (sizes : Sizes) (day series list : List ℕ) (x : Index) (count : ℕ) 
           its-place =
               found-place p (event .start) at-place
               ∙ ap (λ (r : Record). placeOf (r .start) rs) its-record
-              ∙ own-place id rs present (k .rises)
+              ∙ own-place id rs present starts-rise
 
           pub its-position : p .place - 1 ≡ positionOf id (heldRecords count x)
           its-position = omega (arith, its-place)

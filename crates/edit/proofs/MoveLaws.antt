@@ -11,32 +11,38 @@ use lib.Dec.{T, ltb}
 use lib.ListN.{length, getD, take, drop}
 use Rattle.eit.specs.declared.Sizes.{Sizes}
 use Rattle.eit.specs.Limits.{windowSeconds}
-use Rattle.eit.specs.Pools.{lentPools}
+use Rattle.eit.specs.Pools.{Pools, lentPools}
 use Rattle.eit.specs.Overwrite.{overwrite}
 use Rattle.eit.specs.Among.{isAmong}
 use Rattle.eit.specs.Find.{positionOf, placeOf}
+use Rattle.eit.specs.Overlap.{overlapsOne}
 use Rattle.eit.specs.Placing.{placing}
 use Rattle.eit.specs.Records.{EventList, lentList, recordsOf, numbersOfAll}
 use Rattle.eit.specs.Sound.{idsOf, startsOf}
 use Rattle.eit.specs.declared.Place.{Place}
 use Rattle.eit.specs.declared.Record.{Record}
 use Rattle.eit.proofs.Find.{place-length}
+use Rattle.eit.proofs.OverlapLaws.{overlapsBeside, overlap-by-place}
 use Rattle.eit.proofs.Test.{le-or-lt}
 use Rattle.script.specs.Form.{move}
-use Rattle.script.specs.Machine.{insert, find, without, withStart, afterMove}
-use Rattle.script.proofs.Placing.{insert-length, without-length, without-gone, find-id}
-use Rattle.script.proofs.Places.{insert-place}
-use Rattle.script.proofs.Steps.{move-5, move-6, move-7, move-passes}
+use Rattle.script.specs.Machine.{insert, find, without, withStart, moved, afterMove}
+use Rattle.script.proofs.Placing.{insert-length, without-length, without-rises, without-gone, find-id}
+use Rattle.script.proofs.Places.{insert-place, without-position}
+use Rattle.script.proofs.Steps.{move-5, move-6, move-30, move-7, move-passes}
 use Rattle.edit_answer.specs.declared.EditAnswer.{EditAnswer}
-use Rattle.edit_answer.specs.declared.EditAnswer.the-variants.{Done, OutOfRange, WrongId, StartTaken}
+use Rattle.edit_answer.specs.declared.EditAnswer.the-variants.{Done, OutOfRange, WrongId, StartTaken, Overlap}
 use Rattle.edit_index.specs.Index.{slotLimit, idLimit, noSlot, Index, slotRecord, heldRecords, heldStarts, Holds}
 use Rattle.edit_index.specs.Index.{added, takenOut, indexedNumbers, indexedList}
+use Rattle.edit_index.specs.Neighbours.{overlapsNeighbour}
+use Rattle.edit_index.specs.Rises.{Rises}
+use Rattle.edit_index.proofs.SlotLaws.{leave}
+use Rattle.edit_index.proofs.NeighbourLaws.{neighbour-is}
 use Rattle.edit_index.proofs.AddLaws.{add-records, add-holds}
 use Rattle.edit_index.proofs.RiseLaws.{without-starts, own-start, place-left-before, place-left-behind}
 use Rattle.edit.specs.Indexed.{startBefore, placeLeft, Kept, Leaves}
 use Rattle.edit.proofs.IndexedLaws.{taken-is, does, stands-records, records-length, found-place, refuses, stays}
-use Rattle.edit.proofs.IndexedLaws.{passes, written-over, absent, present, id-small, its-record, its-place}
-use Rattle.edit.proofs.IndexedLaws.{out-records, out-holds}
+use Rattle.edit.proofs.IndexedLaws.{starts-rise, passes, written-over, absent, present, id-small, its-record}
+use Rattle.edit.proofs.IndexedLaws.{its-place, its-position, out-records, out-holds}
 use Rattle.edit.proofs.PutLaws.{holds, fails}
 
 module _ (sizes : Sizes) (day series list : List ℕ) (x : Index) (count : ℕ) (k : Kept list x count) (at : ℕ)
@@ -46,6 +52,9 @@ module _ (sizes : Sizes) (day series list : List ℕ) (x : Index) (count : ℕ) 
 
   abbrev stands : EventList
   stands = indexedList list x count
+
+  rise : Rises (startsOf (heldRecords count x))
+  rise = starts-rise sizes day series list x count k at
 
   -- what it leaves, with the index y
   abbrev Left : EditAnswer → Index → Type 0
@@ -91,27 +100,21 @@ module _ (sizes : Sizes) (day series list : List ℕ) (x : Index) (count : ℕ) 
 
       -- whether another record has the start: its own it may keep
       pub free-own : start ≡ event .start → T (not (isAmong start (startsOf (without id (heldRecords count x)))))
-      free-own same = rw (same ∙ ap (λ (r : Record). r .start) its) (own-start id rs old (k .rises))
+      free-own same = rw (same ∙ ap (λ (r : Record). r .start) its) (own-start id rs old rise)
 
+      -- another start is taken if the record before its place has it
       module _ (p : Place) (at-place : p ≡ placing start (heldStarts count x)) (other : start ≡ event .start → ⊥) where
         tested : isAmong start (startsOf others) ≡ startBefore (p .place) start (x .order)
         tested =
             without-starts id rs old start (λ e. other (e ∙ ap (λ (r : Record). r .start) (sym its)))
             ∙ sym
-            (taken-is x count (k .holds) (k .rises) start (p .place)
+            (taken-is x count (k .holds) rise start (p .place)
             (found-place sizes day series list x count k at p start at-place))
-
-        pub move-taken : startBefore (p .place) start (x .order) ≡ true → Left (StartTaken at) x
-        move-taken taken =
-            stays sizes day series list x count k at (move id start) (StartTaken at)
-            (refuses sizes day series list x count k at (move id start) 7
-            (move-7 sizes (lentPools day series) stands id start (holds range) old-id (holds (asked ∙ tested ∙ taken))))
 
         pub free-other : startBefore (p .place) start (x .order) ≡ false
             → T (not (isAmong start (startsOf (without id (heldRecords count x)))))
         free-other free = fails (tested ∙ free)
 
-      -- it goes to its new place: z is the index then
       module _ (p : Place) (at-place : p ≡ placing start (heldStarts count x)) (own : Place)
           (at-own : own ≡ placing (event .start) (heldStarts count x)) where
         abbrev left : Index
@@ -136,45 +139,83 @@ module _ (sizes : Sizes) (day series list : List ℕ) (x : Index) (count : ℕ) 
             ⊎-elim
             (λ before.
             rw (placeLeft, le-leb (own .place) (p .place) before)
-            (ap (λ (n : ℕ). n - 1) all ∙ sym (place-left-before id rs old (k .rises) start (omega arith))))
+            (ap (λ (n : ℕ). n - 1) all ∙ sym (place-left-before id rs old rise start (omega arith))))
             (λ behind.
             rw (placeLeft, lt-leb (own .place) (p .place) behind)
-            (all ∙ sym (place-left-behind id rs old (k .rises) start (omega arith))))
+            (all ∙ sym (place-left-behind id rs old rise start (omega arith))))
             (le-or-lt (own .place) (p .place))
 
-        pub move-goes : T (not (isAmong start (startsOf (without id (heldRecords count x)))))
-            → (to : ℕ) → to ≡ placeLeft (p .place) (own .place)
-            → (moved : Record) → moved ≡ withStart start event
-            → (z : Index) → z ≡ added (count - 1) to moved (takenOut count (own .place - 1) id x)
-            → Left Done z
-        move-goes free to is-to moved is-moved z is-z =
-            let r : Record = withStart start (find id rs) in
-            let same : moved ≡ r = is-moved ∙ ap (withStart start) its in
-            let same-id : moved .id ≡ id = ap (λ (q : Record). q .id) is-moved ∙ its-id in
-            let at-others : to ≡ placeOf start others = is-to ∙ left-place in
-            let there : to ≤ count - 1 = omega (arith, at-others, place-length start others, others-length) in
-            let room : count - 1 < slotLimit = omega (arith, k .holds .few, others-length) in
-            let again : count - 1 + 1 ≡ count = omega (arith, others-length) in
-            let small : moved .id < idLimit =
-            omega (arith, same-id, id-small sizes day series list x count k at id slot found some) in
-            let gone : T (not (isAmong (moved .id) (idsOf (heldRecords (count - 1) left)))) =
-            rw (left-records, same-id) (without-gone id rs (k .differ)) in
-            let records : heldRecords count z ≡ insert r others =
-            ap₂ heldRecords (sym again) is-z
-            ∙ add-records left-holds room to moved there
-            ∙ ap (λ (qs : List Record). take to qs ++ moved ∷ drop to qs) left-records
-            ∙ ap₂ (λ (n : ℕ) (q : Record). take n others ++ q ∷ drop n others) at-others same
-            ∙ sym (insert-place r others) in
-            let after : afterMove stands id start ≡ indexedList list z count =
-            ap
-            (λ (qs : List Record).
-            lentList (overwrite (indexedNumbers list x count) 0
-            (numbersOfAll (insert (withStart start (find id qs)) (without id qs)))) count)
-            (stands-records sizes day series list x count k at)
-            ∙ ap (λ (ns : List ℕ). lentList ns count)
-            (written-over sizes day series list x count k at (insert r others)
-            (omega (arith, insert-length r others, others-length))
-            ∙ ap (λ (qs : List Record). overwrite list 0 (numbersOfAll qs)) (sym records)) in
-            passes sizes day series list x count k at (move id start) (afterMove stands id start)
-            (move-passes sizes (lentPools day series) stands id start (holds range) old-id (rw asked free))
-            list z count after (rw is-z (rw again at (add-holds left-holds room to moved there small gone))) (k .fits)
+        -- to is its new place among the others, m the record as it then is
+        module _ (to : ℕ) (is-to : to ≡ placeLeft (p .place) (own .place)) (m : Record)
+            (is-m : m ≡ withStart start event) where
+          at-others : to ≡ placeOf start others
+          at-others = is-to ∙ left-place
+
+          same : m ≡ moved id start rs
+          same = is-m ∙ ap (withStart start) its
+
+          -- the two beside the place decide
+          beside : overlapsOne (moved id start (recordsOf stands)) (without id (recordsOf stands))
+              ≡ overlapsNeighbour m (x .slots) (x .order) count (own .place - 1) to
+          beside =
+              let pools : Pools = lentPools day series in
+              let out : own .place - 1 ≡ positionOf id rs =
+              its-position sizes day series list x count k at id slot found some event is own at-own in
+              let all : leave (own .place - 1) rs ≡ others =
+              ap (λ (n : ℕ). leave n rs) out ∙ sym (without-position id rs old) in
+              ap (λ (qs : List Record). overlapsOne (moved id start qs) (without id qs))
+              (stands-records sizes day series list x count k at)
+              ∙ ap (λ (q : Record). overlapsOne q others) (sym same)
+              ∙ overlap-by-place pools m others (without-rises pools id rs (k .rises pools))
+              ∙ ap₂ (overlapsBeside m) (ap (λ (q : Record). placeOf (q .start) others) is-m ∙ sym at-others) (sym all)
+              ∙ sym (neighbour-is (k .holds) m (own .place - 1) to)
+
+          pub move-overlaps : overlapsNeighbour m (x .slots) (x .order) count (own .place - 1) to ≡ true
+              → Left (Overlap at) x
+          move-overlaps e =
+              stays sizes day series list x count k at (move id start) (Overlap at)
+              (refuses sizes day series list x count k at (move id start) 30
+              (move-30 sizes (lentPools day series) stands id start (holds range) old-id (holds (beside ∙ e))))
+
+          module _ (clear : overlapsNeighbour m (x .slots) (x .order) count (own .place - 1) to ≡ false) where
+            pub move-taken : (start ≡ event .start → ⊥) → startBefore (p .place) start (x .order) ≡ true
+                → Left (StartTaken at) x
+            move-taken other taken =
+                stays sizes day series list x count k at (move id start) (StartTaken at)
+                (refuses sizes day series list x count k at (move id start) 7
+                (move-7 sizes (lentPools day series) stands id start (holds range) old-id (fails (beside ∙ clear))
+                (holds (asked ∙ tested p at-place other ∙ taken))))
+
+            -- it goes to its new place: z is the index then
+            pub move-goes : T (not (isAmong start (startsOf (without id (heldRecords count x)))))
+                → (z : Index) → z ≡ added (count - 1) to m (takenOut count (own .place - 1) id x) → Left Done z
+            move-goes free z is-z =
+                let r : Record = moved id start rs in
+                let same-id : m .id ≡ id = ap (λ (q : Record). q .id) is-m ∙ its-id in
+                let there : to ≤ count - 1 = omega (arith, at-others, place-length start others, others-length) in
+                let room : count - 1 < slotLimit = omega (arith, k .holds .few, others-length) in
+                let again : count - 1 + 1 ≡ count = omega (arith, others-length) in
+                let small : m .id < idLimit =
+                omega (arith, same-id, id-small sizes day series list x count k at id slot found some) in
+                let gone : T (not (isAmong (m .id) (idsOf (heldRecords (count - 1) left)))) =
+                rw (left-records, same-id) (without-gone id rs (k .differ)) in
+                let records : heldRecords count z ≡ insert r others =
+                ap₂ heldRecords (sym again) is-z
+                ∙ add-records left-holds room to m there
+                ∙ ap (λ (qs : List Record). take to qs ++ m ∷ drop to qs) left-records
+                ∙ ap₂ (λ (n : ℕ) (q : Record). take n others ++ q ∷ drop n others) at-others same
+                ∙ sym (insert-place r others) in
+                let after : afterMove stands id start ≡ indexedList list z count =
+                ap
+                (λ (qs : List Record).
+                lentList (overwrite (indexedNumbers list x count) 0
+                (numbersOfAll (insert (moved id start qs) (without id qs)))) count)
+                (stands-records sizes day series list x count k at)
+                ∙ ap (λ (ns : List ℕ). lentList ns count)
+                (written-over sizes day series list x count k at (insert r others)
+                (omega (arith, insert-length r others, others-length))
+                ∙ ap (λ (qs : List Record). overwrite list 0 (numbersOfAll qs)) (sym records)) in
+                passes sizes day series list x count k at (move id start) (afterMove stands id start)
+                (move-passes sizes (lentPools day series) stands id start (holds range) old-id
+                (fails (beside ∙ clear)) (rw asked free))
+                list z count after (rw is-z (rw again at (add-holds left-holds room to m there small gone))) (k .fits)

@@ -13,13 +13,13 @@ use Rattle.eit.specs.Records.{lentList, recordSize, recordsOf, recordsIn}
 use Rattle.eit.specs.Sound.{idsOf, allValid, sound}
 use Rattle.eit.specs.declared.Record.{Record}
 use Rattle.eit.proofs.Among.{among-at, among-found}
+use Rattle.eit.proofs.Events.{rising-any}
 use Rattle.eit.proofs.Records.{records-length, record-at}
 use Rattle.eit.proofs.Sound.{RecordFacts, sound-list, valid-at, range-facts}
 use Rattle.script.specs.Machine.{zeroRecord}
 use Rattle.edit_index.specs.Index.{slotLimit, idLimit, Index, slotRecord, heldRecords, Holds, loaded, indexedList}
 use Rattle.edit_index.proofs.IndexLaws.{index-records, indexed-own}
 use Rattle.edit_index.proofs.LoadLaws.{Loadable, loaded-holds, loaded-records}
-use Rattle.edit_index.proofs.RiseLaws.{rising-starts}
 use Rattle.edit.specs.Indexed.{Kept}
 
 -- ids of valid records are small
@@ -46,7 +46,7 @@ kept-sound sizes day series list x count h fits t =
     record {
       holds = h;
       fits = fits;
-      rises = rising-starts pools (heldRecords count x) (facts .rises);
+      rises = λ any. rising-any pools any (heldRecords count x) (facts .rises);
       differ = facts .differ;
       small = ids-small pools (heldRecords count x) (facts .valid);
     }

@@ -8,13 +8,14 @@ use lib.Dec.{T, leb, eqb}
 use lib.ListN.{length, getD}
 use Rattle.eit.specs.Among.{isAmong, allDiffer}
 use Rattle.eit.specs.Records.{recordSize}
-use Rattle.eit.specs.Sound.{idsOf, startsOf}
+use Rattle.eit.specs.Events.{eventsIn, rising}
+use Rattle.eit.specs.Pools.{Pools}
+use Rattle.eit.specs.Sound.{idsOf}
 use Rattle.script.specs.Edit as model
 use Rattle.edit_answer.specs.Outcome.{outcomeOf}
 use Rattle.edit_answer.specs.declared.Edited.{Edited}
 use Rattle.edit_index.specs.Order.{startIn}
 use Rattle.edit_index.specs.Index.{idLimit, Index, heldRecords, Holds, indexedNumbers}
-use Rattle.edit_index.specs.Rises.{Rises}
 
 -- the entry before a place has the start
 abbrev pub startBefore : ℕ → ℕ → List ℕ → Bool
@@ -25,11 +26,12 @@ startBefore (suc p) start order = eqb (startIn (getD order p 0)) start
 abbrev pub placeLeft : ℕ → ℕ → ℕ
 placeLeft place out = elim (leb out place) [ true ↦ place - 1 | false ↦ place ]
 
--- before an edit: an index of records whose starts rise and whose ids differ, and room for them in the lent list
+-- before an edit: an index of records each of which follows the one before, whose ids differ, and room for them in the
+-- lent list
 pub record Kept (list : List ℕ) (x : Index) (count : ℕ) : Type 0 where
   pub holds : Holds x count
   pub fits : count * recordSize ≤ length list
-  pub rises : Rises (startsOf (heldRecords count x))
+  pub rises : (pools : Pools) → T (rising (eventsIn pools (heldRecords count x)))
   pub differ : T (allDiffer (idsOf (heldRecords count x)))
   pub small : (id : ℕ) → T (isAmong id (idsOf (heldRecords count x))) → id < idLimit
 

@@ -5,6 +5,7 @@ use edit_answer::EditAnswer;
 use edit_answer::Edited;
 use edit_index::index;
 use edit_index::index::NO_SLOT;
+use edit_index::neighbours;
 use edit_index::order;
 use edit_index::search;
 use edit_scan::command;
@@ -57,7 +58,7 @@ fn is_taken(order: &[u64], place: usize, start: u32) -> bool
     order::start_at(order, place - 1) == start as u64
 }
 
-// PUT: 5, 9, 6, 7, 8; then the record is put in its place.
+// PUT: 5, 9, 6, 30, 7, 8; then the record is put in its place.
 fn put<'a>(
     list: &[u32],
     slots: &mut [u32],
@@ -98,6 +99,12 @@ fn put<'a>(
         };
     }
     let found = search::place_of(order, count, event.start);
+    if neighbours::overlaps_neighbour(slots, order, count, count, found.place, event) {
+        return Edited {
+            answer: EditAnswer::Overlap(at),
+            count,
+        };
+    }
     if is_taken(order, found.place, event.start) {
         return Edited {
             answer: EditAnswer::StartTaken(at),
@@ -161,7 +168,7 @@ fn place_left(place: usize, out: usize) -> usize
     if out <= place { place - 1 } else { place }
 }
 
-// MOVE: 5, 6, 7; then the record goes to the place of its new start among the others.
+// MOVE: 5, 6, 30, 7; then the record goes to the place of its new start among the others.
 fn move_to(
     list: &[u32],
     slots: &mut [u32],
@@ -198,14 +205,21 @@ fn move_to(
     let places = search::places_of(order, count, event.start, start);
     let own = places.one;
     let found = places.other;
-    if start != event.start && is_taken(order, found.place, start) {
+    let to = place_left(found.place, own.place);
+    let was = event.start;
+    event.start = start;
+    if neighbours::overlaps_neighbour(slots, order, count, own.place - 1, to, event) {
+        return Edited {
+            answer: EditAnswer::Overlap(at),
+            count,
+        };
+    }
+    if start != was && is_taken(order, found.place, start) {
         return Edited {
             answer: EditAnswer::StartTaken(at),
             count,
         };
     }
-    let to = place_left(found.place, own.place);
-    event.start = start;
     index::re_place(slots, order, ids, count, own.place - 1, to, id, event);
     Edited {
         answer: EditAnswer::Done,

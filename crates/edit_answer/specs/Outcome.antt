@@ -1,4 +1,5 @@
--- The paper's number and value for each case of Edit's answer (01, "When a call says no"). Assumes nothing.
+-- The papers' number and value for each case of Edit's answer (01, "When a call says no"; 02, W-204: 30). Assumes
+-- nothing.
 use Prim.Native.Nat.{ℕ}
 use mathlib.Core.List.{List}
 use Rattle.eit.specs.Records.{lentList}
@@ -7,6 +8,7 @@ use Rattle.edit_answer.specs.declared.EditAnswer.{EditAnswer}
 use Rattle.edit_answer.specs.declared.EditAnswer.the-variants.{Done, Unsound, BrokenScript, NothingToUndo}
 use Rattle.edit_answer.specs.declared.EditAnswer.the-variants.{OutOfRange}
 use Rattle.edit_answer.specs.declared.EditAnswer.the-variants.{WrongId, StartTaken, ListFull, NoChain}
+use Rattle.edit_answer.specs.declared.EditAnswer.the-variants.{Overlap}
 use Rattle.edit_answer.specs.declared.Edited.{Edited}
 
 -- Edit's refusals and their numbers
@@ -20,6 +22,7 @@ answerNumber (WrongId at) = 6
 answerNumber (StartTaken at) = 7
 answerNumber (ListFull at) = 8
 answerNumber (NoChain at) = 9
+answerNumber (Overlap at) = 30
 
 -- what is returned: on success the new count, of a refusal its offset, 0 for 12
 abbrev pub answerValue : ℕ → EditAnswer → ℕ
@@ -32,6 +35,7 @@ answerValue count (WrongId at) = at
 answerValue count (StartTaken at) = at
 answerValue count (ListFull at) = at
 answerValue count (NoChain at) = at
+answerValue count (Overlap at) = at
 
 -- the answer, the count and the buffer as Edit's definition has them
 abbrev pub outcomeOf : Edited → List ℕ → model.Edited

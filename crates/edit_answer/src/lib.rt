@@ -1,5 +1,5 @@
-// What Edit says: a case for each cause of 01's table ("When a call says no"), with the offset of the command's byte
-// where it returns one.
+// What Edit says: a case for each cause of 01's table ("When a call says no") and of 02's requests, with the offset of
+// the command's byte where it returns one.
 ghost use mathlib.Core.Path.{_≡_};
 ghost use Rattle.edit_answer.specs.Outcome.{answerNumber, answerValue};
 
@@ -22,6 +22,8 @@ pub enum EditAnswer {
     ListFull(usize),
     // 9: the part is outside its pool, or no chain.
     NoChain(usize),
+    // 30: the event would overlap another one.
+    Overlap(usize),
 }
 
 // The answer, and the count then held.
@@ -30,7 +32,7 @@ pub struct Edited {
     pub count: usize,
 }
 
-// 01's number of an answer.
+// The papers' number of an answer.
 pub fn number_of(answer: EditAnswer) -> u32
     ensures { λ r. ⌜ r ≡ answerNumber answer ⌝ }
 {
@@ -44,10 +46,11 @@ pub fn number_of(answer: EditAnswer) -> u32
         EditAnswer::StartTaken(_) => 7,
         EditAnswer::ListFull(_) => 8,
         EditAnswer::NoChain(_) => 9,
+        EditAnswer::Overlap(_) => 30,
     }
 }
 
-// 01's value of an answer, with the count then held.
+// The papers' value of an answer, with the count then held.
 pub fn value_of(answer: EditAnswer, count: usize) -> usize
     ensures { λ r. ⌜ r ≡ answerValue count answer ⌝ }
 {
@@ -61,5 +64,6 @@ pub fn value_of(answer: EditAnswer, count: usize) -> usize
         EditAnswer::StartTaken(at) => at,
         EditAnswer::ListFull(at) => at,
         EditAnswer::NoChain(at) => at,
+        EditAnswer::Overlap(at) => at,
     }
 }

@@ -60,6 +60,16 @@ module _ {x : Index} {count : ℕ} (h : Holds x count) where
       ∙ sym (map-at startIn (take count (x .order)) k 0 0 few)
       ∙ ap (λ (starts : List ℕ). getD starts k 0) (h .starts)
 
+  -- a record is the one in the slot of its entry
+  pub held-record : (k : ℕ) → k < count
+      → getD (heldRecords count x) k zeroRecord ≡ slotRecord (x .slots) (slotIn (getD (x .order) k 0))
+  held-record k within =
+      let few : k < length (take count (x .order)) = omega (arith, entries-length) in
+      map-at (slotRecord (x .slots)) (heldSlots count x) k 0 zeroRecord (omega (arith, slots-length))
+      ∙ ap (slotRecord (x .slots))
+      (map-at slotIn (take count (x .order)) k 0 0 few
+      ∙ ap slotIn (getD-take count (x .order) k 0 within))
+
   -- the order's slots are those of the records and those behind them
   pub slots-cut : slotsIn (x .order) ≡ heldSlots count x ++ slotsIn (drop count (x .order))
   slots-cut =

@@ -17,5 +17,7 @@ pub mod AddLaws
 pub mod TakeOutLaws
 -- an index made from a list, and written back to it
 pub mod LoadLaws
+-- the records beside a place
+pub mod NeighbourLaws
 -- places by starts that rise
 pub mod RiseLaws

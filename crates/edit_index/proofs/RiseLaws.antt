@@ -1,13 +1,13 @@
 -- Places by starts that rise strictly: the place of a start, whether a record has it, and the place of the record of an
 -- id. By the records before the place and the one behind it. Assumes nothing.
-use mathlib.Core.Path.{_≡_, refl, sym, ap, subst, _∙_}
+use mathlib.Core.Path.{_≡_, sym, ap, subst, _∙_}
 use mathlib.Core.Logic.{⊎-elim}
 use mathlib.Core.Bool.{Bool, not, _||_}
-use mathlib.Core.List.{List, [], _∷_, _++_}
+use mathlib.Core.List.{List, [], _∷_}
 use Prim.Native.Nat.{ℕ, zero, suc, _-_, _≤_, _<_}
 use native.Mathlib.Omega.{arith}
 use lib.Dec.{T, eqb, ltb, lt→ltb, ltb→lt, nltb→le, not-T}
-use lib.ListN.{length, getD, take, drop, length-append, length-take, length-drop, length-map, List·getD-map}
+use lib.ListN.{length, getD, length-append, length-take, length-drop, length-map, List·getD-map}
 use Rattle.eit.specs.Pools.{Pools}
 use Rattle.eit.specs.Among.{isAmong}
 use Rattle.eit.specs.Events.{eventOf, eventsIn, rising}
@@ -22,7 +22,7 @@ use Rattle.script.specs.Machine.{find, without, zeroRecord}
 use Rattle.script.proofs.Placing.{find-here, find-later, without-here, without-later, without-length, among-later}
 use Rattle.script.proofs.Places.{find-at, without-position}
 use Rattle.edit_index.specs.Rises.{Rises}
-use Rattle.edit_index.proofs.SlotLaws.{map-leave}
+use Rattle.edit_index.proofs.SlotLaws.{map-leave, leave, leave-before, leave-behind}
 
 pub starts-length : (rs : List Record) → length (startsOf rs) ≡ length rs
 starts-length rs = length-map rs (λ (r : Record). r .start)
@@ -119,38 +119,24 @@ module _ (rs : List Record) (rises : Rises (startsOf rs)) where
 
 -- ---- starts with one taken out
 
--- those before it stay, those behind it move down
-leave-before : (i : ℕ) (ss : List ℕ) (k : ℕ) → k < i → getD (take i ss ++ drop (suc i) ss) k 0 ≡ getD ss k 0
-leave-before zero ss k h = absurd (omega arith)
-leave-before (suc i) [] k h = refl
-leave-before (suc i) (s ∷ ss) zero h = refl
-leave-before (suc i) (s ∷ ss) (suc k) h = leave-before i ss k (omega arith)
-
-leave-behind : (i : ℕ) (ss : List ℕ) (k : ℕ) → i ≤ k → getD (take i ss ++ drop (suc i) ss) k 0 ≡ getD ss (suc k) 0
-leave-behind zero [] k h = refl
-leave-behind zero (s ∷ ss) k h = refl
-leave-behind (suc i) [] k h = refl
-leave-behind (suc i) (s ∷ ss) zero h = absurd (omega arith)
-leave-behind (suc i) (s ∷ ss) (suc k) h = leave-behind i ss k (omega arith)
-
 module _ (ss : List ℕ) (rises : Rises ss) (i : ℕ) (within : i < length ss) where
   abbrev others : List ℕ
-  others = take i ss ++ drop (suc i) ss
+  others = leave i ss
 
   others-length : suc (length others) ≡ length ss
   others-length = simp (length-append, length-take, length-drop) (omega arith)
 
   -- none of them has its start
-  leave-none : T (not (isAmong (getD ss i 0) others))
-  leave-none =
+  own-none : T (not (isAmong (getD ss i 0) others))
+  own-none =
       not-T (isAmong (getD ss i 0) others)
       (λ a.
       let found = among-found (getD ss i 0) others a in
       let size : suc (length others) ≡ length ss = others-length in
       ⊎-elim
       (λ behind. omega
-      (arith, leave-behind i ss (found .0) behind, rises i (suc (found .0)) (omega arith) (omega arith)))
-      (λ before. omega (arith, leave-before i ss (found .0) before, rises (found .0) i before within))
+      (arith, leave-behind i ss (found .0) 0 behind, rises i (suc (found .0)) (omega arith) (omega arith)))
+      (λ before. omega (arith, leave-before i ss (found .0) 0 before, rises (found .0) i before within))
       (le-or-lt i (found .0)))
 
 -- ---- the record of an id
@@ -161,8 +147,7 @@ module _ (id : ℕ) (rs : List Record) (a : T (isAmong id (idsOf rs))) where
       List·getD-map (λ (r : Record). r .start) rs (positionOf id rs) zeroRecord
       ∙ ap (λ (r : Record). r .start) (sym (find-at id rs zeroRecord a))
 
-  others-are : startsOf (without id rs)
-      ≡ take (positionOf id rs) (startsOf rs) ++ drop (suc (positionOf id rs)) (startsOf rs)
+  others-are : startsOf (without id rs) ≡ leave (positionOf id rs) (startsOf rs)
   others-are = ap startsOf (without-position id rs a) ∙ map-leave (λ (r : Record). r .start) (positionOf id rs) rs
 
   -- another start is among the others exactly if it is among all
@@ -195,7 +180,7 @@ module _ (id : ℕ) (rs : List Record) (a : T (isAmong id (idsOf rs))) where
 
     -- its own start is not among the others
     pub own-start : T (not (isAmong (find id rs .start) (startsOf (without id rs))))
-    own-start = rw (others-are, ← found-start) (leave-none (startsOf rs) rises (positionOf id rs) position-starts)
+    own-start = rw (others-are, ← found-start) (own-none (startsOf rs) rises (positionOf id rs) position-starts)
 
     -- the place of a start, once the record is taken out: one less if the record stood before it
     module _ (start : ℕ) where
@@ -203,10 +188,12 @@ module _ (id : ℕ) (rs : List Record) (a : T (isAmong id (idsOf rs))) where
       left-length = without-length id rs a
 
       left-before : (k : ℕ) → k < positionOf id rs → getD (startsOf (without id rs)) k 0 ≡ getD (startsOf rs) k 0
-      left-before k h = ap (λ (xs : List ℕ). getD xs k 0) others-are ∙ leave-before (positionOf id rs) (startsOf rs) k h
+      left-before k h =
+          ap (λ (xs : List ℕ). getD xs k 0) others-are ∙ leave-before (positionOf id rs) (startsOf rs) k 0 h
 
       left-behind : (k : ℕ) → positionOf id rs ≤ k → getD (startsOf (without id rs)) k 0 ≡ getD (startsOf rs) (suc k) 0
-      left-behind k h = ap (λ (xs : List ℕ). getD xs k 0) others-are ∙ leave-behind (positionOf id rs) (startsOf rs) k h
+      left-behind k h =
+          ap (λ (xs : List ℕ). getD xs k 0) others-are ∙ leave-behind (positionOf id rs) (startsOf rs) k 0 h
 
       later : (k : ℕ) → placeOf start rs ≤ k → k < length rs → start < getD (startsOf rs) k 0
       later k h within =

@@ -124,6 +124,31 @@ module _ {A B : Type 0} (f : A → B) where
   map-at (e ∷ es) zero a b h = refl
   map-at (e ∷ es) (suc k) a b h = map-at es k a b (omega arith)
 
+-- ---- all but one
+
+module _ {A : Type 0} where
+  abbrev pub leave : ℕ → List A → List A
+  leave i es = take i es ++ drop (suc i) es
+
+  -- those before it stay, those behind it move down
+  pub leave-before : (i : ℕ) (es : List A) (k : ℕ) (d : A) → k < i → getD (leave i es) k d ≡ getD es k d
+  leave-before zero es k d h = absurd (omega arith)
+  leave-before (suc i) [] k d h = refl
+  leave-before (suc i) (e ∷ es) zero d h = refl
+  leave-before (suc i) (e ∷ es) (suc k) d h = leave-before i es k d (omega arith)
+
+  pub leave-behind : (i : ℕ) (es : List A) (k : ℕ) (d : A) → i ≤ k → getD (leave i es) k d ≡ getD es (suc k) d
+  leave-behind zero [] k d h = refl
+  leave-behind zero (e ∷ es) k d h = refl
+  leave-behind (suc i) [] k d h = refl
+  leave-behind (suc i) (e ∷ es) zero d h = absurd (omega arith)
+  leave-behind (suc i) (e ∷ es) (suc k) d h = leave-behind i es k d (omega arith)
+
+  -- behind all there is none to leave out
+  pub leave-none : (es : List A) → leave (length es) es ≡ es
+  leave-none [] = refl
+  leave-none (e ∷ es) = ap (λ (fs : List A). e ∷ fs) (leave-none es)
+
 -- ---- the slot of an id
 
 module _ (f : ℕ → Record) where

@@ -16,7 +16,8 @@ use Rattle.eit.specs.Sizes.{broadcast}
 use Rattle.edit_index.specs.Order.{startsIn}
 use Rattle.edit_index.specs.declared.search.Places.{Places}
 use Rattle.edit.proofs.IndexedLaws.{its-place}
-use Rattle.edit.proofs.MoveLaws.{move-outside, move-absent, move-taken, free-own, free-other, move-goes}
+use Rattle.edit.proofs.MoveLaws.{move-outside, move-absent, move-overlaps, move-taken, free-own, free-other}
+use Rattle.edit.proofs.MoveLaws.{move-goes}
 use Rattle.edit.proofs.machine.move_to.Statement.{statement}
 use Rattle.edit.proofs.machine.move_to.Tie as tie
 
@@ -56,8 +57,12 @@ module _ (c : tie.After-places-of) where
             own,
       )
 
-abbrev found : tie.Joined3 → tie.After-places-of
-found c = c .before .before .before .before
+-- the new place among the others, and the places before
+abbrev placed : tie.After-overlaps-neighbour → tie.After-place-left
+placed c = c .before .before .before .before
+
+abbrev found : tie.After-place-left → tie.After-places-of
+found c = c .before .before .before
 
 is-start-requires : tie.Need-is-start-requires
 is-start-requires c κs = search needs
@@ -90,8 +95,14 @@ record-at-requires c κs = search needs
 places-of-requires : tie.Need-places-of-requires
 places-of-requires c κs = search needs
 
-is-taken-requires : tie.Need-is-taken-requires
-is-taken-requires c κs = search needs
+place-left-requires : tie.Need-place-left-requires
+place-left-requires c κs = own-some (c .before .before)
+
+sub-overlaps-neighbour : tie.Need-sub-overlaps-neighbour
+sub-overlaps-neighbour c = omega (arith, own-some (found (c .before .before .before)))
+
+overlaps-neighbour-requires : tie.Need-overlaps-neighbour-requires
+overlaps-neighbour-requires c κs = search needs
 
 same-length-2 : tie.Need-same-length-2
 same-length-2 c = search needs
@@ -104,22 +115,18 @@ same-length-4 c = search needs
 
 returns-3 : tie.Need-returns-3
 returns-3 c = λ sizes day series.
-    let places = c .before .before .before .before .before .before .before in
+    let left = placed (c .before) in
+    let places = found left in
     let start = entry (ranged places) in
-    move-taken sizes day series _ _ _ (start .pre) (start .args .at) _ _ (in-window (ranged places)) _
-    (present places .before .slot-of .ensures) (present places .if2 .left) _
-    (places .before .before .record-at .ensures) _ (new places) (c .before .before .before .if3 .taken)
-    (sym (c .before .is-taken .ensures) ∙ c .if4 .taken)
+    let slot = present places .before .slot-of .ensures in
+    let some = present places .if2 .left in
+    let event = places .before .before .record-at .ensures in
+    move-overlaps sizes day series _ _ _ (start .pre) (start .args .at) _ _ (in-window (ranged places)) _ slot some _
+    event _ (new places) _ (own places) _ (left .place-left .ensures) _ refl
+    (sym (c .before .overlaps-neighbour .ensures) ∙ c .if3 .taken)
 
-place-left-requires : tie.Need-place-left-requires
-place-left-requires c κs = own-some (found c)
-
-sub-re-place : tie.Need-sub-re-place
-sub-re-place c =
-    let joined = c .before .before .before .before .before in omega (arith, own-some (found joined))
-
-re-place-requires : tie.Need-re-place-requires
-re-place-requires c κs = search needs
+is-taken-requires : tie.Need-is-taken-requires
+is-taken-requires c κs = search needs
 
 same-length-5 : tie.Need-same-length-5
 same-length-5 c = search needs
@@ -132,17 +139,50 @@ same-length-7 c = search needs
 
 returns-4 : tie.Need-returns-4
 returns-4 c = λ sizes day series.
+    let clear = c .before .before .before .before in
+    let left = placed (clear .before) in
+    let places = found left in
+    let start = entry (ranged places) in
+    let slot = present places .before .slot-of .ensures in
+    let some = present places .if2 .left in
+    let event = places .before .before .record-at .ensures in
+    move-taken sizes day series _ _ _ (start .pre) (start .args .at) _ _ (in-window (ranged places)) _ slot some _
+    event _ (new places) _ (own places) _ (left .place-left .ensures) _ refl
+    (sym (clear .before .overlaps-neighbour .ensures) ∙ clear .if3 .left) (c .before .before .before .if4 .taken)
+    (sym (c .before .is-taken .ensures) ∙ c .if5 .taken)
+
+sub-re-place : tie.Need-sub-re-place
+sub-re-place c =
+    let clear = c .before .before .before .before .before in
+    omega (arith, own-some (found (placed (clear .before))))
+
+re-place-requires : tie.Need-re-place-requires
+re-place-requires c κs = search needs
+
+same-length-8 : tie.Need-same-length-8
+same-length-8 c = search needs
+
+same-length-9 : tie.Need-same-length-9
+same-length-9 c = search needs
+
+same-length-10 : tie.Need-same-length-10
+same-length-10 c = search needs
+
+returns-5 : tie.Need-returns-5
+returns-5 c = λ sizes day series.
     let goes = c .before .before .before .before .before .before in
-    let left = goes .before .before .before .before .before in
-    let joined = left .before in
-    let places = found joined in
+    let joined = goes .before .before .before .before .before in
+    let clear = joined .before in
+    let left = placed (clear .before) in
+    let places = found left in
     let start = entry (ranged places) in
     let slot = present places .before .slot-of .ensures in
     let some = present places .if2 .left in
     let event = places .before .before .record-at .ensures in
     move-goes sizes day series _ _ _ (start .pre) (start .args .at) _ _ (in-window (ranged places)) _ slot some _
-    event _ (new places) _ (own places)
-    (elim (joined .if3 .came) [
+    event _ (new places) _ (own places) _ (left .place-left .ensures) _ refl
+    (sym (clear .before .overlaps-neighbour .ensures) ∙ clear .if3 .left)
+    (elim (joined .if4 .came) [
       | inl w ↦
           free-other sizes day series _ _ _ (start .pre) (start .args .at) _ _ (in-window (ranged places)) _ slot some
           _ event _ (new places) (w .0 .taken) (sym (w .2 .ensures) ∙ w .3 .left)
@@ -150,7 +190,7 @@ returns-4 c = λ sizes day series.
           free-own sizes day series _ _ _ (start .pre) (start .args .at) _ _ (in-window (ranged places)) _ slot some _
           event (w .left)
     ])
-    _ (left .place-left .ensures) _ refl _ (goes .re-place .ensures)
+    _ (goes .re-place .ensures)
 
 pub move-to-spec : {M : Type 1} → statement M
 move-to-spec =
@@ -164,15 +204,21 @@ move-to-spec =
     cast-record-at
     record-at-requires
     places-of-requires
-    is-taken-requires
+    place-left-requires
+    sub-overlaps-neighbour
+    overlaps-neighbour-requires
     same-length-2
     same-length-3
     same-length-4
     returns-3
-    place-left-requires
-    sub-re-place
-    re-place-requires
+    is-taken-requires
     same-length-5
     same-length-6
     same-length-7
-    returns-4)
+    returns-4
+    sub-re-place
+    re-place-requires
+    same-length-8
+    same-length-9
+    same-length-10
+    returns-5)

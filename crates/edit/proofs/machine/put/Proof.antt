@@ -7,7 +7,8 @@ use borrow.Author.Needs.{needs}
 use borrow.Author.Tests.{not-true, not-false}
 use Rattle.eit.specs.Pools.{lentPools}
 use Rattle.eit.specs.Sound.{inRange, hasChain}
-use Rattle.edit.proofs.PutLaws.{put-outside, put-unchained, put-present, put-taken, put-full, put-goes-in}
+use Rattle.edit.proofs.PutLaws.{put-outside, put-unchained, put-present, put-overlaps, put-taken, put-full}
+use Rattle.edit.proofs.PutLaws.{put-goes-in}
 use Rattle.edit.proofs.machine.put.Statement.{statement}
 use Rattle.edit.proofs.machine.put.Tie as tie
 
@@ -27,12 +28,18 @@ module _ (c : tie.Else2) where
   has-part : let a = entry ranged .args in hasChain (lentPools (now (a .day)) (now (a .series))) (a .event) ≡ true
   has-part = sym (c .before .has-chain .ensures) ∙ not-false (c .before .has-chain .result) (c .if2 .left)
 
--- 6 is, and 7 is
+-- 6 is, and the place is found; 30 is; 7 is
 abbrev chained : tie.Else3 → tie.Else2
 chained c = c .before .before .before
 
-abbrev new : tie.Else4 → tie.Else3
-new c = c .before .before .before .before .before
+abbrev new : tie.After-place-of → tie.Else3
+new c = c .before .before
+
+abbrev located : tie.After-overlaps-neighbour → tie.After-place-of
+located c = c .before .before .before
+
+abbrev apart : tie.Else5 → tie.Else4
+apart c = c .before .before .before
 
 is-in-range-requires : tie.Need-is-in-range-requires
 is-in-range-requires c κs = search needs
@@ -70,8 +77,8 @@ returns-3 c =
 place-of-requires : tie.Need-place-of-requires
 place-of-requires c κs = search needs
 
-is-taken-requires : tie.Need-is-taken-requires
-is-taken-requires c κs = search needs
+overlaps-neighbour-requires : tie.Need-overlaps-neighbour-requires
+overlaps-neighbour-requires c κs = search needs
 
 same-length-2 : tie.Need-same-length-2
 same-length-2 c = search needs
@@ -79,43 +86,25 @@ same-length-2 c = search needs
 same-length-3 : tie.Need-same-length-3
 same-length-3 c = search needs
 
-returns-4 : tie.Need-returns-4
-returns-4 c =
-    let found = c .before .before .before in
-    let absent = found .before .before in
-    let part = chained absent in
-    let start = entry (ranged part) in
-    put-taken (start .args .sizes) _ _ _ _ _ (start .pre .0) (start .args .at) _ (in-range (ranged part))
-    (has-part part)
-    _ (absent .before .slot-of .ensures) (absent .if3 .left) _ (found .place-of .ensures)
-    (sym (c .before .is-taken .ensures) ∙ c .if4 .taken)
-
-limit-of-requires : tie.Need-limit-of-requires
-limit-of-requires c κs = search needs
-
 same-length-4 : tie.Need-same-length-4
 same-length-4 c = search needs
 
-same-length-5 : tie.Need-same-length-5
-same-length-5 c = search needs
-
-returns-5 : tie.Need-returns-5
-returns-5 c =
-    let free = c .before .before in
-    let absent = new free in
+returns-4 : tie.Need-returns-4
+returns-4 c =
+    let found = located (c .before) in
+    let absent = new found in
     let part = chained absent in
     let start = entry (ranged part) in
-    put-full (start .args .sizes) _ _ _ _ _ (start .pre .0) (start .args .at) _ (in-range (ranged part))
+    put-overlaps (start .args .sizes) _ _ _ _ _ (start .pre .0) (start .args .at) _ (in-range (ranged part))
     (has-part part)
-    _ (absent .before .slot-of .ensures) (absent .if3 .left) _ (free .before .before .before .place-of .ensures)
-    (sym (free .before .is-taken .ensures) ∙ free .if4 .left)
-    (omega (arith, c .before .limit-of .ensures))
+    _ (absent .before .slot-of .ensures) (absent .if3 .left) _ (found .place-of .ensures)
+    (sym (c .before .overlaps-neighbour .ensures) ∙ c .if4 .taken)
 
-add-requires : tie.Need-add-requires
-add-requires c κs = search needs
+is-taken-requires : tie.Need-is-taken-requires
+is-taken-requires c κs = search needs
 
-add-t26 : tie.Need-add-t26
-add-t26 c = search needs
+same-length-5 : tie.Need-same-length-5
+same-length-5 c = search needs
 
 same-length-6 : tie.Need-same-length-6
 same-length-6 c = search needs
@@ -123,21 +112,76 @@ same-length-6 c = search needs
 same-length-7 : tie.Need-same-length-7
 same-length-7 c = search needs
 
+returns-5 : tie.Need-returns-5
+returns-5 c =
+    let clear = c .before .before .before in
+    let found = located (clear .before) in
+    let absent = new found in
+    let part = chained absent in
+    let start = entry (ranged part) in
+    put-taken (start .args .sizes) _ _ _ _ _ (start .pre .0) (start .args .at) _ (in-range (ranged part))
+    (has-part part)
+    _ (absent .before .slot-of .ensures) (absent .if3 .left) _ (found .place-of .ensures)
+    (sym (clear .before .overlaps-neighbour .ensures) ∙ clear .if4 .left)
+    (sym (c .before .is-taken .ensures) ∙ c .if5 .taken)
+
+limit-of-requires : tie.Need-limit-of-requires
+limit-of-requires c κs = search needs
+
 same-length-8 : tie.Need-same-length-8
 same-length-8 c = search needs
 
+same-length-9 : tie.Need-same-length-9
+same-length-9 c = search needs
+
+same-length-10 : tie.Need-same-length-10
+same-length-10 c = search needs
+
 returns-6 : tie.Need-returns-6
 returns-6 c =
+    let free = c .before .before in
+    let clear = apart free in
+    let found = located (clear .before) in
+    let absent = new found in
+    let part = chained absent in
+    let start = entry (ranged part) in
+    put-full (start .args .sizes) _ _ _ _ _ (start .pre .0) (start .args .at) _ (in-range (ranged part))
+    (has-part part)
+    _ (absent .before .slot-of .ensures) (absent .if3 .left) _ (found .place-of .ensures)
+    (sym (clear .before .overlaps-neighbour .ensures) ∙ clear .if4 .left)
+    (sym (free .before .is-taken .ensures) ∙ free .if5 .left)
+    (omega (arith, c .before .limit-of .ensures))
+
+add-requires : tie.Need-add-requires
+add-requires c κs = search needs
+
+add-t32 : tie.Need-add-t32
+add-t32 c = search needs
+
+same-length-11 : tie.Need-same-length-11
+same-length-11 c = search needs
+
+same-length-12 : tie.Need-same-length-12
+same-length-12 c = search needs
+
+same-length-13 : tie.Need-same-length-13
+same-length-13 c = search needs
+
+returns-7 : tie.Need-returns-7
+returns-7 c =
     let added = c .before .before .before .before .before .before in
     let room = added .before .before .before .before in
     let free = room .before .before in
-    let absent = new free in
+    let clear = apart free in
+    let found = located (clear .before) in
+    let absent = new found in
     let part = chained absent in
     let start = entry (ranged part) in
     put-goes-in (start .args .sizes) _ _ _ _ _ (start .pre .0) (start .args .at) _ (in-range (ranged part))
     (has-part part)
-    _ (absent .before .slot-of .ensures) (absent .if3 .left) _ (free .before .before .before .place-of .ensures)
-    (sym (free .before .is-taken .ensures) ∙ free .if4 .left)
+    _ (absent .before .slot-of .ensures) (absent .if3 .left) _ (found .place-of .ensures)
+    (sym (clear .before .overlaps-neighbour .ensures) ∙ clear .if4 .left)
+    (sym (free .before .is-taken .ensures) ∙ free .if5 .left)
     (omega (arith, room .before .limit-of .ensures)) (start .pre .1) _ (added .add .ensures)
 
 pub put-spec : {M : Type 1} → statement M
@@ -152,17 +196,24 @@ put-spec =
     same-length
     returns-3
     place-of-requires
-    is-taken-requires
+    overlaps-neighbour-requires
     same-length-2
     same-length-3
-    returns-4
-    limit-of-requires
     same-length-4
+    returns-4
+    is-taken-requires
     same-length-5
-    returns-5
-    add-requires
-    add-t26
     same-length-6
     same-length-7
+    returns-5
+    limit-of-requires
     same-length-8
-    returns-6)
+    same-length-9
+    same-length-10
+    returns-6
+    add-requires
+    add-t32
+    same-length-11
+    same-length-12
+    same-length-13
+    returns-7)
