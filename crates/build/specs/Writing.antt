@@ -15,8 +15,8 @@ use Rattle.schedule.specs.Each.{each}
 use Rattle.schedule.specs.SectionsOf.{isUnpackable, sectionsOf}
 use Rattle.schedule.specs.Plan.{sectionCount}
 
--- starts rise and are in range, no segment is unpackable, each segment's sections are counted, and the output is long
--- enough
+-- each event follows the one before, starts are in range, no segment is unpackable, each segment's sections are
+-- counted, and the output is long enough
 pub record Writable (sizes : Sizes) (identity : Identity) (es : List Event) (counts output : List ℕ) : Type 0 where
   pub rises : T (rising es)
   pub starts : Every (λ (e : Event). e .start < windowSeconds) es

@@ -24,7 +24,7 @@ pub fn is_in_range(event: Record) -> bool
         && event.marks <= MARKS_MAX
 }
 
-// Whether the list is sound, in one pass: starts rise from `least` on, and ids are kept in a set.
+// Whether the list is sound, in one pass: the next event may start from `least` on, and ids are kept in a set.
 pub fn is_sound<'a>(
     list: &[u32],
     count: usize,

@@ -1,6 +1,6 @@
 -- A pass over a section's events that keeps the least start that the next event may have, and the ids so far as a set
--- (01, "The file of sections": over the file starts rise strictly, ids differ). Laws: proofs/EventPassLaws.antt,
--- proofs/EventsSoFarLaws.antt. Assumes nothing.
+-- (01, "The file of sections": over the file starts rise strictly, ids differ; 02, W-204: no overlap). Laws:
+-- proofs/EventPassLaws.antt, proofs/EventsSoFarLaws.antt. Assumes nothing.
 use Prim.Native.Nat.{ℕ, _+_}
 use mathlib.Core.Bool.{Bool, true, false, not, _&&_}
 use mathlib.Core.List.{List, [], _∷_}

@@ -1,5 +1,5 @@
 -- What is kept of the events so far: a least start and a set of ids (01, "The file of sections": over the file starts
--- rise strictly, ids differ). Laws: proofs/EventsSoFarLaws.antt. Assumes nothing.
+-- rise strictly, ids differ; 02, W-204: no overlap). Laws: proofs/EventsSoFarLaws.antt. Assumes nothing.
 use mathlib.Core.Path.{_≡_}
 use mathlib.Core.List.{List, [], _∷_}
 use Prim.Native.Nat.{ℕ}

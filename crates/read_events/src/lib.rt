@@ -51,8 +51,8 @@ fn is_new(event: Record, least: u64, seen: &[u64]) -> bool
     least <= event.start as u64 && !seen::is_seen(seen, event.id)
 }
 
-// 24: every event of the loop passes, and follows those before, whose ids are in the set and which start before
-// `least`. The ids of the events that passed are added to the set.
+// 24: every event of the loop passes, and follows those before, whose ids are in the set and which end by `least`. The
+// ids of the events that passed are added to the set.
 pub fn check_events(
     events: &[u8],
     header: SectionHeader,

@@ -8,6 +8,7 @@ use Rattle.sections.specs.EventTests.{isEvent, isEventLoop, isWithinLimit}
 use Rattle.sections.specs.Read.{read}
 use Rattle.samples_refusals.specs.Refusals.{Refusals}
 use Rattle.samples_refusals.specs.EventRefusals.{EventRefusals}
+use Rattle.samples_refusals.specs.OverlapRefusals.{OverlapRefusals}
 
 pub refusals : Refusals
 unfolding read isFramed hasRightCrc isHeader hasRightNumbering isEvent isEventLoop isWithinLimit crc32 isChain follows
@@ -86,4 +87,20 @@ event-refusals =
       last-table-early = refl;
       early-and-short = refl;
       refused-leaves = refl;
+    }
+
+pub overlap-refusals : OverlapRefusals
+unfolding read isFramed hasRightCrc isHeader hasRightNumbering isEvent isEventLoop isWithinLimit crc32 isChain follows
+overlap-refusals =
+    record {
+      section-touching = refl;
+      section-overlap = refl;
+      sections-touching = refl;
+      sections-overlap = refl;
+      segments-touching = refl;
+      segments-overlap = refl;
+      tables-touching = refl;
+      tables-overlap = refl;
+      inside-touching = refl;
+      inside-overlap = refl;
     }

@@ -37,6 +37,8 @@ examples =
       other-segment = refl;
       same-id-apart = refl;
       broken-behind-limit = refl;
+      touching = refl;
+      overlap = refl;
       buffer-short = refl;
     }
 
@@ -49,6 +51,8 @@ broken =
           λ keeps. ⊎-elim (λ same. omega (arith, same)) (λ later. omega (arith, later)) (keeps .whole);
       empty-before-other = λ keeps. omega (arith, keeps .alone refl .last);
       earlier-start = λ keeps. keeps .rises;
+      one-second = λ keeps. keeps .rises;
+      one-second-apart = λ keeps. keeps .rises;
       id-twice = λ keeps. keeps .differ;
       one-too-many = λ keeps. omega (arith, keeps .few);
     }

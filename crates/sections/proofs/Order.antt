@@ -1,5 +1,5 @@
--- Read's look-back test says the same as "starts rise strictly and ids differ" over all events in order: by induction
--- over the new events, where each joins the end of those seen. Assumes nothing.
+-- Read's look-back test says the same as the rule over all events in order, that each follows the one before and ids
+-- differ: by induction over the new events, where each joins the end of those seen. Assumes nothing.
 use mathlib.Core.Path.{_≡_, refl, ap, subst, _∙_}
 use mathlib.Core.Bool.{Bool, true, false, not, _||_}
 use mathlib.Core.Logic.{_↔_}
@@ -17,7 +17,7 @@ use Rattle.eit.proofs.Events.{rising-snoc, rising-front}
 use Rattle.sections.specs.Section.{eventIds}
 use Rattle.sections.specs.EventTests.{isNew, areNew}
 
--- starts rise strictly and ids differ
+-- each follows the one before, and ids differ
 pub record InOrder (es : List Event) : Type 0 where
   pub rises : T (rising es)
   pub differ : T (allDiffer (eventIds es))

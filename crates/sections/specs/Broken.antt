@@ -22,13 +22,24 @@ numbered S G L =
       version = identity .version;
     }
 
--- two events of a second without descriptors, each with its id and start, in one section
-abbrev pub plainEvent : ℕ → ℕ → Event
-plainEvent id start = record { id = id; start = start; duration = 1; offAir = false; freeCa = false; chain = [] }
+-- an event without descriptors: id, start, duration; and one of a second
+abbrev pub lasting : ℕ → ℕ → ℕ → Event
+lasting id start duration =
+    record { id = id; start = start; duration = duration; offAir = false; freeCa = false; chain = [] }
 
-abbrev pub twoEvents : ℕ × ℕ → ℕ × ℕ → List Section
-twoEvents (id, start) (otherId, otherStart) =
-    record { header = numbered 0 0 0; events = plainEvent id start ∷ plainEvent otherId otherStart ∷ [] } ∷ []
+abbrev pub plainEvent : ℕ → ℕ → Event
+plainEvent id start = lasting id start 1
+
+-- two events in one section, and in the first and the third of three segments
+abbrev pub together : Event → Event → List Section
+together e f = record { header = numbered 0 0 0; events = e ∷ f ∷ [] } ∷ []
+
+abbrev pub segmentsApart : Event → Event → List Section
+segmentsApart e f =
+    record { header = numbered 0 0 16; events = e ∷ [] }
+    ∷ record { header = numbered 8 8 16; events = [] }
+    ∷ record { header = numbered 16 16 16; events = f ∷ [] }
+    ∷ []
 
 pub record Broken : Type 0 where
   -- a ninth section in a segment; a table that ends within a segment's eight numbers; an empty section that is not
@@ -36,8 +47,12 @@ pub record Broken : Type 0 where
   pub ninth-section : Numbered (numbered 0 8 8) → ⊥
   pub last-in-segment : Numbered (numbered 0 0 7) → ⊥
   pub empty-before-other : SectionRules broadcast identity 0x50 (record { header = numbered 0 1 1; events = [] }) → ⊥
-  -- an event that starts before the one before it; an id twice; one event too many
-  pub earlier-start : Rules broadcast identity (twoEvents (1, 10) (2, 9)) → ⊥
-  pub id-twice : Rules broadcast identity (twoEvents (1, 9) (1, 10)) → ⊥
+  -- an event that starts before the one before it; one that starts a second before that one ends; an id twice; one
+  -- event too many
+  pub earlier-start : Rules broadcast identity (together (plainEvent 1 10) (plainEvent 2 9)) → ⊥
+  pub one-second : Rules broadcast identity (together (lasting 1 0 61) (lasting 2 60 60)) → ⊥
+  pub one-second-apart : Rules broadcast identity (segmentsApart (lasting 1 0 21_601) (lasting 2 21_600 60)) → ⊥
+  pub id-twice : Rules broadcast identity (together (plainEvent 1 9) (plainEvent 1 10)) → ⊥
   pub one-too-many :
-      Rules (record { «section_limit» = 4_096; «event_limit» = 1 }) identity (twoEvents (1, 9) (2, 10)) → ⊥
+      Rules (record { «section_limit» = 4_096; «event_limit» = 1 }) identity
+      (together (plainEvent 1 9) (plainEvent 2 10)) → ⊥

@@ -45,7 +45,8 @@ isFilledOrAlone h [] =
     eqb (h .sectionNumber) (firstOf (h .sectionNumber))
     && eqb (h .segmentLastSectionNumber) (firstOf (h .sectionNumber))
 
--- an event follows the last one before it, and has an id that none before it has; `seen` has the latest first
+-- an event follows the last one before it, so that neither starts fall nor events overlap (02, W-204), and has an id
+-- that none before it has; `seen` has the latest first
 abbrev pub isNew : List Event → Event → Bool
 isNew [] e = true
 isNew (d ∷ seen) e = follows d e && not (isAmong (e .id) (eventIds (d ∷ seen)))

@@ -13,7 +13,7 @@ use Rattle.sections.specs.Encode.{eventBytes, fileBytes}
 use Rattle.sections.specs.Count.{sectionsCounted, eventsCounted}
 use Rattle.sections.specs.Read.{checkFile, read}
 use Rattle.sections.specs.Files.{section, withBits, eventAt, withEvent, startAtOne, oneHour, noDescriptors}
-use Rattle.sections.specs.Files.{planSampleFile, rival, full}
+use Rattle.sections.specs.Files.{planSampleFile, rival, sixHours, full}
 use Rattle.sections.specs.FileAnswers.{checkAnswer, acceptedWith, refusedWith}
 
 -- the table of a start, and the first section of its segment
@@ -90,13 +90,13 @@ pub record Examples : Type 0 where
       checkAnswer full
       ≡ record {
         number = 0;
-        value = 8;
+        value = 9;
         identity =
             record {
               triplet = record { «service_id» = 1; «transport_stream_id» = 2; «original_network_id» = 3 };
               version = 31;
             };
-        count = 8;
+        count = 9;
       }
   -- marks 4 for off air, 1 for free_CA_mode, and both
   pub marks-read : (markedRead 0xA0 ≡ 0x1234 ∷ 9_900 ∷ 6_330 ∷ 4 ∷ 26 ∷ 3 ∷ [])
@@ -123,6 +123,10 @@ pub record Examples : Type 0 where
       checkFile (record { «section_limit» = 4_096; «event_limit» = 1 }) 49_273
       (section 0x50 0 8 0 0x50 (eventAt 1 0x00 0x00 ++ eventAt 2 0x00 0x30 ++ eventAt 1 0x00 0x59))
       ≡ refusedWith 24 0
+  -- 02, W-204: an event that starts when the one before it ends, two segments before, and one that starts a second
+  -- earlier: charged to the later section
+  pub touching : checkAnswer (sixHours 0x00) ≡ acceptedWith 2
+  pub overlap : checkAnswer (sixHours 0x01) ≡ refusedWith 24 48
   -- a record buffer that is one number short stays
   pub buffer-short :
       read broadcast 49_273 (withEvent startAtOne oneHour noDescriptors) (7 ∷ 7 ∷ 7 ∷ 7 ∷ 7 ∷ [])

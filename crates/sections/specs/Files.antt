@@ -45,6 +45,11 @@ withIdentity service version stream network =
 abbrev pub eventAt : ℕ → ℕ → ℕ → List ℕ
 eventAt id hour minute = 0x00 ∷ id ∷ 0xC0 ∷ 0x79 ∷ hour ∷ minute ∷ 0x00 ∷ 0x00 ∷ 0x00 ∷ 0x01 ∷ 0x00 ∷ 0x00 ∷ []
 
+-- event 1 from 00:00:00 on, without descriptors: the hours and the seconds of its duration as two digits each
+abbrev pub firstFor : ℕ → ℕ → List ℕ
+firstFor hours seconds =
+    0x00 ∷ 0x01 ∷ 0xC0 ∷ 0x79 ∷ 0x00 ∷ 0x00 ∷ 0x00 ∷ hours ∷ 0x00 ∷ seconds ∷ 0x00 ∷ 0x00 ∷ []
+
 -- one event, with all behind its id given: MJD and hhmmss, duration, then running_status, free_CA, chain length and
 -- chain
 abbrev pub withEvent : List ℕ → List ℕ → List ℕ → List ℕ
@@ -79,12 +84,25 @@ rival =
     ++ section 0x50 8 8 8 0x51 []
     ++ section 0x51 0 0 0 0x51 []
 
+-- event 1 for three hours and some seconds, two digits, and event 2 at three o'clock, in the next segment: 60 bytes
+abbrev pub threeHours : ℕ → List ℕ
+threeHours seconds =
+    section 0x50 0 8 0 0x50 (firstFor 0x03 seconds) ++ section 0x50 8 8 8 0x50 (eventAt 2 0x03 0x00)
+
+-- event 1 for six hours and some seconds, two digits, an empty segment, and event 2 at six o'clock: 78 bytes
+abbrev pub sixHours : ℕ → List ℕ
+sixHours seconds =
+    section 0x50 0 16 0 0x50 (firstFor 0x06 seconds)
+    ++ section 0x50 8 16 8 0x50 []
+    ++ section 0x50 16 16 16 0x50 (eventAt 2 0x06 0x00)
+
 -- empty tables, n of them from `table` on, with last_table_id 0x5F and version 31
 abbrev pub emptyTables : ℕ → ℕ → List ℕ
 emptyTables table zero = []
 emptyTables table (suc n) = sectionWithVersion 0xFF table 0 0 0 0x5F [] ++ emptyTables (suc table) n
 
--- a segment of eight sections, and all sixteen tables
+-- a segment of eight sections, and all sixteen tables; the last has an event of 99:59:59 at its start, sixty days after
+-- the base day, which ends past the last segment
 abbrev pub full : List ℕ
 full =
     sectionWithVersion 0xFF 0x50 0 7 7 0x5F (eventAt 1 0x00 0x00)
@@ -95,4 +113,6 @@ full =
     ++ sectionWithVersion 0xFF 0x50 5 7 7 0x5F (eventAt 6 0x00 0x50)
     ++ sectionWithVersion 0xFF 0x50 6 7 7 0x5F (eventAt 7 0x01 0x00)
     ++ sectionWithVersion 0xFF 0x50 7 7 7 0x5F (eventAt 8 0x02 0x59)
-    ++ emptyTables 0x51 15
+    ++ emptyTables 0x51 14
+    ++ sectionWithVersion 0xFF 0x5F 0 0 0 0x5F
+    (0x00 ∷ 0x09 ∷ 0xC0 ∷ 0xB5 ∷ 0x00 ∷ 0x00 ∷ 0x00 ∷ 0x99 ∷ 0x59 ∷ 0x59 ∷ 0x00 ∷ 0x00 ∷ [])

@@ -1,7 +1,7 @@
 -- The rules of a file of sections, as document 01 says them ("The file of sections"): what must hold of the sections,
--- whoever made them. Soundness's words for a chain, for starts that rise and for ids that differ serve here too; all
--- else is said in the paper's own terms. Read (specs/Read.antt) has its own tests, and accepts just these files
--- (proofs/Exact.antt). Assumes nothing.
+-- whoever made them. Soundness's words for a chain, for an event that may follow another and for ids that differ serve
+-- here too; all else is said in the paper's own terms. Read (specs/Read.antt) has its own tests, and accepts just these
+-- files (proofs/Exact.antt). Assumes nothing.
 use mathlib.Core.Path.{_≡_}
 use mathlib.Core.Logic.{_⊎_}
 use Prim.Native.Nat.{ℕ, _+_, _^_, _≤_, _<_}
@@ -124,7 +124,8 @@ pub record Rules (sizes : Sizes) (identity : Identity) (ss : List Section) : Typ
   pub lastTable : lastTableId ≤ tableMax
   pub sections : Every (SectionRules sizes identity lastTableId) ss
   pub ordered : Ordered (headersOf ss)
-  -- over the file starts rise strictly, ids differ, and events are at most 2,048 (02, W-206: cable's 256)
+  -- over the file starts rise strictly, ids differ, and events are at most 2,048 (02, W-206: cable's 256); 02, W-204:
+  -- each event's start + duration is at most the next event's start, wherever that stands
   pub rises : T (rising (sectionEvents ss))
   pub differ : T (allDiffer (eventIds (sectionEvents ss)))
   pub few : length (sectionEvents ss) ≤ sizes .«event_limit»
