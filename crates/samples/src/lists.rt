@@ -9,8 +9,8 @@ pub const PUT_SIZE: usize = 18;
 // Bytes of 340 PUTs.
 pub const ROW_SIZE: usize = 6_120;
 
-// Seconds that each event lasts.
-const DURATION: usize = 60;
+// Seconds that each event lasts: events a second apart touch.
+const DURATION: usize = 1;
 
 // short_event_descriptor; what stands inside is not looked at.
 const TAG: u8 = 0x4D;

@@ -4,6 +4,7 @@ use Rattle.eit.specs.Crc.{crc32}
 use Rattle.eit.specs.Chain.{isChain}
 use Rattle.eit.specs.Pools.{choose}
 use Rattle.eit.specs.Records.{recordsOf}
+use Rattle.eit.specs.Overlap.{overlap}
 use Rattle.eit.specs.Sound.{sound, eventsOf}
 use Rattle.script.specs.Form.{formOf}
 use Rattle.script.specs.Struck.{unstruckIn}
@@ -18,7 +19,7 @@ use Rattle.samples_proved.specs.ForbiddenTag.{ForbiddenTag}
 
 pub forbidden-tag : ForbiddenTag
 unfolding edit formOf unstruckIn build plan read isFramed hasRightCrc isHeader hasRightNumbering isEvent isEventLoop
-    isWithinLimit sound eventsOf recordsOf choose isChain crc32 versionOf
+    isWithinLimit sound eventsOf recordsOf overlap choose isChain crc32 versionOf
 forbidden-tag =
     record {
       put-refused = refl;

@@ -5,6 +5,8 @@ pub mod Samples
 pub mod Limits
 -- descriptor tag 0xFF, computed
 pub mod ForbiddenTag
+-- overlap, call by call, computed
+pub mod Overlapping
 -- cable's sizes, computed
 pub mod Cable
 -- what the demands speak of is there

@@ -8,6 +8,7 @@ use Rattle.eit.specs.Sizes.{broadcast, cable}
 use Rattle.eit.specs.Fields.{bigEndian}
 use Rattle.eit.specs.Time.{toBcd}
 use Rattle.eit.specs.Records.{EventList}
+use Rattle.packing.specs.Greedy.{joined}
 use Rattle.script.specs.Edit.{Edited, edit}
 use Rattle.sections.specs.Read.{checkFile}
 use Rattle.sections.specs.Files.{covered}
@@ -57,14 +58,20 @@ eventsFrom i (suc n) =
     ++ (0xC0 ∷ 0x79 ∷ toBcd (i / 20) ∷ toBcd (i % 20 * 3) ∷ 0x00 ∷ 0x00 ∷ 0x00 ∷ 0x01 ∷ 0x00 ∷ 0x00 ∷ [])
     ++ eventsFrom (suc i) n
 
--- 240 events in four sections of 738 bytes, then n more
-abbrev pub withEvents : ℕ → ℕ → List ℕ
-withEvents n crc =
+-- four sections of 738 bytes with 60 events each, and a fifth with n more; and their file
+abbrev pub four : List (List ℕ)
+four =
     sectionWith 0 32 (eventsFrom 0 60) 0x5078_33C2
-    ++ sectionWith 8 32 (eventsFrom 60 60) 0xB796_A4D9
-    ++ sectionWith 16 32 (eventsFrom 120 60) 0xD1D1_170D
-    ++ sectionWith 24 32 (eventsFrom 180 60) 0xCB6A_E171
-    ++ sectionWith 32 32 (eventsFrom 240 n) crc
+    ∷ sectionWith 8 32 (eventsFrom 60 60) 0xB796_A4D9
+    ∷ sectionWith 16 32 (eventsFrom 120 60) 0xD1D1_170D
+    ∷ sectionWith 24 32 (eventsFrom 180 60) 0xCB6A_E171
+    ∷ []
+
+abbrev pub fifth : ℕ → ℕ → List ℕ
+fifth n crc = sectionWith 32 32 (eventsFrom 240 n) crc
+
+abbrev pub withEvents : ℕ → ℕ → List ℕ
+withEvents n crc = joined (four ++ (fifth n crc ∷ []))
 
 pub record Cable : Type 0 where
   -- "sections of at most 1,024 bytes in all": "an event with 995 chain bytes is unpackable, 994 is not"
