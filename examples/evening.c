@@ -63,10 +63,10 @@ static void write_script(Bytes *script, Bytes *day, Bytes *series) {
     put(script, day, 3, seconds(18, 0), seconds(1, 0), 0, "Quiz of the week");
     put(script, series, 4, seconds(19, 0), seconds(0, 15), EIT_SERIES_POOL, "News");
     put(script, day, 5, seconds(19, 15), seconds(1, 45), EIT_FREE_CA, "The Night Ferry");
-    put(script, day, 6, seconds(20, 45), seconds(0, 30), 0, "Late news");
+    put(script, day, 6, seconds(24, 0), seconds(0, 30), 0, "Late news");
     put(script, day, 7, seconds(21, 30), seconds(1, 30), 0, "Concert from Utrecht");
     put(script, day, 8, seconds(23, 0), seconds(1, 0), 0, "Late film");
-    /* The late news begin when the film is over. */
+    /* The late news are not to wait for midnight: they begin when the film is over. A second earlier is an overlap. */
     append(script, EIT_MOVE, 1);
     append(script, 6, 2);
     append(script, seconds(21, 0), 4);

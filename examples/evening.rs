@@ -52,10 +52,11 @@ fn script(day: &mut Vec<u8>, series: &mut Vec<u8>) -> Vec<u8> {
         put(day, 3, seconds(18, 0), seconds(1, 0), 0, "Quiz of the week"),
         put(series, 4, seconds(19, 0), seconds(0, 15), Record::SERIES_POOL, "News"),
         put(day, 5, seconds(19, 15), seconds(1, 45), Record::FREE_CA, "The Night Ferry"),
-        put(day, 6, seconds(20, 45), seconds(0, 30), 0, "Late news"),
+        put(day, 6, seconds(24, 0), seconds(0, 30), 0, "Late news"),
         put(day, 7, seconds(21, 30), seconds(1, 30), 0, "Concert from Utrecht"),
         put(day, 8, seconds(23, 0), seconds(1, 0), 0, "Late film"),
-        // MOVE: the late news begin when the film is over.
+        // MOVE: the late news are not to wait for midnight: they begin when the film is over. A second earlier is an
+        // overlap.
         [&[0x03, 0, 6][..], &seconds(21, 0).to_be_bytes()].concat(),
         // WITHDRAW the late film; UNDO: it is shown after all.
         vec![0x02, 0, 8, 0x04],

@@ -28,12 +28,12 @@
 #include <stdint.h>
 
 /* The version of this face, by semantic versioning of its names, values and calls; the Rust wrapper has the same. Link
- * a library of the same major version: one before 3 has calls of the same names that take other arguments. One before
- * 3.1 has no eit_place. */
-#define CHIRDALUKO_VERSION_MAJOR 3
-#define CHIRDALUKO_VERSION_MINOR 1
+ * a library of the same major version: one before 4 lets events overlap, and one before 3 has calls of the same names
+ * that take other arguments. */
+#define CHIRDALUKO_VERSION_MAJOR 4
+#define CHIRDALUKO_VERSION_MINOR 0
 #define CHIRDALUKO_VERSION_PATCH 0
-#define CHIRDALUKO_VERSION "3.1.0"
+#define CHIRDALUKO_VERSION "4.0.0"
 
 #ifdef __cplusplus
 extern "C" {
@@ -68,7 +68,7 @@ enum {
     EIT_REFUSED_NOTHING_TO_UNDO = 4,
     EIT_REFUSED_OUT_OF_RANGE = 5,
     EIT_REFUSED_WRONG_ID = 6,
-    EIT_REFUSED_START_TAKEN = 7,
+    EIT_REFUSED_START_TAKEN = 7, /* not returned: an equal start is an overlap, and EIT_REFUSED_OVERLAP comes first */
     EIT_REFUSED_LIST_FULL = 8,
     EIT_REFUSED_NO_CHAIN = 9,
     EIT_REFUSED_UNPACKABLE = 10,
@@ -81,7 +81,8 @@ enum {
     EIT_REFUSED_EVENT_LOOP = 24,
     EIT_REFUSED_EARLY_END = 25,
     EIT_REFUSED_EVENT_LIMIT = 26,
-    EIT_REFUSED_RECORDS_SHORT = 27
+    EIT_REFUSED_RECORDS_SHORT = 27,
+    EIT_REFUSED_OVERLAP = 30
 };
 
 /* The cause in words, to be printed behind "refused: ". docs/MANUAL.md, "Refusals", says what to do about it. */
@@ -102,7 +103,7 @@ static inline const char *eit_cause(uint32_t number) {
     case EIT_REFUSED_WRONG_ID:
         return "PUT: the list has the id already; WITHDRAW, MOVE: it has not";
     case EIT_REFUSED_START_TAKEN:
-        return "PUT, MOVE: another event has the start";
+        return "PUT, MOVE: another event has the start; from version 4 on that is 30";
     case EIT_REFUSED_LIST_FULL:
         return "PUT: the list is at its limit";
     case EIT_REFUSED_NO_CHAIN:
@@ -129,6 +130,8 @@ static inline const char *eit_cause(uint32_t number) {
         return "the file has more than 2,048 events, for cable 256";
     case EIT_REFUSED_RECORDS_SHORT:
         return "the record buffer is shorter than six numbers for each event";
+    case EIT_REFUSED_OVERLAP:
+        return "PUT, MOVE: the event would overlap another one";
     default:
         return "an unknown number: no call of this version returns it";
     }
@@ -166,7 +169,9 @@ enum {
  *
  * A list is sound if count is at most EIT_EVENTS_MAX, for cable EIT_CABLE_EVENTS_MAX, the buffer has six numbers for
  * each record, every value is in range, every part lies in its pool (offset + length at most the pool's length) and is
- * a chain, starts rise strictly, and ids differ. Events may overlap. The empty list is a count of 0 with any buffer. */
+ * a chain, starts rise strictly, each event's start + duration is at most the next one's start, and ids differ.
+ * Touching is legal, and the last event may end past the last segment. docs/MANUAL.md, "Overlap", says what to do about
+ * events that overlap. The empty list is a count of 0 with any buffer. */
 enum {
     EIT_FREE_CA = 1,     /* free_CA_mode is 1: a conditional access system may control a stream of the event */
     EIT_SERIES_POOL = 2, /* the descriptors lie in the series pool; a file does not show it */
@@ -184,7 +189,7 @@ enum {
 /* What Edit returns. */
 typedef struct EitEdited {
     uint32_t number; /* EIT_SUCCESS, or the refusal */
-    size_t value;    /* success: the new count; 3 to 9: the offset of the refused command's byte in the script; 12: 0 */
+    size_t value;    /* success: the new count; 3 to 9, 30: offset of the refused command's byte in the script; 12: 0 */
     size_t count;    /* the count that the list has now, refused or not; after 12, 3 and 4 it is the given one */
 } EitEdited;
 
@@ -199,11 +204,12 @@ typedef struct EitEdited {
  *   script, script_length  the commands
  *
  * UNDO strikes by the script, before anything is carried out. Struck edits are looked at for their form only; the
- * others are carried out in order.
+ * others are carried out in order. An event that is put or moved may touch another, and not overlap one; a moved event
+ * keeps its duration, and its own old time counts as free.
  *
  * Refusals: EIT_REFUSED_UNSOUND; EIT_REFUSED_BROKEN_SCRIPT over the whole script; EIT_REFUSED_NOTHING_TO_UNDO over the
  * whole script; then edit by edit EIT_REFUSED_OUT_OF_RANGE, EIT_REFUSED_NO_CHAIN, EIT_REFUSED_WRONG_ID,
- * EIT_REFUSED_START_TAKEN, EIT_REFUSED_LIST_FULL.
+ * EIT_REFUSED_OVERLAP, EIT_REFUSED_START_TAKEN, EIT_REFUSED_LIST_FULL.
  * Left: after the first three all of `list` is as it was; after the others it is as the edits before the refused one
  * made it. Numbers that no edit changes stay, behind the list too. */
 EitEdited eit_edit(uint8_t caller, uint32_t *list, size_t list_length, size_t count, const uint8_t *day,
@@ -224,8 +230,9 @@ typedef struct EitPlace {
  *   count              how many records the list has; those that the buffer has no six numbers for are left out
  *   start              seconds after midnight UTC of the base day; any number is taken
  *
- * In a sound list it is the place where eit_edit inserts a PUT of that start. Whether the list is sound is not looked
- * at: a record's start is all that counts, and starts may stand in any order.
+ * In a sound list it is the place where eit_edit inserts a PUT of that start, and the records before and at the place
+ * show whether the event would overlap another one. Whether the list is sound is not looked at: a record's start is all
+ * that counts, and starts may stand in any order.
  *
  * There is no refusal. */
 EitPlace eit_place(const uint32_t *list, size_t list_length, size_t count, uint32_t start);
@@ -293,7 +300,8 @@ typedef struct EitReading {
  *   records, records_length  the record buffer; EIT_NUMBERS_MAX numbers are always enough
  *
  * The records are a list that is sound for the caller, with the file as day pool: offsets are into the file, no marks
- * have EIT_SERIES_POOL.
+ * have EIT_SERIES_POOL. So an event that begins before the one before it ends, in whatever section that stands, is
+ * EIT_REFUSED_EVENT_LOOP at its own section.
  *
  * Refusals: EIT_REFUSED_BASE_DAY; section by section EIT_REFUSED_FRAME, EIT_REFUSED_CRC, EIT_REFUSED_HEADER,
  * EIT_REFUSED_NUMBERING, EIT_REFUSED_EVENT_LOOP, EIT_REFUSED_EVENT_LIMIT; at the end EIT_REFUSED_EARLY_END,

@@ -13,17 +13,17 @@ static EitBuilt build_large(uint8_t caller, uint8_t out[SECTION]) {
     return eit_build(caller, list, EIT_RECORD, 1, pool, CHAIN, pool, 0, BASE_DAY, 1, 2, 3, 0, out, SECTION);
 }
 
-/* Events of segment 0 without descriptors, each a second after the one before. */
+/* Events of segment 0 without descriptors, of a second each, one after the other. */
 static void fill(uint32_t *list, uint32_t count) {
     for (uint32_t place = 0; place < count; place++) {
-        memcpy(list + EIT_RECORD * place, (uint32_t[EIT_RECORD]){place, place, 3600, 0, 0, 0}, 4 * EIT_RECORD);
+        memcpy(list + EIT_RECORD * place, (uint32_t[EIT_RECORD]){place, place, 1, 0, 0, 0}, 4 * EIT_RECORD);
     }
 }
 
 /* PUT of event 257, for which the buffer has room. */
 static void edit(uint8_t caller, int is_cable) {
     enum { HELD = 256, NUMBERS = EIT_RECORD * (HELD + 1) };
-    static const uint8_t put[18] = {EIT_PUT, 0x01, 0x00, 0x00, 0x00, 0x01, 0x00, 0x00, 0x00, 0x0E, 0x10};
+    static const uint8_t put[18] = {EIT_PUT, 0x01, 0x00, 0x00, 0x00, 0x01, 0x00, 0x00, 0x00, 0x00, 0x01};
     uint32_t list[NUMBERS] = {0}, left[NUMBERS] = {0};
     fill(list, HELD);
     fill(left, is_cable ? HELD : HELD + 1);

@@ -1,4 +1,4 @@
-/* What a call answers, compared with what tests/face.c, tests/callers.c and tests/place.c want of it. */
+/* What a call answers, compared with what face.c, callers.c, place.c and overlap.c of this folder want of it. */
 #include "chirdaluko.h"
 
 #include <stdio.h>

@@ -8,7 +8,7 @@ _Static_assert(EIT_SUCCESS == 0 && EIT_REFUSED_BASE_DAY == 1 && EIT_REFUSED_VERS
                    && EIT_REFUSED_OUT_OF_RANGE == 5 && EIT_REFUSED_WRONG_ID == 6
                    && EIT_REFUSED_START_TAKEN == 7 && EIT_REFUSED_LIST_FULL == 8
                    && EIT_REFUSED_NO_CHAIN == 9 && EIT_REFUSED_UNPACKABLE == 10 && EIT_REFUSED_OUTPUT_SHORT == 11
-                   && EIT_REFUSED_UNSOUND == 12,
+                   && EIT_REFUSED_UNSOUND == 12 && EIT_REFUSED_OVERLAP == 30,
                "refusals of Edit and Build");
 _Static_assert(EIT_REFUSED_FRAME == 20 && EIT_REFUSED_CRC == 21 && EIT_REFUSED_HEADER == 22
                    && EIT_REFUSED_NUMBERING == 23 && EIT_REFUSED_EVENT_LOOP == 24 && EIT_REFUSED_EARLY_END == 25

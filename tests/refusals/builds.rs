@@ -14,9 +14,22 @@ pub fn run(rows: &mut Rows) {
     refused(rows, &one, 65_472, 31, BuildRefusal::OutputShort { needed: 30 }, NEED);
     planned(rows.caller, &one, [1, 0, 0, 0, 0]);
     planned(rows.caller, &twice, [254; 5]);
+    overlap(rows);
     event_limit(rows);
     unpackable(rows);
     forbidden_tag(rows);
+}
+
+/// Two events that touch; then a second more of the first, and of the second.
+fn overlap(rows: &mut Rows) {
+    let (touching, earlier) = ([event(1, 100), event(2, 160)], [event(1, 100), event(2, 159)]);
+    let longer = [Record { duration: 61, ..touching[0] }, touching[1]];
+    refused(rows, &touching, 65_472, 31, BuildRefusal::OutputShort { needed: 42 }, NEED);
+    planned(rows.caller, &touching, [1, 0, 0, 0, 0]);
+    for overlapping in [earlier, longer] {
+        refused(rows, &overlapping, 65_472, 31, BuildRefusal::Unsound, ZERO);
+        planned(rows.caller, &overlapping, [254; 5]);
+    }
 }
 
 /// As many events as the caller may have, in segment 0; then one more.
@@ -41,7 +54,7 @@ fn unpackable(rows: &mut Rows) {
     let large = |id, start| Record { chain_length: chain_max + 1, ..event(id, start) };
     let at = |segment| SEGMENT_SECONDS * segment;
     let mut records = vec![held(1, at(1)), large(2, at(2))];
-    records.extend((0..9).map(|place| held(10 + place, at(3) + place)));
+    records.extend((0..9).map(|place| held(10 + place, at(3) + 60 * place)));
     records.push(large(3, at(4)));
     refused(rows, &records, 65_472, 31, BuildRefusal::Unpackable { segment: 2 }, SEGMENT);
     planned(caller, &records, [1, 1, 255, 255, 255]);

@@ -36,15 +36,13 @@ pub fn run(rows: &mut Rows) {
     refused(rows, &withdraw(9), wrong_id);
     refused(rows, &shift(9, 300), wrong_id);
 
-    let start_taken = |offset, count| EditRefusal::StartTaken { offset, count };
-    refused(rows, &put(event(3, 100)), start_taken);
-    refused(rows, &shift(1, 200), start_taken);
-
+    overlap(rows);
     list_full(rows);
 }
 
-/// A count that the buffer has no records for, a start that does not rise, one event more than the caller may have, and
-/// a chain with tag 0xFF, of which not even the event's WITHDRAW is carried out; with tag 0xFE it is.
+/// A count that the buffer has no records for, a start that does not rise, one event more than the caller may have, an
+/// event that begins before the one before it ends, and a chain with tag 0xFF: not even the event's WITHDRAW is carried
+/// out, as it is where the two events touch, and with tag 0xFE.
 fn unsound(rows: &mut Rows) {
     let caller = rows.caller;
     let mut at = |lent: &[u32], count, day: &[u8], script: &[u8]| {
@@ -59,6 +57,11 @@ fn unsound(rows: &mut Rows) {
     at(&twice, 2, &DAY, &[UNDO]);
     let most = caller.events_max();
     at(&numbers(&row(most + 1)), most + 1, &DAY, &withdraw(0));
+
+    at(&numbers(&[event(1, 100), event(2, 159)]), 2, &DAY, &withdraw(2));
+    let mut list = numbers(&[event(1, 100), event(2, 160)]);
+    assert_eq!(edit(caller, &mut list, 2, POOLS, &withdraw(2)), Ok(1));
+    assert_eq!((&list[..6], &list[6..]), (&numbers(&[event(1, 100)])[..], &[0; 6][..]));
 
     let mut list = numbers(&[Record { chain_length: TAGGED, ..event(1, 100) }]);
     at(&list, 1, &tagged(0xFF), &withdraw(1));
@@ -98,14 +101,54 @@ fn forbidden_tag(rows: &mut Rows) {
     }
 }
 
-/// 8 by the buffer, which has room for two records; then by the caller's limit, in a buffer with room for one more.
+/// 30, where event 1 stands from 100 to 160 and event 2 from 200 to 260; then as far as events may go.
+fn overlap(rows: &mut Rows) {
+    let overlap = |offset, count| EditRefusal::Overlap { offset, count };
+    let lasting = |start, duration| Record { duration, ..event(3, start) };
+    // The first and the last second of each; within one, around one, around both; the start of each.
+    for (start, duration) in
+        [(0, 101), (159, 1), (160, 41), (259, 1), (120, 10), (90, 100), (0, 359_999), (100, 60), (200, 1)]
+    {
+        refused(rows, &put(lasting(start, duration)), overlap);
+    }
+    for (id, start) in [(1, 141), (1, 259), (1, 200), (2, 41), (2, 159), (2, 100)] {
+        refused(rows, &shift(id, start), overlap);
+    }
+
+    let (first, second) = (event(1, 100), event(2, 200));
+    for (command, left) in [
+        (put(lasting(0, 100)), vec![lasting(0, 100), first, second]),
+        (put(lasting(160, 40)), vec![first, lasting(160, 40), second]),
+        (put(lasting(260, 359_999)), vec![first, second, lasting(260, 359_999)]),
+        (put(lasting(5_529_599, 359_999)), vec![first, second, lasting(5_529_599, 359_999)]),
+        // To the event's own old time and over it, on both sides.
+        (shift(1, 40), vec![event(1, 40), second]),
+        (shift(1, 140), vec![event(1, 140), second]),
+        (shift(2, 160), vec![first, event(2, 160)]),
+        (shift(2, 260), vec![first, event(2, 260)]),
+        // To the other event, from both sides.
+        (shift(1, 260), vec![second, event(1, 260)]),
+        (shift(2, 40), vec![event(2, 40), first]),
+    ] {
+        let mut list = numbers(&[first, second]);
+        list.resize(18, 77);
+        assert_eq!(edit(rows.caller, &mut list, 2, POOLS, &command), Ok(left.len()));
+        assert_eq!(list[..6 * left.len()], numbers(&left));
+        assert!(list[6 * left.len()..].iter().all(|&number| number == 77));
+    }
+}
+
+/// 8 by the buffer, which has room for two records; then by the caller's limit, in a buffer with room for one more. An
+/// event that would overlap another one is 30 there, too.
 fn list_full(rows: &mut Rows) {
     let list_full = |offset, count| EditRefusal::ListFull { offset, count };
-    let more = put(event(3, 300));
-    refused_in(rows, POOLS, &[event(1, 100)], 2, &more, list_full);
+    let overlap = |offset, count| EditRefusal::Overlap { offset, count };
     let most = rows.caller.events_max();
-    let held: Vec<_> = (1..most as u32).map(|place| event(1_000 + place, 1_000 + place)).collect();
-    refused_in(rows, POOLS, &held, most + 1, &more, list_full);
+    let held = (1..most as u32).map(|place| Record { duration: 1, ..event(1_000 + place, 1_000 + place) });
+    for (held, room) in [(vec![event(1, 100)], 2), (held.collect(), most + 1)] {
+        refused_in(rows, POOLS, &held, room, &put(event(3, 300)), list_full);
+        refused_in(rows, POOLS, &held, room, &put(event(3, 259)), overlap);
+    }
 }
 
 /// A refused command between one that is carried out and one that is not.

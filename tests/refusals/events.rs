@@ -1,13 +1,14 @@
 //! Read's and check's refusals of events: 24, and 26.
 
 use crate::chirdaluko::{check, read, ReadRefusal, Reading, Record};
-use crate::inputs::{event, events_in_section, row, tagged, TAGGED};
+use crate::inputs::{chain, event, events_in_section, row, tagged, TAGGED};
 use crate::reads::{built, changed, refused, seal, three, BASE_DAY, IDENTITY, SECOND, THIRD};
 use crate::{Rows, SECTION};
 
 pub fn run(rows: &mut Rows) {
     let file = three(rows.caller);
     event_loops(rows, &file);
+    overlap(rows);
     forbidden_tag(rows);
     event_limit(rows);
 }
@@ -30,7 +31,7 @@ fn event_loops(rows: &mut Rows, file: &[u8]) {
     with(19, 0x60);
     with(20, 0x0A);
     // No duration; running_status 1; a chain that is cut.
-    with(21, 0x00);
+    with(22, 0x00);
     with(24, 0x20);
     with(25, 0x01);
     // Two events, the second with the start of the first.
@@ -43,6 +44,29 @@ fn event_loops(rows: &mut Rows, file: &[u8]) {
     seal(&mut third);
     empty = changed(&empty, SECOND, |section| section[7] = 9);
     events(&[empty, third].concat(), BASE_DAY, THIRD);
+}
+
+/// Two events that touch are accepted, wherever they stand; with a second more of the first it is 24 at the section of
+/// the second.
+fn overlap(rows: &mut Rows) {
+    let caller = rows.caller;
+    let day = chain(caller.chain_max());
+    let full = day.len() as u32;
+    // In a section; in two sections of a segment; in two segments; with one between them; in two tables.
+    for (start, duration, chain_length, first, second) in [
+        (0, 60, 0, 0..42, 0),
+        (0, 60, full, 0..caller.section_max(), caller.section_max()),
+        (10_740, 60, 0, 0..30, 30),
+        (0, 21_600, 0, 0..30, 30 + 18),
+        (345_540, 60, 0, 31 * 18..31 * 18 + 30, 31 * 18 + 30),
+    ] {
+        let with = |id, start| Record { duration, chain_length, ..event(id, start) };
+        let file = built(caller, &[with(1, start), with(2, start + duration)], &day);
+        assert_eq!(check(caller, &file, BASE_DAY), Ok(Reading { count: 2, identity: IDENTITY }));
+        // The last byte of the first event's duration: no second.
+        let longer = changed(&file, first, |section| section[23] = 0x01);
+        refused(rows, &longer, BASE_DAY, ReadRefusal::EventLoop { offset: second }, SECTION);
+    }
 }
 
 /// The second section's event has a descriptor with tag 0xFE, which is accepted; then with tag 0xFF.

@@ -10,14 +10,14 @@ pub const TAGGED: u32 = 7;
 
 pub const UNDO: u8 = 0x04;
 
-/// An event of an hour without marks and descriptors.
+/// An event of a minute without marks and descriptors.
 pub fn event(id: u32, start: u32) -> Record {
-    Record { id, start, duration: 3_600, ..Record::default() }
+    Record { id, start, duration: 60, ..Record::default() }
 }
 
-/// So many events of segment 0, each five seconds after the one before.
+/// So many events of segment 0, of five seconds each, one after the other.
 pub fn row(count: usize) -> Vec<Record> {
-    (0..count as u32).map(|place| event(place, 5 * place)).collect()
+    (0..count as u32).map(|place| Record { duration: 5, ..event(place, 5 * place) }).collect()
 }
 
 /// How many events without descriptors a section holds.

@@ -38,6 +38,7 @@ fn edits() {
         (EditRefusal::StartTaken { offset, count }, 7),
         (EditRefusal::ListFull { offset, count }, 8),
         (EditRefusal::NoChain { offset, count }, 9),
+        (EditRefusal::Overlap { offset, count }, 30),
     ] {
         displays(refusal, number, " (command at offset 18, 2 records held)");
     }

@@ -9,8 +9,8 @@
 //!
 //! An answer that is none of a call's, an unknown number or a value that its number does not come with, panics: the
 //! library is proved to return no such answer, so it is then of another version than this file, and no program could
-//! go on from there. Link a library of the same major version: one before 3 has calls of the same names that take other
-//! arguments, and what they do then is undefined. One before 3.1 has no [`place`].
+//! go on from there. Link a library of the same major version: one before 4 lets events overlap, and one before 3 has
+//! calls of the same names that take other arguments, and what they do then is undefined.
 //!
 //! ```
 //! use chirdaluko::{build, check, edit, place, read, BuildRefusal, Caller, Identity, Place, Pools, Record};
@@ -22,8 +22,8 @@
 //! let mut list = [0; 6];
 //! let count = edit(caller, &mut list, 0, pools, &script).unwrap();
 //! assert_eq!(count, 1);
-//! // A programme at 13:00:00 would stand behind it.
-//! assert_eq!(place(&list, count, 46_800), Place { place: 1, looked: 1 });
+//! // A programme at 14:30:30, when it is over, would stand behind it.
+//! assert_eq!(place(&list, count, 52_230), Place { place: 1, looked: 1 });
 //!
 //! let identity = Identity { service_id: 1, transport_stream_id: 2, original_network_id: 3, version: 0 };
 //! let mut out = [0; 200];
@@ -115,7 +115,8 @@ pub struct Pools<'a> {
     pub series: &'a [u8],
 }
 
-/// An event record. A list is a buffer of these as six numbers each, and a count.
+/// An event record. A list is a buffer of these as six numbers each, and a count; in a sound list each event's start +
+/// duration is at most the next one's start.
 #[derive(Clone, Copy, Debug, Default, PartialEq, Eq)]
 pub struct Record {
     /// At most [`ID_MAX`].
@@ -174,7 +175,7 @@ pub fn cause(number: u32) -> &'static str {
         4 => "UNDO with no edit before it that is not yet struck",
         5 => "PUT, MOVE: start, duration or marks out of range",
         6 => "PUT: the list has the id already; WITHDRAW, MOVE: it has not",
-        7 => "PUT, MOVE: another event has the start",
+        7 => "PUT, MOVE: another event has the start; from version 4 on that is 30",
         8 => "PUT: the list is at its limit",
         9 => "PUT: the descriptors lie outside their pool, do not end where their part ends, or one has tag 0xFF",
         10 => "a segment needs a ninth section, or has an event with over 4,066 bytes of descriptors, for cable 994",
@@ -188,6 +189,7 @@ pub fn cause(number: u32) -> &'static str {
         25 => "the file ends before the last section of last_table_id, or is empty",
         26 => "the file has more than 2,048 events, for cable 256",
         27 => "the record buffer is shorter than six numbers for each event",
+        30 => "PUT, MOVE: the event would overlap another one",
         _ => "an unknown number: no call of this version returns it",
     }
 }
@@ -199,7 +201,8 @@ pub fn cause(number: u32) -> &'static str {
 /// one made it.
 #[derive(Clone, Copy, Debug, PartialEq, Eq)]
 pub enum EditRefusal {
-    /// 12: the list is not sound; one descriptor with [`FORBIDDEN_TAG`] is enough.
+    /// 12: the list is not sound; one descriptor with [`FORBIDDEN_TAG`] is enough, or one event that begins before the
+    /// one before it ends.
     Unsound { count: usize },
     /// 3: the script has an unknown command, or ends within a command's operands.
     BrokenScript { offset: usize, count: usize },
@@ -211,7 +214,9 @@ pub enum EditRefusal {
     NoChain { offset: usize, count: usize },
     /// 6: PUT: the list has the id already; WITHDRAW, MOVE: it has not.
     WrongId { offset: usize, count: usize },
-    /// 7: PUT, MOVE: another event has the start.
+    /// 30: PUT, MOVE: the event would overlap another one. Touching is legal, and so is a moved event's own old time.
+    Overlap { offset: usize, count: usize },
+    /// 7: not returned: an event with the start of another one overlaps it, and `Overlap` comes first.
     StartTaken { offset: usize, count: usize },
     /// 8: PUT: the list is at its limit.
     ListFull { offset: usize, count: usize },
@@ -229,6 +234,7 @@ impl EditRefusal {
             EditRefusal::ListFull { offset, count } => (8, offset, count),
             EditRefusal::NoChain { offset, count } => (9, offset, count),
             EditRefusal::Unsound { count } => (12, 0, count),
+            EditRefusal::Overlap { offset, count } => (30, offset, count),
         }
     }
 
@@ -254,7 +260,8 @@ pub enum BuildRefusal {
     BaseDay,
     /// 2: the version is above 31.
     Version,
-    /// 12: the list is not sound; one descriptor with [`FORBIDDEN_TAG`] is enough.
+    /// 12: the list is not sound; one descriptor with [`FORBIDDEN_TAG`] is enough, or one event that begins before the
+    /// one before it ends.
     Unsound,
     /// 10: the lowest segment index, 0 to 511, that needs a ninth section, or has an event with over
     /// [`Caller::chain_max`] bytes of descriptors.
@@ -298,7 +305,8 @@ pub enum ReadRefusal {
     Header { offset: usize },
     /// 23: a section is missing, doubled or out of order, or its table is past last_table_id.
     Numbering { offset: usize },
-    /// 24: a section's events break a rule; a descriptor with [`FORBIDDEN_TAG`] does.
+    /// 24: a section's events break a rule; a descriptor with [`FORBIDDEN_TAG`] does, and an event that begins before
+    /// the one before it ends, in whatever section that stands.
     EventLoop { offset: usize },
     /// 26: the file has more than [`Caller::events_max`] events; the section has the first one more.
     EventLimit { offset: usize },
@@ -416,6 +424,7 @@ pub fn edit(caller: Caller, list: &mut [u32], count: usize, pools: Pools, script
         8 => EditRefusal::ListFull { offset, count },
         9 => EditRefusal::NoChain { offset, count },
         12 => EditRefusal::Unsound { count },
+        30 => EditRefusal::Overlap { offset, count },
         _ => unknown("eit_edit", number, value),
     };
     if refusal.answer() != (number, value, count) {
@@ -426,8 +435,9 @@ pub fn edit(caller: Caller, list: &mut [u32], count: usize, pools: Pools, script
 
 /// Searches the place of a start in a list of `count` records, from the front: before the first record with a later
 /// start, so behind one with the same start; behind the last record if none has a later start. Records that the buffer
-/// has no six numbers for are left out. In a sound list it is the place where [`edit`] inserts a PUT of that start;
-/// whether the list is sound is not looked at.
+/// has no six numbers for are left out. In a sound list it is the place where [`edit`] inserts a PUT of that start, and
+/// the records before and at the place show whether the event would overlap another one. Whether the list is sound is
+/// not looked at.
 pub fn place(list: &[u32], count: usize, start: u32) -> Place {
     // As in `edit`.
     let EitPlace { place, looked } = unsafe { eit_place(list.as_ptr(), list.len(), count, start) };
