@@ -75,7 +75,7 @@ fn list_too_long() -> bool {
 /// One event with 995 bytes of descriptors, and with 994; nine events with 994 in a segment, and eight.
 fn unpackable() -> bool {
     let refused = |caller, count, length: u32| {
-        let records: Vec<_> = (0..count).map(|id| Record { chain_length: length, ..event(id, id) }).collect();
+        let records: Vec<_> = (0..count).map(|id| Record { chain_length: length, ..event(id, 60 * id) }).collect();
         built(caller, &numbers(&records), &chain(length as usize)).err()
     };
     refused(Broadcast, 1, 995).is_none()

@@ -76,17 +76,22 @@ fn tag_mended(caller: Caller) -> bool {
     said(0xFF, TAGGED) == Err(12) && said(0xFE, TAGGED) == Ok(0) && said(0xFF, 4) == Ok(0) && said(0xFF, 0) == Ok(0)
 }
 
-/// Five records, and each but the first at fault in turn: by the tag, by a start that does not rise, by an id.
+/// Five records, and each but the first at fault in turn: by the tag, by a start that does not rise, by one before the
+/// end of the record before, by an id.
 fn fault_found(caller: Caller) -> bool {
-    let sound: Vec<_> = (1..=5).map(|id| event(id, 3_600 * id)).collect();
+    let sound: Vec<_> = (1..=5).map(|id| event(id, 60 * id)).collect();
     let day = tagged(0xFF);
     let is_sound = |records: &[Record], count| {
         let mut counts = [0; SEGMENTS];
         plan(caller, &numbers(records), count, Pools { day: &day, series: &[] }, &mut counts);
         counts != [254; SEGMENTS]
     };
-    let faults: [fn(&mut Record); 3] =
-        [|record| record.chain_length = TAGGED, |record| record.start = 3_600, |record| record.id = 1];
+    let faults: [fn(&mut Record); 4] = [
+        |record| record.chain_length = TAGGED,
+        |record| record.start = 60,
+        |record| record.start -= 1,
+        |record| record.id = 1,
+    ];
     is_sound(&sound, 5)
         && (1..5).all(|place| {
             faults.iter().all(|fault| {

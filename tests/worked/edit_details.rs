@@ -1,16 +1,16 @@
 //! Details of Edit.
 
-use crate::chirdaluko::{build, check, edit, Caller, EditRefusal, Identity, Pools, Record};
+use crate::chirdaluko::{edit, Caller, EditRefusal, Pools, Record};
 use crate::details::Detail;
 use crate::inputs::{event, numbers, put, shift, withdraw, UNDO};
 
-pub const ALL: [Detail; 10] = [
+pub const ALL: [Detail; 13] = [
     (
         "The offset that Edit returns is that of the refused command's own byte, whichever operand is wrong.",
         command_offset,
     ),
     ("3 anywhere in the script comes before any 4, and both before any edit is carried out.", form_first),
-    ("Of the causes of one PUT the first in the order 5, 9, 6, 7, 8 is said.", put_order),
+    ("Of the causes of one PUT the first in the order 5, 9, 6, 30, 8 is said.", put_order),
     (
         "UNDO strikes before anything is carried out: a PUT and a WITHDRAW, both struck, leave no zeros behind.",
         struck_before,
@@ -20,7 +20,18 @@ pub const ALL: [Detail; 10] = [
     ("MOVE of an absent id to a start out of range is 5, not 6.", move_absent),
     ("WITHDRAW leaves six zeros where the list's last record was; the numbers behind them stay.", withdraw_zeros),
     ("A buffer has room for its length ÷ 6 records, rounded down; the numbers left over stay.", room),
-    ("Events may overlap: no call looks at it.", overlap),
+    (
+        "An event may begin when another one ends, and end when another one begins; a second more is 30, \
+         and so is an event within another one or around it.",
+        touching,
+    ),
+    (
+        "MOVE compares the event, with its own duration, with all others: \
+         it may go over the event's old time, and up to it.",
+        move_over_own,
+    ),
+    ("An event with the start of another one overlaps it: PUT and MOVE say 30, and never 7.", equal_start),
+    ("An event may end past the last segment: at 5,529,599, the last start, it may have any duration.", past_the_end),
 ];
 
 pub const NO_POOLS: Pools = Pools { day: &[], series: &[] };
@@ -53,13 +64,13 @@ fn put_order(caller: Caller) -> bool {
     let out_of_range = Record { duration: 0, offset: 1, ..held };
     let no_chain = Record { duration: 60, ..out_of_range };
     let present = Record { offset: 0, ..no_chain };
-    let taken = Record { id: 2, ..present };
-    let full = Record { start: 61, ..taken };
-    let said = [out_of_range, no_chain, present, taken, full].map(|record| {
+    let overlapping = Record { id: 2, start: 119, ..present };
+    let full = Record { start: 120, ..overlapping };
+    let said = [out_of_range, no_chain, present, overlapping, full].map(|record| {
         let mut list = numbers(&[held]);
         edit(caller, &mut list, 1, NO_POOLS, &put(record)).map_err(EditRefusal::number)
     });
-    said == [Err(5), Err(9), Err(6), Err(7), Err(8)]
+    said == [Err(5), Err(9), Err(6), Err(30), Err(8)]
 }
 
 fn struck_before(caller: Caller) -> bool {
@@ -90,10 +101,34 @@ fn room(caller: Caller) -> bool {
     said == Err(EditRefusal::ListFull { offset: 36, count: 2 }) && list[12] == 7
 }
 
-fn overlap(caller: Caller) -> bool {
-    let (said, list) = edited(caller, &[put(event(1, 0)), put(event(2, 60))]);
-    let mut file = [0; 42];
-    said == Ok(2)
-        && build(caller, &list, 2, NO_POOLS, 0, Identity::default(), &mut file) == Ok(42)
-        && check(caller, &file, 0).is_ok()
+/// The number that Edit says to a command, where event 1 stands from 60 to 120 and event 2 from 180 to 240.
+fn between_two(caller: Caller, command: &[u8]) -> u32 {
+    let mut list = numbers(&[event(1, 60), event(2, 180), Record::default()]);
+    edit(caller, &mut list, 2, NO_POOLS, command).err().map_or(0, EditRefusal::number)
+}
+
+fn touching(caller: Caller) -> bool {
+    let said = |start, duration| between_two(caller, &put(Record { duration, ..event(3, start) }));
+    [(0, 60), (120, 60), (240, 60)].iter().all(|&(start, duration)| said(start, duration) == 0)
+        && [(0, 61), (119, 61), (120, 61), (239, 61)].iter().all(|&(start, duration)| said(start, duration) == 30)
+        && [(80, 20), (30, 120), (0, 359_999)].iter().all(|&(start, duration)| said(start, duration) == 30)
+}
+
+fn move_over_own(caller: Caller) -> bool {
+    let moved = |id, start| between_two(caller, &shift(id, start));
+    [(1, 0), (1, 59), (1, 61), (1, 120), (2, 120), (2, 179), (2, 181), (2, 240)]
+        .iter()
+        .all(|&(id, start)| moved(id, start) == 0)
+        && [(1, 121), (1, 239), (2, 119), (2, 1)].iter().all(|&(id, start)| moved(id, start) == 30)
+}
+
+fn equal_start(caller: Caller) -> bool {
+    let put_at = |start| between_two(caller, &put(Record { duration: 1, ..event(3, start) }));
+    let moved = |id, start| between_two(caller, &shift(id, start));
+    [put_at(60), put_at(180), moved(1, 180), moved(2, 60)] == [30; 4]
+}
+
+fn past_the_end(caller: Caller) -> bool {
+    let said = |duration| between_two(caller, &put(Record { duration, ..event(3, 5_529_599) }));
+    [1, 2, 3_600, 359_999].iter().all(|&duration| said(duration) == 0)
 }

@@ -1,5 +1,5 @@
-//! The worked examples, two lists and three tables of docs/MANUAL.md, made through the Rust wrapper and printed as the
-//! manual has them: each block under the line that names it, lists and tables under their headings once calls have
+//! The worked examples, three lists and three tables of docs/MANUAL.md, made through the Rust wrapper and printed as
+//! the manual has them: each block under the line that names it, lists and tables under their headings once calls have
 //! shown them. tests/manual compares them.
 
 #[allow(dead_code)]
@@ -18,6 +18,8 @@ mod forbidden_tag;
 mod inputs;
 mod layout;
 mod lines;
+mod overlap;
+mod overlap_changes;
 mod places;
 mod read_details;
 mod schedule;
@@ -72,8 +74,12 @@ fn main() {
     let [tags, tags_for_cable] = CALLERS.map(forbidden_tag::lines);
     assert_eq!(tags, tags_for_cable);
     block("What the calls say, by the second tag:", &tags);
+    let [ends, ends_for_cable] = CALLERS.map(overlap::lines);
+    assert_eq!(ends, ends_for_cable);
+    block("What the calls say, by the film's end:", &ends);
     callers::print();
     caller_changes::print();
+    overlap_changes::print();
     details::print();
     tables::print();
 }

@@ -36,9 +36,9 @@ pub fn rows(list: &[u32], count: usize) -> Vec<String> {
     lines
 }
 
-/// The starts of three events, and others before, between and behind them.
-const STARTS: [u32; 3] = [60, 120, 180];
-const OTHERS: [u32; 8] = [0, 59, 61, 119, 121, 179, 181, 5_529_599];
+/// The starts of three events of a minute, and others before, between and behind them that are free for one more.
+const STARTS: [u32; 3] = [600, 1_200, 1_800];
+const OTHERS: [u32; 8] = [0, 540, 660, 1_140, 1_260, 1_740, 1_860, 5_529_599];
 
 /// The three events, with room for one more.
 fn three() -> Vec<u32> {

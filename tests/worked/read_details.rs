@@ -8,7 +8,7 @@ use crate::inputs::{chain, event};
 use crate::schedule::{BASE_DAY, IDENTITY};
 use crate::sections::{self, section};
 
-pub const ALL: [Detail; 9] = [
+pub const ALL: [Detail; 10] = [
     ("Read returns as offset of an event without descriptors the place behind the event's 12 bytes.", empty_chain),
     (
         "Read with another legal base day than Build's says 24 if the file has an event, \
@@ -19,6 +19,11 @@ pub const ALL: [Detail; 9] = [
         "A file's base day is its first event's date − (32 × (table_id − 0x50) + section_number ÷ 8) ÷ 8, \
          each ÷ rounded down.",
         base_day_found,
+    ),
+    (
+        "Read compares each event with the one before it, in whatever section, segment or table that stands: \
+         overlap is 24 at the later one's section.",
+        overlap,
     ),
     ("Read accepts segments cut early, empty segments behind the last event, and a later last_table_id.", not_asked),
     ("Read does not accept a file that leaves an empty segment out: 23 at the section behind the gap.", left_out),
@@ -70,6 +75,23 @@ fn base_day_found(caller: Caller) -> bool {
             found(&file) == base_day && check(caller, &file, base_day).is_ok()
         })
     })
+}
+
+/// Two events that touch: over the end of a segment, over a segment without events, over the end of a table, and over
+/// all of one; then with a second more of the first. Behind start and duration stand the offsets of their sections, of
+/// which the first has 30 bytes.
+fn overlap(caller: Caller) -> bool {
+    [(10_740, 60, 0, 30), (0, 21_600, 0, 48), (345_540, 60, 558, 588), (0, 345_600, 0, 30)].iter().all(
+        |&(start, duration, first, second)| {
+            let records = [Record { duration, ..event(1, start) }, event(2, start + duration)];
+            let mut file = file_of(caller, &records, NO_POOLS);
+            let touching = check(caller, &file, BASE_DAY);
+            file[first + 23] = 0x01;
+            let crc = crc32(&file[first..first + 26]).to_be_bytes();
+            file[first + 26..first + 30].copy_from_slice(&crc);
+            touching.is_ok() && check(caller, &file, BASE_DAY) == Err(ReadRefusal::EventLoop { offset: second })
+        },
+    )
 }
 
 fn not_asked(caller: Caller) -> bool {

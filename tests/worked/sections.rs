@@ -44,7 +44,7 @@ pub fn section([table, number, segment_last, last, last_table]: [u8; 5], events:
     section
 }
 
-/// An event of the base day 49,273 without descriptors, of an hour: id, hours and minutes as BCD digits.
+/// An event of the base day 49,273 without descriptors, of a minute: id, hours and minutes as BCD digits.
 pub fn event(id: u8, hours: u8, minutes: u8) -> Vec<u8> {
-    vec![0, id, 0xC0, 0x79, hours, minutes, 0x00, 0x01, 0x00, 0x00, 0x00, 0x00]
+    vec![0, id, 0xC0, 0x79, hours, minutes, 0x00, 0x00, 0x01, 0x00, 0x00, 0x00]
 }

@@ -47,7 +47,7 @@ pub fn print() {
 fn counts_are_so(caller: Caller) {
     let day = chain(caller.chain_max());
     let pools = Pools { day: &day, series: &[] };
-    let large = |place| Record { chain_length: day.len() as u32, ..event(place, 10_800 + place) };
+    let large = |place| Record { chain_length: day.len() as u32, ..event(place, 10_800 + 60 * place) };
     let counts = |records: &[Record]| {
         let mut counts = [0xA5; 512];
         plan(caller, &numbers(records), records.len(), pools, &mut counts);
@@ -92,13 +92,13 @@ fn fields_are_so(caller: Caller) {
     }
 }
 
-/// The shortest and the longest; the file of an hour with no hour, and with 9A of them.
+/// The shortest and the longest; the file of a minute with no minute, and with 5A of them.
 fn durations(caller: Caller) {
     for (duration, digits) in [(1, [0x00, 0x00, 0x01]), (359_999, [0x99, 0x59, 0x59])] {
         let file = file_of(caller, &[Record { duration, ..event(1, 0) }], NO_POOLS);
         assert_eq!((&file[21..24], check(caller, &file, BASE_DAY).is_ok()), (&digits[..], true));
     }
-    for hours in [0x00, 0x9A] {
-        assert_eq!(with(caller, 21, hours), Err(ReadRefusal::EventLoop { offset: 0 }));
+    for minutes in [0x00, 0x5A] {
+        assert_eq!(with(caller, 22, minutes), Err(ReadRefusal::EventLoop { offset: 0 }));
     }
 }
