@@ -5,8 +5,10 @@ use crate::lists::{high_bit, record, DURATION, DURATION_MAX, ID, MARKS, NUMBERS,
 use crate::pools::Pools;
 use crate::random::Random;
 use crate::scripts::Command;
+use crate::times::Times;
 
-/// PUT that breaks these of 5, 9, 6 and 7, and no other; whether it breaks 8 lies with the list.
+/// PUT that breaks these of 5, 9, 6, 30 and 7, and no other, but that 5 may bring 30 with it, and 30 may bring 7. Where 7
+/// is among them, 30 is. Whether it breaks 8 lies with the list.
 pub fn put(random: &mut Random, pools: &Pools, held: &Held, broken: &[u32]) -> Command {
     Command::Put(broken_record(random, pools, held, broken))
 }
@@ -22,41 +24,53 @@ pub fn put_tagged(random: &mut Random, pools: &Pools, held: &Held, broken: &[u32
 fn broken_record(random: &mut Random, pools: &Pools, held: &Held, broken: &[u32]) -> [u32; NUMBERS] {
     let mut record = record(random, pools);
     record[ID] = if broken.contains(&6) { held.event(random).0 } else { held.new_id(random) };
-    record[START] = if broken.contains(&7) { held.event(random).1 } else { held.new_start(random) };
+    let times = match (broken.contains(&30), broken.contains(&7)) {
+        (true, false) => held.overlapping(random),
+        (_, true) => Times { start: held.event(random).1.start, duration: record[DURATION] },
+        _ => held.free(random),
+    };
+    record[START..MARKS].copy_from_slice(&times.numbers());
     if broken.contains(&9) {
         let parts = pools.of_marks(record[MARKS]).no_chains(random);
         record[OFFSET..].copy_from_slice(&random.pick(&parts));
     }
     if broken.contains(&5) {
-        let values = [
-            (DURATION, 0),
+        let mut values = vec![
             (DURATION, DURATION_MAX + 1),
             (DURATION, record[DURATION] | high_bit(random, DURATION)),
             (MARKS, record[MARKS] | 0x08),
             // PUT has one byte for the marks.
             (MARKS, record[MARKS] | random.bit(3, 7)),
-            (START, START_END),
-            (START, record[START] | high_bit(random, START)),
         ];
-        // A start out of range is no other event's.
-        let usable = if broken.contains(&7) { 5 } else { 7 };
-        let (field, value) = random.pick(&values[..usable]);
+        if !broken.contains(&30) {
+            values.extend([(DURATION, 0), (START, record[START] | high_bit(random, START))]);
+        }
+        // A start out of range is no event's, but the last one may go on up to it.
+        if broken.contains(&30) == (held.timetable.end() > START_END) && !broken.contains(&7) {
+            values.push((START, START_END));
+        }
+        let (field, value) = random.pick(&values);
         record[field] = value;
     }
     record
 }
 
-/// MOVE that breaks these of 5, 6 and 7, and no other. 5 and 7 exclude each other.
+/// MOVE that breaks these of 5, 6, 30 and 7, and no other, but that 30 may bring 7 with it. The list has two events or
+/// more, 5 is not among them with 30, and 7 is with it.
 pub fn move_one(random: &mut Random, held: &Held, broken: &[u32]) -> Command {
     let (held_id, own) = held.event(random);
     let id = if broken.contains(&6) { held.new_id(random) } else { held_id };
     let start = if broken.contains(&5) {
-        let high = held.new_start(random) | high_bit(random, START);
+        let high = held.free(random).start | high_bit(random, START);
         random.pick(&[START_END, high])
     } else if broken.contains(&7) {
-        held.other_start(random, own)
+        held.other_times(random, own).start
+    } else if broken.contains(&30) {
+        let other = held.other_times(random, own);
+        let seconds = other.duration.min(START_END - other.start);
+        other.start + random.below(seconds as usize) as u32
     } else {
-        held.new_start(random)
+        held.free(random).start
     };
     Command::Move(id, start)
 }

@@ -1,6 +1,6 @@
 //! Faults of how Edit carries out a script: each stands in for the library, and must show.
 
-use crate::edits::Edit;
+use crate::edits::{Edit, ORDER};
 use crate::other::{edit, Answer};
 
 pub const ALL: [(&str, Edit); 13] = [
@@ -18,7 +18,7 @@ pub const ALL: [(&str, Edit); 13] = [
     }),
     ("names the offset one command late", |caller, list, count, day, series, script| {
         let answer = edit(caller, list, count, day, series, script);
-        if (3..=9).contains(&answer.number) {
+        if has_offset(answer.number) {
             Answer { value: next(script, answer.value), ..answer }
         } else {
             answer
@@ -45,7 +45,7 @@ pub const ALL: [(&str, Edit); 13] = [
     ),
     ("carries out an edit before UNDO strikes it", |caller, list, count, day, series, script| {
         let answer = edit(caller, &mut list.to_vec(), count, day, series, &script[..first_undo(script)]);
-        if (5..=9).contains(&answer.number) {
+        if is_of_edit(answer.number) {
             answer
         } else {
             edit(caller, list, count, day, series, script)
@@ -81,14 +81,14 @@ pub const ALL: [(&str, Edit); 13] = [
     ("takes back the edits before a refused one", |caller, list, count, day, series, script| {
         let before = list.to_vec();
         let answer = edit(caller, list, count, day, series, script);
-        if (5..=9).contains(&answer.number) {
+        if is_of_edit(answer.number) {
             list.copy_from_slice(&before);
         }
         answer
     }),
     ("names the offset in sixteen bits", |caller, list, count, day, series, script| {
         let answer = edit(caller, list, count, day, series, script);
-        if (3..=9).contains(&answer.number) {
+        if has_offset(answer.number) {
             Answer { value: answer.value & 0xFFFF, ..answer }
         } else {
             answer
@@ -111,6 +111,15 @@ pub const ALL: [(&str, Edit); 13] = [
         edit(caller, list, count, day, series, &[&script[..twice], struck_again, &script[twice..]].concat())
     }),
 ];
+
+/// Whether the number is one that comes with a command's offset, and with that of an edit.
+fn has_offset(number: u32) -> bool {
+    [3, 4].contains(&number) || is_of_edit(number)
+}
+
+fn is_of_edit(number: u32) -> bool {
+    ORDER.contains(&number)
+}
 
 /// The offset behind the command at this offset.
 fn next(script: &[u8], offset: usize) -> usize {

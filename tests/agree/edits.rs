@@ -4,6 +4,7 @@ use crate::groups::Groups;
 use crate::guarded::Guarded;
 use crate::lists::List;
 use crate::other::{self, Answer, Caller};
+use crate::overlaps;
 use crate::pools::Pools;
 use crate::random::Random;
 use crate::tally::{in_order, Precedence, Tally};
@@ -11,8 +12,11 @@ use crate::tally::{in_order, Precedence, Tally};
 const FIRST_SEED: u64 = 300_468;
 
 /// Edit's order of checks per edit, and of the call.
-pub const ORDER: [u32; 5] = [5, 9, 6, 7, 8];
-pub const CALL_ORDER: [u32; 8] = [12, 3, 4, 5, 9, 6, 7, 8];
+pub const ORDER: [u32; 6] = [5, 9, 6, 30, 7, 8];
+pub const CALL_ORDER: [u32; 9] = [12, 3, 4, 5, 9, 6, 30, 7, 8];
+
+/// An equal start is an overlap, and 30 comes first.
+const NEVER: u32 = 7;
 
 /// PUT where 9 is for the forbidden tag.
 pub const PUT_TAGGED: &str = "PUT, tag 0xFF";
@@ -23,7 +27,10 @@ pub const PUT_AT_MOST: &str = "PUT, the caller's most events";
 /// A call where 12 is for an event that is one too many for the caller.
 pub const CROWDED: &str = "call, an event too many";
 
-const ANSWERS: [u32; 9] = [0, 3, 4, 5, 6, 7, 8, 9, 12];
+/// A call where 12 is for an overlap.
+pub const OVERLAPPING: &str = "call, an overlap";
+
+const ANSWERS: [u32; 9] = [0, 3, 4, 5, 6, 8, 9, 12, 30];
 
 /// What stands beside the buffer: a number that is nowhere in range, or zeros, which a list that is read too far takes
 /// for good.
@@ -47,7 +54,7 @@ impl Comparison<'_> {
         Comparison {
             caller,
             subject,
-            tally: Tally::new(&ANSWERS, precedences()),
+            tally: Tally::new(&ANSWERS, precedences(), overlaps::kinds()),
             groups: Groups::new(caller, FIRST_SEED),
             guards: Random::new(FIRST_SEED),
         }
@@ -69,6 +76,8 @@ impl Comparison<'_> {
         self.tally.answer(wanted.number);
         let fault = if got != wanted {
             format!("answered {got:?}, and the other implementation {wanted:?}")
+        } else if got.number == NEVER {
+            format!("answered {got:?}, as the other implementation did; {NEVER} never comes")
         } else if got_list.inside() != wanted_list.inside() {
             let differ = |place: &usize| got_list.inside()[*place] != wanted_list.inside()[*place];
             let first = (0..list.numbers.len()).find(differ).unwrap_or_default();
@@ -116,16 +125,21 @@ impl Comparison<'_> {
     }
 }
 
-/// Every precedence of 01, "When a call says no": Edit's order over the call, and per edit.
+/// Every precedence of 01, "When a call says no": Edit's order over the call, and per edit. Where 7 is asked for, 30 or
+/// what is before it comes.
 fn precedences() -> Vec<Precedence> {
-    let mut all = vec![("MOVE", 5, 6), ("MOVE", 6, 7)];
-    all.extend(in_order("PUT", &ORDER));
+    let mut all = in_order("PUT", &ORDER);
+    all.extend(in_order("MOVE", &[5, 6, 30, 7]));
     let tagged = in_order(PUT_TAGGED, &ORDER);
     all.extend(tagged.into_iter().filter(|(_, first, second)| *first == 9 || *second == 9));
     all.extend(in_order(PUT_AT_MOST, &ORDER).into_iter().filter(|(_, _, second)| *second == 8));
     // Of two edits' refusals the earlier edit's comes, so the call orders 12, 3 and 4 alone.
     let call = in_order("call", &CALL_ORDER);
     all.extend(call.into_iter().filter(|(_, first, _)| [12, 3, 4].contains(first)));
-    all.extend(in_order(CROWDED, &CALL_ORDER).into_iter().filter(|(_, first, _)| *first == 12));
+    for by in [CROWDED, OVERLAPPING] {
+        all.extend(in_order(by, &CALL_ORDER).into_iter().filter(|(_, first, _)| *first == 12));
+    }
+    // A start out of range is no event's.
+    all.retain(|(by, first, second)| *first != NEVER && (*by, *first, *second) != ("MOVE", 5, NEVER));
     all
 }

@@ -7,6 +7,8 @@ use crate::edits::Comparison;
 use crate::guarded;
 use crate::list_faults;
 use crate::other::{self, Caller};
+use crate::overlap_faults;
+use crate::overlap_order_faults;
 
 const CRCS: [(&str, Crc); 2] = [
     ("inverts at the end", |bytes| !other::crc32(bytes)),
@@ -39,10 +41,10 @@ fn run_for(caller: Caller, groups: Groups) -> Result<Vec<String>, String> {
     let call = format!("Edit for {caller}");
     groups(&mut Comparison::new(caller, &other::edit))?;
     let mut shown = Vec::new();
-    for (fault, edit) in edit_faults::ALL.into_iter().chain(list_faults::ALL) {
+    for (fault, edit) in edit_faults::ALL.into_iter().chain(list_faults::ALL).chain(overlap_order_faults::ALL) {
         shown.push(shows(&call, fault, groups(&mut Comparison::new(caller, &edit)))?);
     }
-    for (fault, method) in list_faults::METHODS {
+    for (fault, method) in list_faults::METHODS.into_iter().chain(overlap_faults::METHODS) {
         let edit = |caller, list: &mut [u32], count, day: &[u8], series: &[u8], script: &[u8]| {
             other::edit_by(method, caller, list, count, day, series, script)
         };

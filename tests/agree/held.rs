@@ -1,26 +1,28 @@
-//! Makers of commands that fit a list: carried out, struck, or of any kind.
+//! Makers of commands that fit a list and are carried out.
 
-use crate::lists::{record, List, DURATION, ID, MARKS, NUMBERS, OFFSET, START, START_END};
+use crate::lists::{record, List, ID, MARKS, NUMBERS, START};
 use crate::other::Caller;
 use crate::pools::Pools;
 use crate::random::Random;
 use crate::scripts::Command;
+use crate::times::Times;
+use crate::timetable::Timetable;
 use std::collections::HashSet;
 
-/// The ids and starts that a list holds while a script is written for it.
+/// The ids and times that a list holds while a script is written for it.
 pub struct Held {
-    events: Vec<(u32, u32)>,
+    events: Vec<(u32, Times)>,
     ids: HashSet<u32>,
-    starts: HashSet<u32>,
+    pub timetable: Timetable,
     limit: usize,
 }
 
 impl Held {
     pub fn by(caller: Caller, list: &List) -> Held {
-        let events: Vec<_> = (0..list.count).map(|place| (list.get(place, ID), list.get(place, START))).collect();
+        let events: Vec<_> = (0..list.count).map(|place| (list.get(place, ID), list.times(place))).collect();
         Held {
             ids: events.iter().map(|event| event.0).collect(),
-            starts: events.iter().map(|event| event.1).collect(),
+            timetable: Timetable::of(events.iter().map(|event| event.1)),
             events,
             limit: caller.sizes().events.min(list.numbers.len() / NUMBERS),
         }
@@ -34,19 +36,24 @@ impl Held {
         self.events.len() == self.limit
     }
 
-    /// Id and start of some event. The list is not empty.
-    pub fn event(&self, random: &mut Random) -> (u32, u32) {
+    /// Id and times of some event. The list is not empty.
+    pub fn event(&self, random: &mut Random) -> (u32, Times) {
         random.pick(&self.events)
     }
 
-    /// The start of some event other than this one. The list has two events or more.
-    pub fn other_start(&self, random: &mut Random, own: u32) -> u32 {
+    /// The times of some event other than this one. The list has two events or more.
+    pub fn other_times(&self, random: &mut Random, own: Times) -> Times {
         loop {
-            let (_, start) = self.event(random);
-            if start != own {
-                return start;
+            let (_, times) = self.event(random);
+            if times != own {
+                return times;
             }
         }
+    }
+
+    /// The times of some event, if there is one.
+    pub fn some_times(&self, random: &mut Random) -> Option<Times> {
+        (!self.events.is_empty()).then(|| self.event(random).1)
     }
 
     pub fn new_id(&self, random: &mut Random) -> u32 {
@@ -59,22 +66,26 @@ impl Held {
         }
     }
 
-    pub fn new_start(&self, random: &mut Random) -> u32 {
-        loop {
-            let end = random.pick(&[64, START_END as usize]);
-            let start = random.below(end) as u32;
-            if !self.starts.contains(&start) {
-                return start;
-            }
-        }
+    /// Times that no event overlaps.
+    pub fn free(&self, random: &mut Random) -> Times {
+        let beside = self.some_times(random);
+        self.timetable.free(random, beside)
+    }
+
+    /// Times that overlap those of some event. The list is not empty.
+    pub fn overlapping(&self, random: &mut Random) -> Times {
+        let own = self.event(random).1;
+        let overlaps = self.timetable.neighbours(own).overlaps(random);
+        random.pick(&overlaps).1
     }
 
     /// PUT that is carried out, on a list that is not full.
     pub fn put(&mut self, random: &mut Random, pools: &Pools) -> Command {
         let mut record = record(random, pools);
+        let times = self.free(random);
         record[ID] = self.new_id(random);
-        record[START] = self.new_start(random);
-        self.insert(record[ID], record[START]);
+        record[START..MARKS].copy_from_slice(&times.numbers());
+        self.insert(record[ID], times);
         Command::Put(record)
     }
 
@@ -86,9 +97,10 @@ impl Held {
     /// MOVE that is carried out, at times onto the event's own start, on a list that is not empty.
     pub fn move_one(&mut self, random: &mut Random) -> Command {
         let (id, own) = self.remove(random);
-        let start = if random.one_in(4) { own } else { self.new_start(random) };
-        self.insert(id, start);
-        Command::Move(id, start)
+        let beside = self.some_times(random);
+        let times = if random.one_in(4) { own } else { self.timetable.free_for(random, own, beside) };
+        self.insert(id, times);
+        Command::Move(id, times.start)
     }
 
     /// An edit that is carried out. The limit is not 0.
@@ -100,64 +112,6 @@ impl Held {
             _ if !is_empty => self.move_one(random),
             _ => self.put(random, pools),
         }
-    }
-
-    /// An edit with likely values, carried out or refused. Nothing here changes.
-    pub fn any_edit(&self, random: &mut Random, pools: &Pools) -> Command {
-        let (held_id, held_start) = if self.events.is_empty() { (0, 0) } else { self.event(random) };
-        let (new_id, new_start) = (self.new_id(random), self.new_start(random));
-        let id = random.pick(&[held_id, held_id, new_id, new_id, new_id, 0, 1, 65_535]);
-        let limit = random.pick(&[0, START_END - 1, START_END, u32::MAX]);
-        let start = random.pick(&[held_start, new_start, new_start, 1, 2, 3, limit]);
-        match random.below(4) {
-            0 => Command::Withdraw(id),
-            1 => Command::Move(id, start),
-            _ => {
-                let mut record = record(random, pools);
-                record[ID] = id;
-                record[START] = start;
-                if random.one_in(4) {
-                    record[DURATION] = random.pick(&[0, 1, 359_999, 360_000, u32::MAX]);
-                }
-                if random.one_in(8) {
-                    record[MARKS] = random.pick(&[7, 8, 10, 255]);
-                }
-                if random.one_in(4) {
-                    let parts = pools.of_marks(record[MARKS]).no_chains(random);
-                    record[OFFSET..].copy_from_slice(&random.pick(&parts));
-                }
-                Command::Put(record)
-            }
-        }
-    }
-
-    /// Edits of any kind that UNDO strikes, nested at random.
-    pub fn struck(&self, random: &mut Random, pools: &Pools) -> Vec<Command> {
-        let mut commands = Vec::new();
-        let mut open = 0;
-        for _ in 0..random.below(8) {
-            if open > 0 && random.one_in(2) {
-                commands.push(Command::Undo);
-                open -= 1;
-            } else {
-                commands.push(self.any_edit(random, pools));
-                open += 1;
-            }
-        }
-        commands.resize(commands.len() + open, Command::Undo);
-        commands
-    }
-
-    /// So many edits that are carried out, with struck ones between them.
-    pub fn edits(&mut self, random: &mut Random, pools: &Pools, edits: usize) -> Vec<Command> {
-        let mut commands = self.struck(random, pools);
-        for _ in 0..edits {
-            commands.push(self.edit(random, pools));
-            if random.one_in(3) {
-                commands.extend(self.struck(random, pools));
-            }
-        }
-        commands
     }
 
     /// Edits that are carried out, after which the list has two events or more and is full or not. The limit is 3 or
@@ -173,16 +127,16 @@ impl Held {
         commands
     }
 
-    fn insert(&mut self, id: u32, start: u32) {
-        self.events.push((id, start));
+    fn insert(&mut self, id: u32, times: Times) {
+        self.events.push((id, times));
         self.ids.insert(id);
-        self.starts.insert(start);
+        self.timetable.insert(times);
     }
 
-    fn remove(&mut self, random: &mut Random) -> (u32, u32) {
-        let (id, start) = self.events.swap_remove(random.below(self.events.len()));
+    fn remove(&mut self, random: &mut Random) -> (u32, Times) {
+        let (id, times) = self.events.swap_remove(random.below(self.events.len()));
         self.ids.remove(&id);
-        self.starts.remove(&start);
-        (id, start)
+        self.timetable.remove(times);
+        (id, times)
     }
 }

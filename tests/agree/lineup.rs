@@ -1,9 +1,10 @@
 //! A list in the making, with chains of chosen lengths in pools of its own.
 
-use crate::lists::{new_id, rising, List, DURATION_MAX, NUMBERS};
+use crate::lists::{new_id, rising, List, DURATION, NUMBERS, START};
 use crate::pools::Pools;
 use crate::random::Random;
 use crate::stock::{Stock, FORBIDDEN_TAG};
+use crate::times::with_durations;
 use std::collections::HashSet;
 
 pub const SEGMENT_SECONDS: u32 = 10_800;
@@ -23,13 +24,11 @@ impl Lineup {
     /// Appends an event, whose start is behind those before it, with a chain of that many bytes, which are not 1.
     pub fn event(&mut self, random: &mut Random, start: u32, chain_length: usize) {
         let id = new_id(random, &mut self.ids, 65_536);
-        // Most programmes take less than a day, and some the longest time that there is.
-        let most = random.pick(&[7_200, 86_400, DURATION_MAX]);
-        let duration = if random.one_in(16) { most } else { 1 + random.below(most as usize) as u32 };
         let marks = random.below(8) as u32;
         let pool = if marks & 2 == 0 { &mut self.day } else { &mut self.series };
         let [offset, length] = pool.append(random, chain_length);
-        self.numbers.extend([id, start, duration, marks, offset, length]);
+        // How long it takes is drawn when the next start is known.
+        self.numbers.extend([id, start, 0, marks, offset, length]);
     }
 
     /// Appends events with chains of these lengths, all in this segment, which is behind those before it.
@@ -53,6 +52,10 @@ impl Lineup {
             pool.descriptor(FORBIDDEN_TAG, [].into_iter());
         }
         let count = self.numbers.len() / NUMBERS;
+        let starts: Vec<_> = self.numbers.chunks(NUMBERS).map(|record| record[START]).collect();
+        for (record, times) in self.numbers.chunks_mut(NUMBERS).zip(with_durations(random, &starts)) {
+            record[DURATION] = times.duration;
+        }
         let numbers = self.numbers.len() + random.below(2 * NUMBERS);
         self.numbers.resize_with(numbers, || random.number());
         (Pools { day: self.day.pool(), series: self.series.pool() }, List { numbers: self.numbers, count })

@@ -73,11 +73,11 @@ pub const ALL: [(&str, Edit); 6] = [
         let is_chain = if is_sound { wrong_chains::of_any_tags } else { is_chain };
         edit_by(with_chains(is_chain), caller, list, count, day, series, script)
     }),
-    ("looks for tag 0xFF after id, start and limit", |caller, list, count, day, series, script| {
+    ("looks for tag 0xFF after id, overlap and limit", |caller, list, count, day, series, script| {
         let later =
             edit_by(with_chains(wrong_chains::of_any_tags), caller, &mut list.to_vec(), count, day, series, script);
         let answer = edit(caller, list, count, day, series, script);
-        if answer.number == 9 && later.value == answer.value && (6..=8).contains(&later.number) {
+        if answer.number == 9 && later.value == answer.value && [6, 30, 8].contains(&later.number) {
             later
         } else {
             answer

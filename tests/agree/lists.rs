@@ -1,7 +1,8 @@
-//! Makers of lists: sound ones, and sound ones with a value at its limit.
+//! Makers of lists: sound ones of any kind, and changes to one.
 
 use crate::pools::Pools;
 use crate::random::Random;
+use crate::times::{self, Times};
 use std::collections::{BTreeSet, HashSet};
 
 pub const NUMBERS: usize = 6;
@@ -38,10 +39,10 @@ impl List {
         let mut list = List { numbers: Vec::with_capacity(numbers), count };
         let crowded = random.one_in(2);
         let mut ids = HashSet::new();
-        for start in starts(random, count, crowded) {
+        for times in times::draw(random, count, crowded) {
             let mut record = record(random, pools);
             record[ID] = new_id(random, &mut ids, if crowded { count + 8 } else { 65_536 });
-            record[START] = start;
+            record[START..MARKS].copy_from_slice(&times.numbers());
             list.numbers.extend(record);
         }
         match random.below(3) {
@@ -61,6 +62,10 @@ impl List {
         self.numbers[NUMBERS * place + field]
     }
 
+    pub fn times(&self, place: usize) -> Times {
+        Times { start: self.get(place, START), duration: self.get(place, DURATION) }
+    }
+
     /// What is lent, for the message about a difference.
     pub fn describe(&self, pools: &Pools) -> String {
         let records: Vec<_> = self.numbers.chunks(NUMBERS).take(8).collect();
@@ -78,6 +83,18 @@ impl List {
         let mut changed = self.clone();
         changed.set(place, field, values);
         changed
+    }
+
+    /// The list with an event more, by its start; among events with its start as the first or as the last.
+    pub fn with_event(&self, record: [u32; NUMBERS], is_first: bool) -> List {
+        let stands_before = |place: &usize| {
+            let start = self.get(*place, START);
+            start < record[START] || start == record[START] && !is_first
+        };
+        let place = (0..self.count).filter(stands_before).count();
+        let mut longer = self.with_count(self.count + 1);
+        longer.numbers.splice(NUMBERS * place..NUMBERS * place, record);
+        longer
     }
 
     pub fn with_count(&self, count: usize) -> List {
@@ -103,11 +120,6 @@ pub fn new_id(random: &mut Random, ids: &mut HashSet<u32>, end: usize) -> u32 {
     }
 }
 
-/// That many starts, rising; crowded ones stand close together.
-fn starts(random: &mut Random, count: usize, crowded: bool) -> BTreeSet<u32> {
-    rising(random, count, if crowded { 2 * count + 8 } else { START_END as usize })
-}
-
 /// That many numbers below `end`, rising. There are as many.
 pub fn rising(random: &mut Random, count: usize, end: usize) -> BTreeSet<u32> {
     let mut numbers = BTreeSet::new();
@@ -115,29 +127,4 @@ pub fn rising(random: &mut Random, count: usize, end: usize) -> BTreeSet<u32> {
         numbers.insert(random.below(end) as u32);
     }
     numbers
-}
-
-/// The list, of at least one event, with one value at its limit each: all are sound.
-pub fn at_limits(random: &mut Random, pools: &Pools, list: &List) -> Vec<List> {
-    let place = random.below(list.count);
-    let last = list.count - 1;
-    let mut lists = vec![
-        list.with(0, START, &[0]),
-        list.with(last, START, &[START_END - 1]),
-        list.with(place, DURATION, &[1]),
-        list.with(place, DURATION, &[DURATION_MAX]),
-        list.with(place, MARKS, &[7, pools.series.bytes().len() as u32, 0]),
-        list.with(place, MARKS, &[0, pools.day.bytes().len() as u32, 0]),
-    ];
-    for id in [0, 65_535] {
-        if (0..list.count).all(|other| list.get(other, ID) != id) {
-            lists.push(list.with(place, ID, &[id]));
-        }
-    }
-    for marks in [5, 2] {
-        if let Some([offset, length]) = pools.of_marks(marks).last_descriptor() {
-            lists.push(list.with(place, MARKS, &[marks, offset, length]));
-        }
-    }
-    lists
 }

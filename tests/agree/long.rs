@@ -11,6 +11,9 @@ use crate::scripts::{bytes, unstruck, Command};
 
 const MB: usize = 1 << 20;
 
+/// Refusals of a script or an edit.
+const NUMBERS: [u32; 7] = [3, 4, 5, 9, 6, 30, 8];
+
 /// Commands from which on the library takes a script in halves, and these in halves again.
 const HALVED_TWICE: usize = 2 * 262_144;
 
@@ -19,7 +22,7 @@ pub fn run(comparison: &mut Comparison) -> Result<(), String> {
     let pools = Pools::of_lengths(random, 300, 200);
     let most = comparison.caller.sizes().events;
     carried_out(comparison, random, &pools, most / 2, most)?;
-    for number in 3..=9 {
+    for number in NUMBERS {
         // From 64 KB to 2 MB, so that each bit of the offset from 16 to 20 counts.
         for bit in [16, 17, 18, 19, 20].repeat(2) {
             let length = (1 << bit) + random.below(1 << bit);
@@ -36,7 +39,7 @@ pub fn run(comparison: &mut Comparison) -> Result<(), String> {
 /// depends on the caller's sizes, so that one caller is enough.
 fn longest(comparison: &mut Comparison, random: &mut Random, pools: &Pools) -> Result<(), String> {
     carried_out(comparison, random, pools, 3, 12)?;
-    (3..=9).try_for_each(|number| refused(comparison, random, pools, number, 8 * MB))
+    NUMBERS.into_iter().try_for_each(|number| refused(comparison, random, pools, number, 8 * MB))
 }
 
 /// This refusal, behind at least so many bytes of commands that are carried out or struck.
@@ -70,10 +73,10 @@ fn refused(
     comparison.answers((number, script.len()), pools, &list, &[script, last].concat())
 }
 
-/// An edit that breaks this one of 5 to 9.
+/// An edit that breaks this one of 5, 9, 6, 30 and 8.
 fn breaks(random: &mut Random, pools: &Pools, held: &Held, number: u32) -> Command {
     match (number, random.below(3)) {
-        (5..=7, 0) => breaking::move_one(random, held, &[number]),
+        (5 | 6 | 30, 0) => breaking::move_one(random, held, &[number]),
         (6, 1) => breaking::withdraw(random, held),
         _ => breaking::put(random, pools, held, &[number]),
     }

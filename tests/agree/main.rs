@@ -1,6 +1,8 @@
 //! Compares the library, through its Rust wrapper and so through its C face, with the other implementation on seeded
 //! inputs, for both callers. It first checks that faults show; with `--self-check` it does only that.
 
+mod any_edits;
+mod at_limits;
 mod at_places;
 mod breaking;
 mod build;
@@ -13,6 +15,7 @@ mod edit_faults;
 mod edits;
 mod faults;
 mod forms;
+mod full;
 mod groups;
 mod guarded;
 mod held;
@@ -24,8 +27,14 @@ mod list_faults;
 mod lists;
 mod long;
 mod mixed;
+mod moves;
 #[path = "../other/mod.rs"]
 mod other;
+mod overlap_faults;
+mod overlap_order_faults;
+mod overlapped;
+mod overlapping;
+mod overlaps;
 mod place;
 mod pools;
 mod precedence;
@@ -39,9 +48,12 @@ mod stock;
 mod tagged;
 mod tags;
 mod tally;
+mod times;
+mod timetable;
 mod undo;
 mod unsound;
 mod wrong_chains;
+mod wrong_follows;
 
 use edits::Comparison;
 use other::Caller;
@@ -102,6 +114,9 @@ fn compare_for(caller: Caller) -> Result<Vec<String>, String> {
         if let Some(precedences) = tally.precedences() {
             println!("precedences {precedences}");
         }
+        if let Some(kinds) = tally.kinds() {
+            println!("overlap     {kinds}");
+        }
     }
     let seeds = [edits.groups.seeds(), builds.groups.seeds(), reads.groups.seeds()];
     println!("seeds       {}", seeds.join(", "));
@@ -112,7 +127,11 @@ fn compare_for(caller: Caller) -> Result<Vec<String>, String> {
     Ok(tallies.iter().flat_map(of_call).collect())
 }
 
+/// The groups that show most faults soonest come first.
 fn all_groups(comparison: &mut Comparison) -> Result<(), String> {
+    overlapped::run(comparison)?;
+    overlaps::run(comparison)?;
+    moves::run(comparison)?;
     undo::run(comparison)?;
     forms::run(comparison)?;
     precedence::run(comparison)?;

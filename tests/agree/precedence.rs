@@ -14,19 +14,22 @@ pub fn run(comparison: &mut Comparison) -> Result<(), String> {
     let random = &mut comparison.groups.begin("precedence");
     for (day, series) in [(200, 90), (0, 30), (30, 0), (0, 0)] {
         let pools = Pools::of_lengths(random, day, series);
-        for _ in 0..24 {
+        for _ in 0..18 {
             for choice in 1..1 << ORDER.len() {
                 let broken: Vec<_> = (0..ORDER.len()).filter(|k| choice >> k & 1 == 1).map(|k| ORDER[k]).collect();
-                put(comparison, random, &pools, &broken)?;
+                // An equal start is an overlap.
+                if broken.contains(&30) || !broken.contains(&7) {
+                    put(comparison, random, &pools, &broken)?;
+                }
             }
-            for broken in [&[5][..], &[6], &[7], &[5, 6], &[6, 7]] {
+            for broken in [&[5][..], &[6], &[30], &[5, 6], &[6, 30], &[30, 7], &[6, 30, 7]] {
                 move_one(comparison, random, &pools, broken)?;
             }
             withdraw(comparison, random, &pools)?;
         }
     }
     let pools = Pools::of_lengths(random, 3_000, 2_000);
-    for broken in [&[9][..], &[5, 9], &[9, 6], &[9, 7], &[9, 8], &[9, 6, 7, 8]].repeat(24) {
+    for broken in [&[9][..], &[5, 9], &[9, 6], &[9, 30], &[9, 30, 7], &[9, 8], &[9, 6, 30, 7, 8]].repeat(24) {
         put_tagged(comparison, random, &pools, broken)?;
     }
     Ok(())
@@ -101,20 +104,27 @@ impl Ready {
 
         let cut = [script.clone(), random.pick(&[&[0x00][..], &[0x05], &[0x01, 0x00], &[0x02]]).to_vec()].concat();
         comparison.answers((3, script.len()), pools, &self.list, &cut)?;
-        comparison.tally.precedence(("call", 3, first));
+        self.tally_call(comparison, 3, broken);
 
         let undo_first = [vec![0x04], script.clone()].concat();
         comparison.answers((4, 0), pools, &self.list, &undo_first)?;
         let undo_last = [script.clone(), vec![0x04; unstruck(&commands) + 1]].concat();
         comparison.answers((4, undo_last.len() - 1), pools, &self.list, &undo_last)?;
-        comparison.tally.precedence(("call", 4, first));
+        self.tally_call(comparison, 4, broken);
 
         let undo_then_cut = [vec![0x04], cut.clone()].concat();
         comparison.answers((3, 1 + script.len()), pools, &self.list, &undo_then_cut)?;
         comparison.tally.precedence(("call", 3, 4));
 
         let scripts = [(script, first), (cut, 3), (undo_first, 4), (undo_last, 4)];
-        self.refuse_unsound(comparison, random, pools, &scripts)
+        self.refuse_unsound(comparison, random, pools, &scripts)?;
+        self.tally_call(comparison, 12, broken);
+        Ok(())
+    }
+
+    /// The call's refusal came, and those of the edit did not.
+    fn tally_call(&self, comparison: &mut Comparison, first: u32, broken: &[u32]) {
+        broken.iter().for_each(|second| comparison.tally.precedence(("call", first, *second)));
     }
 
     /// Scripts, each with the refusal that it gets on a sound list, on unsound ones.

@@ -1,9 +1,10 @@
 //! Sound lists at every limit, and unsound ones of every kind.
 
+use crate::at_limits::at_limits;
 use crate::breaking;
 use crate::edits::{Comparison, CALL_ORDER, CROWDED};
 use crate::held::Held;
-use crate::lists::{at_limits, List, ID, START};
+use crate::lists::{List, ID, START};
 use crate::pools::Pools;
 use crate::random::Random;
 use crate::scripts::bytes;
@@ -57,15 +58,28 @@ fn kinds(comparison: &mut Comparison, random: &mut Random, pools: &Pools, count:
 /// A list that is sound but for its count, with no script and with scripts that ask for every other refusal.
 fn too_many(comparison: &mut Comparison, random: &mut Random, pools: &Pools, list: &List) -> Result<(), String> {
     comparison.answers((12, 0), pools, list, &[])?;
+    before_all(comparison, random, pools, list, list, CROWDED)
+}
+
+/// A list that is unsound, with scripts that ask for every other refusal by the list without this cause.
+pub fn before_all(
+    comparison: &mut Comparison,
+    random: &mut Random,
+    pools: &Pools,
+    list: &List,
+    unsound: &List,
+    cause: &'static str,
+) -> Result<(), String> {
     let held = Held::by(comparison.caller, list);
     for second in &CALL_ORDER[1..] {
         let script = match second {
             3 => vec![0x77],
             4 => vec![0x04],
+            7 => bytes(&[breaking::put(random, pools, &held, &[30, 7])]),
             _ => bytes(&[breaking::put(random, pools, &held, &[*second])]),
         };
-        comparison.answers((12, 0), pools, list, &script)?;
-        comparison.tally.precedence((CROWDED, 12, *second));
+        comparison.answers((12, 0), pools, unsound, &script)?;
+        comparison.tally.precedence((cause, 12, *second));
     }
     Ok(())
 }
@@ -123,17 +137,17 @@ fn small_buffers(comparison: &mut Comparison, random: &mut Random, pools: &Pools
     Ok(())
 }
 
-/// A sound list with one number changed to a likely one, which may leave it sound.
+/// A sound list with one number changed to a likely one, which may leave it sound, and an edit that was written before.
 fn changed_numbers(comparison: &mut Comparison, random: &mut Random, pools: &Pools) -> Result<(), String> {
     for _ in 0..1_500 {
         let list_numbers = 6 * 5 + random.below(8);
         let mut list = List::sound(random, pools, 5, list_numbers);
+        let script = bytes(&[Held::by(comparison.caller, &list).any_edit(random, pools)]);
         let place = random.below(5);
         let [near, far] = [random.below(64) as u32, random.number()];
         let copied = random.pick(&list.numbers);
         let value = random.pick(&[0, 1, 2, 7, 8, 65_535, 65_536, near, near, far, copied, copied, copied]);
         list.set(place, random.below(6), &[value]);
-        let script = bytes(&[Held::by(comparison.caller, &list).any_edit(random, pools)]);
         comparison.alike(pools, &list, &script)?;
     }
     Ok(())

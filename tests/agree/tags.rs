@@ -37,7 +37,7 @@ fn put(
         before.extend((0..edits).map(|_| held.edit(random, pools)));
         let mut record = record(random, pools);
         record[ID] = held.new_id(random);
-        record[START] = held.new_start(random);
+        record[START..MARKS].copy_from_slice(&held.free(random).numbers());
         record[MARKS..].copy_from_slice(&part);
         let front = bytes(&before);
         let answer = if is_chain { (0, held.count() + 1) } else { (9, front.len()) };

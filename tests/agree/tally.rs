@@ -1,4 +1,5 @@
-//! How often each answer came up and each precedence was tried, so that a run that misses one fails.
+//! How often each answer came up, and each precedence and each kind of overlap was tried, so that a run that misses one
+//! fails.
 
 use std::collections::BTreeMap;
 
@@ -6,20 +7,25 @@ use std::collections::BTreeMap;
 /// comes.
 pub type Precedence = (&'static str, u32, u32);
 
+/// A call, or a command, and what it is tried on.
+pub type Kind = (&'static str, &'static str);
+
 pub struct Tally {
     pub cases: usize,
     /// What must come up stands here from the start, with 0.
     answers: BTreeMap<u32, usize>,
     precedences: BTreeMap<Precedence, usize>,
+    kinds: BTreeMap<Kind, usize>,
 }
 
 impl Tally {
-    /// The answers and precedences that must come up.
-    pub fn new(answers: &[u32], precedences: Vec<Precedence>) -> Tally {
+    /// The answers, precedences and kinds that must come up.
+    pub fn new(answers: &[u32], precedences: Vec<Precedence>, kinds: Vec<Kind>) -> Tally {
         Tally {
             cases: 0,
             answers: answers.iter().map(|number| (*number, 0)).collect(),
             precedences: precedences.into_iter().map(|precedence| (precedence, 0)).collect(),
+            kinds: kinds.into_iter().map(|kind| (kind, 0)).collect(),
         }
     }
 
@@ -31,13 +37,19 @@ impl Tally {
         *self.precedences.entry(precedence).or_default() += 1;
     }
 
-    /// The answers and precedences that never came up.
+    pub fn kind(&mut self, kind: Kind) {
+        *self.kinds.entry(kind).or_default() += 1;
+    }
+
+    /// The answers, precedences and kinds that never came up.
     pub fn missing(&self) -> Vec<String> {
         let answers = self.answers.iter().filter(|(_, times)| **times == 0);
         let precedences = self.precedences.iter().filter(|(_, times)| **times == 0);
+        let kinds = self.kinds.iter().filter(|(_, times)| **times == 0);
         answers
             .map(|(number, _)| format!("answer {number}"))
             .chain(precedences.map(|((by, first, second), _)| format!("{first} before {second} ({by})")))
+            .chain(kinds.map(|((by, kind), _)| format!("{kind} ({by})")))
             .collect()
     }
 
@@ -52,6 +64,17 @@ impl Tally {
         let least = self.precedences.values().min()?;
         Some(format!("{} of two refusals, each tried {least} times or more", self.precedences.len()))
     }
+
+    /// The same for the kinds.
+    pub fn kinds(&self) -> Option<String> {
+        let least = self.kinds.values().min()?;
+        Some(format!("{} kinds, each tried {least} times or more", self.kinds.len()))
+    }
+}
+
+/// Each of these kinds for a call or a command.
+pub fn each_kind(by: &'static str, kinds: impl IntoIterator<Item = &'static str>) -> Vec<Kind> {
+    kinds.into_iter().map(|kind| (by, kind)).collect()
 }
 
 /// Each two of an order of checks.

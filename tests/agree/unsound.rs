@@ -1,7 +1,8 @@
-//! Makers of unsound lists, of every kind.
+//! Makers of unsound lists, of every kind; those that overlap have more of their own.
 
 use crate::lists::{high_bit, List, DURATION, DURATION_MAX, ID, MARKS, NUMBERS, START, START_END};
 use crate::other::Caller;
+use crate::overlapping::lengthened;
 use crate::pools::Pools;
 use crate::random::Random;
 
@@ -40,7 +41,7 @@ pub fn unsound(caller: Caller, random: &mut Random, pools: &Pools, list: &List) 
     lists
 }
 
-/// The list with starts that do not rise, or with equal ids.
+/// The list with starts that do not rise, with events that overlap, or with equal ids.
 fn out_of_order(random: &mut Random, list: &List) -> Vec<(&'static str, List)> {
     let last = list.count - 1;
     let mut lists = Vec::new();
@@ -51,6 +52,7 @@ fn out_of_order(random: &mut Random, list: &List) -> Vec<(&'static str, List)> {
         falling.set(next - 1, START, &[start]);
         lists.push(("starts fall", falling));
         lists.push(("starts equal", list.with(next, START, &[before])));
+        lists.extend(lengthened(list, next - 1, 1).map(|list| ("overlap by a second", list)));
         lists.push(("ids of neighbours equal", list.with(next, ID, &[list.get(next - 1, ID)])));
     }
     if last > 1 {

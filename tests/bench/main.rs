@@ -16,6 +16,9 @@ mod table;
 
 // The other implementation and the comparison's makers of inputs, of which a part is needed here.
 #[allow(dead_code)]
+#[path = "../agree/any_edits.rs"]
+mod any_edits;
+#[allow(dead_code)]
 #[path = "../agree/guarded.rs"]
 mod guarded;
 #[allow(dead_code)]
@@ -30,6 +33,9 @@ mod lists;
 #[path = "../other/mod.rs"]
 mod other;
 #[allow(dead_code)]
+#[path = "../agree/overlapping.rs"]
+mod overlapping;
+#[allow(dead_code)]
 #[path = "../agree/pools.rs"]
 mod pools;
 #[path = "../agree/random.rs"]
@@ -39,6 +45,12 @@ mod random;
 mod scripts;
 #[path = "../agree/stock.rs"]
 mod stock;
+#[allow(dead_code)]
+#[path = "../agree/times.rs"]
+mod times;
+#[allow(dead_code)]
+#[path = "../agree/timetable.rs"]
+mod timetable;
 
 use random::Random;
 

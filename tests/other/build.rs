@@ -1,7 +1,7 @@
 //! Build: 01, "Build, Read" and "When a call says no", and 02, W-206.
 
 use super::caller::Caller;
-use super::list::Pools;
+use super::event::Pools;
 use super::schedule::{Lent, Method, Schedule, Segment, PAPERS, SECTIONS_MAX, SEGMENTS};
 use super::section::{Header, Identity};
 

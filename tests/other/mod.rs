@@ -1,12 +1,14 @@
-//! Another implementation of document 01, with W-202, W-203 and W-206 of document 02, written from the papers alone and
-//! in a shape of its own. The library's answers are compared with it. Every function whose outcome depends on a size
-//! takes the caller, or its sizes.
+//! Another implementation of document 01, with W-202, W-203, W-204 and W-206 of document 02, written from the papers
+//! alone and in a shape of its own. The library's answers are compared with it. Every function whose outcome depends on
+//! a size takes the caller, or its sizes.
 
+mod before;
 mod build;
 mod caller;
 mod crc;
 mod crc_table;
 mod edit;
+mod event;
 mod list;
 mod place;
 mod plan;
@@ -14,18 +16,21 @@ mod read;
 mod received;
 mod rules;
 mod schedule;
+mod script;
 mod section;
 
+pub use before::Before;
 pub use build::{build, build_by, file, Built};
 pub use caller::{Caller, Sizes};
 pub use crc::crc32;
 pub use crc_table::crc32_by_table;
 pub use edit::{edit, edit_by, Answer, EditMethod, EDIT_PAPERS};
-pub use list::{is_chain, Event, IsChain};
+pub use event::{is_chain, Event, Follows, IsChain};
+pub use list::List;
 pub use place::{place, Place};
 pub use plan::{plan, plan_by, Plan};
 pub use read::{check, check_by, read, read_by, refused, Asked, Reading, READ_PAPERS};
-pub use received::{frame, frame_within, Frame, Received, TABLE_IDS};
-pub use rules::{Before, Rule, RULES};
+pub use received::{frame, frame_within, Frame, Received, ReceivedEvent, Times, TABLE_IDS};
+pub use rules::{Rule, RULES};
 pub use schedule::{pack, Lent, Method, EVENT_FRONT, PAPERS};
 pub use section::Identity;

@@ -1,6 +1,6 @@
 //! The place of a start in a list: 02, W-203.
 
-use super::list::NUMBERS;
+use super::event::NUMBERS;
 
 /// Where a record's start stands among its numbers.
 const START: usize = 1;

@@ -1,9 +1,10 @@
-//! Read, with a record buffer and without: 01, "Build, Read" and "When a call says no", and 02, W-206.
+//! Read, with a record buffer and without: 01, "Build, Read" and "When a call says no", and 02, W-204 and W-206.
 
+use super::before::Before;
 use super::caller::{Caller, Sizes};
-use super::list::NUMBERS;
+use super::event::NUMBERS;
 use super::received::{frame, Frame, Received};
-use super::rules::{Before, Rule, RULES, RUNNING_STATUS_OFF_AIR};
+use super::rules::{Rule, RULES, RUNNING_STATUS_OFF_AIR};
 use super::section::Identity;
 
 const BASE_DAY_MAX: u32 = 65_472;

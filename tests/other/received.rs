@@ -56,6 +56,19 @@ pub struct ReceivedEvent<'a> {
     pub chain_at: usize,
 }
 
+/// When an event begins, and when it is over, in seconds after midnight of the base day.
+#[derive(Clone, Copy)]
+pub struct Times {
+    pub start: i64,
+    pub end: i64,
+}
+
+impl ReceivedEvent<'_> {
+    pub fn times(&self) -> Times {
+        Times { start: self.start, end: self.start + i64::from(self.duration) }
+    }
+}
+
 impl<'a> Received<'a> {
     pub fn new(bytes: &'a [u8], base_day: u32) -> Received<'a> {
         let (events, ends_well) = events(bytes, base_day);

@@ -1,26 +1,15 @@
 //! The rules that a section of a file keeps, each with the number of its refusal, in the order in which they are
-//! checked: 01, "The file of sections" and "When a call says no", and 02, W-206.
+//! checked: 01, "The file of sections" and "When a call says no", and 02, W-204 and W-206.
 
-use super::caller::Sizes;
+use super::before::Before;
 use super::crc_table::crc32_by_table;
-use super::list::is_chain;
-use super::received::{two_digits, Received, TABLE_IDS};
-use super::section::{Header, Identity};
+use super::event::is_chain;
+use super::received::{two_digits, Received, ReceivedEvent, TABLE_IDS};
+use super::section::Header;
 use std::collections::HashSet;
 
 pub const RUNNING_STATUS_OFF_AIR: u8 = 5;
 const SEGMENT_SECONDS: i64 = 10_800;
-const SEGMENTS: i64 = 32;
-const SECTIONS_MAX: u8 = 8;
-
-/// What the sections before leave for the next one.
-pub struct Before {
-    pub section: Option<(Identity, Header)>,
-    pub last_start: Option<i64>,
-    pub ids: HashSet<u16>,
-    /// How many events there may still be.
-    pub events_left: usize,
-}
 
 /// What is asked of a section, and the number of the refusal if it does not hold.
 #[derive(Clone, Copy)]
@@ -88,9 +77,10 @@ pub const RULES: [Rule; 31] = [
         let index = section.header.segment_index();
         section.events.iter().all(|event| event.start.div_euclid(SEGMENT_SECONDS) == index)
     }),
-    rule(24, "starts that rise", |section, before| {
-        let starts = section.events.iter().map(|event| event.start);
-        before.last_start.into_iter().chain(starts).is_sorted_by(|earlier, later| earlier < later)
+    // With durations of a second or more, starts rise.
+    rule(24, "no overlap with the event before", |section, before| {
+        let times = section.events.iter().map(ReceivedEvent::times);
+        before.last_times.into_iter().chain(times).is_sorted_by(|event, next| event.end <= next.start)
     }),
     rule(24, "ids that differ", |section, before| {
         let mut ids = HashSet::new();
@@ -101,68 +91,6 @@ pub const RULES: [Rule; 31] = [
 
 const fn rule(number: u32, says: &'static str, holds: fn(&Received, &Before) -> bool) -> Rule {
     Rule { number, says, holds }
-}
-
-impl Before {
-    /// What the first section finds.
-    pub fn new(sizes: Sizes) -> Before {
-        Before { section: None, last_start: None, ids: HashSet::new(), events_left: sizes.events }
-    }
-
-    /// Whether the section before, if there is one, has the same in this field.
-    pub fn has<T: PartialEq>(&self, section: &Received, field: fn(&Identity, &Header) -> T) -> bool {
-        let own = field(&section.identity, &section.header);
-        self.section.as_ref().is_none_or(|(identity, header)| field(identity, header) == own)
-    }
-
-    /// Table and section_number of the section that comes next, unless the file ends.
-    fn next_place(&self) -> (u8, u8) {
-        match &self.section {
-            None => (*TABLE_IDS.start(), 0),
-            Some((_, header)) if header.section_number < header.segment_last_section_number => {
-                (header.table_id, header.section_number + 1)
-            }
-            Some((_, header)) if header.section_number < header.last_section_number => {
-                (header.table_id, header.highest().wrapping_add(1))
-            }
-            Some((_, header)) => (header.table_id + 1, 0),
-        }
-    }
-
-    /// Whether a file can end here.
-    pub fn is_end(&self) -> bool {
-        self.section.is_some_and(|(_, header)| {
-            header.section_number == header.last_section_number && header.table_id == header.last_table_id
-        })
-    }
-
-    pub fn push(&mut self, section: &Received) {
-        self.section = Some((section.identity, section.header));
-        self.last_start = section.events.last().map(|event| event.start).or(self.last_start);
-        self.ids.extend(section.events.iter().map(|event| event.id));
-        self.events_left = self.events_left.saturating_sub(section.events.len());
-    }
-}
-
-impl Header {
-    fn place(&self) -> (u8, u8) {
-        (self.table_id, self.section_number)
-    }
-
-    /// Whether the section is its segment's first.
-    fn is_first(&self) -> bool {
-        self.section_number % SECTIONS_MAX == 0
-    }
-
-    /// The highest section_number that its segment can have.
-    fn highest(&self) -> u8 {
-        self.section_number - self.section_number % SECTIONS_MAX + (SECTIONS_MAX - 1)
-    }
-
-    fn segment_index(&self) -> i64 {
-        let table = i64::from(self.table_id) - i64::from(*TABLE_IDS.start());
-        SEGMENTS * table + i64::from(self.section_number / SECTIONS_MAX)
-    }
 }
 
 fn are_digits(bytes: [u8; 3]) -> bool {

@@ -1,8 +1,9 @@
 //! A list's events by segment, the range of each table, and the packing rule: 01, "The file of sections" and "Build,
-//! Read", and 02, W-206.
+//! Read", and 02, W-204 and W-206.
 
 use super::caller::{Caller, Sizes};
-use super::list::{is_chain, Event, IsChain, List, Pools};
+use super::event::{follows, is_chain, Event, Follows, IsChain, Pools};
+use super::list::List;
 use std::collections::BTreeMap;
 
 /// A table's segments, and the section numbers of each.
@@ -34,15 +35,17 @@ pub type Segment<'a> = Vec<&'a [Event]>;
 /// How a segment's events are cut into sections, each with so many bytes for its events; nothing if they cannot be.
 type Packing = fn(usize, &[Event]) -> Option<Segment<'_>>;
 
-/// What Build and Plan alike go by: the caller's sizes, which parts are chains, and the packing rule.
+/// What Build and Plan alike go by: the caller's sizes, which parts are chains, which event
+/// may be the next behind which, and the packing rule.
 #[derive(Clone, Copy)]
 pub struct Method {
     pub sizes: fn(Caller) -> Sizes,
     pub is_chain: IsChain,
+    pub follows: Follows,
     pub packing: Packing,
 }
 
-pub const PAPERS: Method = Method { sizes: Caller::sizes, is_chain, packing: pack };
+pub const PAPERS: Method = Method { sizes: Caller::sizes, is_chain, follows, packing: pack };
 
 /// The events of a sound list by segment index. A segment without events has no entry.
 pub struct Schedule {
@@ -53,7 +56,7 @@ impl Schedule {
     /// The lent list's, if it is sound.
     pub fn of(method: Method, caller: Caller, lent: &Lent) -> Option<Schedule> {
         let pools = Pools { is_chain: method.is_chain, ..lent.pools() };
-        let list = List::read((method.sizes)(caller).events, lent.list, lent.count, pools)?;
+        let list = List::read((method.sizes)(caller).events, method.follows, lent.list, lent.count, pools)?;
         let mut by_segment: BTreeMap<usize, Vec<Event>> = BTreeMap::new();
         for event in list.events() {
             by_segment.entry((event.start / SEGMENT_SECONDS) as usize).or_default().push(*event);

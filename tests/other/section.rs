@@ -1,7 +1,7 @@
 //! The bytes of a section and of its events: 01, "The file of sections".
 
 use super::crc_table::crc32_by_table;
-use super::list::{Event, Pools};
+use super::event::{Event, Pools};
 
 const FREE_CA_MODE: u32 = 1;
 const OFF_AIR: u32 = 4;

@@ -7,7 +7,7 @@ use crate::other::{build, plan, Built, Caller, Identity, Lent};
 /// The shortest file.
 const FILE_MIN: usize = 18;
 
-pub const ALL: [(&str, BuildCall); 18] = [
+pub const ALL: [(&str, BuildCall); 19] = [
     ("serves the other caller", |caller, lent, base_day, identity, output| {
         build(caller.other(), lent, base_day, identity, output)
     }),
@@ -93,6 +93,13 @@ pub const ALL: [(&str, BuildCall); 18] = [
         } else {
             built
         }
+    }),
+    ("takes no list whose last event ends past the window", |caller, lent, base_day, identity, output| {
+        let built = build(caller, lent, base_day, identity, &mut []);
+        let is_sound = plan(caller, lent)[0] != 254 && [10, 11].contains(&built.number);
+        let is_past = |record: &[u32]| record[1] + record[2] > 5_529_600;
+        let refused = is_sound && lent.list.chunks(6).take(lent.count).any(is_past);
+        first_if(refused, 12, caller, lent, base_day, identity, output)
     }),
     ("says 11 before it looks for unpackable segments", |caller, lent, base_day, identity, output| {
         let built = build(caller, lent, base_day, identity, output);

@@ -1,6 +1,7 @@
 //! One case of Build and of Plan: the library, or what stands in for it, is compared with the other implementation.
 
 use super::order::precedences;
+use super::overlaps::kinds;
 use super::request::Request;
 use crate::groups::Groups;
 use crate::guarded::Guarded;
@@ -41,8 +42,8 @@ impl Comparison<'_> {
         Comparison {
             caller,
             subject,
-            tally: Tally::new(&ANSWERS, precedences()),
-            entries: Tally::new(&ENTRIES, Vec::new()),
+            tally: Tally::new(&ANSWERS, precedences(), kinds("Build")),
+            entries: Tally::new(&ENTRIES, Vec::new(), kinds("Plan")),
             groups: Groups::new(caller, FIRST_SEED),
             guards: Random::new(FIRST_SEED),
         }
@@ -125,6 +126,12 @@ impl Comparison<'_> {
             return Ok(());
         }
         Err(self.describe("Plan is not 254 throughout, as the other implementation's is not", pools, list, request))
+    }
+
+    /// This kind of list was tried, for both calls.
+    pub fn kind(&mut self, kind: &'static str) {
+        self.tally.kind(("Build", kind));
+        self.entries.kind(("Plan", kind));
     }
 
     pub fn describe(&self, fault: &str, pools: &Pools, list: &List, request: Request) -> String {

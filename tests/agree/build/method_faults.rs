@@ -1,12 +1,12 @@
-//! Faults of what Build and Plan go by: the caller's sizes, chains and the packing rule. Each stands in for the
+//! Faults of what Build and Plan go by: the caller's sizes, chains, overlap and the packing rule. Each stands in for the
 //! library, and must show.
 
 use super::packings;
-use crate::other::{pack, Caller, IsChain, Method, Sizes, PAPERS};
-use crate::wrong_chains;
+use crate::other::{pack, Caller, Follows, IsChain, Method, Sizes, PAPERS};
+use crate::{wrong_chains, wrong_follows};
 
 /// Faults of Build, and of Plan.
-pub const BOTH: [(&str, Method); 14] = [
+pub const BOTH: [(&str, Method); 17] = [
     // Sizes.
     ("takes the other caller's sections", with_sizes(|caller| Sizes { section: other(caller).section, ..own(caller) })),
     ("takes the other caller's events", with_sizes(|caller| Sizes { events: other(caller).events, ..own(caller) })),
@@ -24,6 +24,10 @@ pub const BOTH: [(&str, Method); 14] = [
     ("takes tag 0xFF in the last descriptor", with_chains(wrong_chains::by_earlier_tags)),
     ("takes no byte 0xFF in a chain", with_chains(wrong_chains::without_the_byte)),
     ("takes no tag 0xFE", with_chains(wrong_chains::without_highest_legal_tag)),
+    // Overlap.
+    ("takes a list in which events overlap", with_follows(wrong_follows::by_starts)),
+    ("takes a list in which events overlap by a second", with_follows(wrong_follows::by_a_second_too_few)),
+    ("takes no list in which events touch", with_follows(wrong_follows::without_touching)),
 ];
 
 /// Faults of Build alone: they leave the number of sections, which is all that Plan says.
@@ -42,6 +46,10 @@ fn other(caller: Caller) -> Sizes {
 
 const fn with_sizes(sizes: fn(Caller) -> Sizes) -> Method {
     Method { sizes, ..PAPERS }
+}
+
+const fn with_follows(follows: Follows) -> Method {
+    Method { follows, ..PAPERS }
 }
 
 const fn with_chains(is_chain: IsChain) -> Method {

@@ -3,7 +3,7 @@
 use super::comparison::PlanCall;
 use crate::other::{self, Plan};
 
-pub const ALL: [(&str, PlanCall); 12] = [
+pub const ALL: [(&str, PlanCall); 13] = [
     ("serves the other caller", |caller, lent, plan| *plan = other::plan(caller.other(), lent)),
     ("ends each table's range one segment short", |caller, lent, plan| {
         changed(other::plan(caller, lent), plan, |table| {
@@ -24,6 +24,13 @@ pub const ALL: [(&str, PlanCall); 12] = [
     }),
     ("says 0 for an unsound list", |caller, lent, plan| {
         changed_counts(other::plan(caller, lent), plan, |count| if count == 254 { 0 } else { count });
+    }),
+    ("takes no list whose last event ends past the window", |caller, lent, plan| {
+        *plan = other::plan(caller, lent);
+        let is_past = |record: &[u32]| record[1] + record[2] > 5_529_600;
+        if plan[0] != 254 && lent.list.chunks(6).take(lent.count).any(is_past) {
+            *plan = [254; 512];
+        }
     }),
     ("says 0 for an empty segment inside a table's range", |caller, lent, plan| {
         *plan = other::plan(caller, lent);

@@ -2,9 +2,10 @@
 
 use super::comparison::{Comparison, RECORDS_MAX};
 use super::given::Given;
+use crate::at_limits::at_limits;
 use crate::build::{with_neighbours, BASE_DAY_MAX};
 use crate::lineup::Lineup;
-use crate::lists::{at_limits, List};
+use crate::lists::List;
 use crate::other::{Built, Lent, EVENT_FRONT};
 use crate::pools::Pools;
 use crate::random::Random;

@@ -21,10 +21,15 @@ pub fn put(section: &mut [u8], at: usize, bytes: &[u8]) {
     section[at..at + bytes.len()].copy_from_slice(bytes);
 }
 
+/// Two digits as a number.
+pub fn number(two: u8) -> u32 {
+    u32::from(10 * (two >> 4) + (two & 0x0F))
+}
+
 /// The start of the event there, in seconds after midnight of day 0.
 pub fn start(section: &[u8], event: usize) -> i64 {
     let day = u16::from_be_bytes(get(section, event + DAY));
-    let [hours, minutes, seconds] = get::<3>(section, event + START).map(|two| i64::from(10 * (two >> 4) + two % 16));
+    let [hours, minutes, seconds] = get::<3>(section, event + START).map(|two| i64::from(number(two)));
     i64::from(DAY_SECONDS) * i64::from(day) + 3_600 * hours + 60 * minutes + seconds
 }
 
@@ -34,6 +39,17 @@ pub fn set_start(section: &mut [u8], event: usize, start: i64) {
     let seconds = start.rem_euclid(DAY_SECONDS.into()) as u32;
     put(section, event + DAY, &day.to_be_bytes());
     put(section, event + START, &digits([seconds / 3_600, seconds / 60 % 60, seconds % 60]));
+}
+
+/// Makes this the duration of the event there, in seconds.
+pub fn set_duration(section: &mut [u8], event: usize, seconds: u32) {
+    put(section, event + DURATION, &digits([seconds / 3_600, seconds / 60 % 60, seconds % 60]));
+}
+
+/// The duration of the event there, in seconds.
+pub fn duration(section: &[u8], event: usize) -> u32 {
+    let [hours, minutes, seconds] = get::<3>(section, event + DURATION).map(number);
+    3_600 * hours + 60 * minutes + seconds
 }
 
 /// Two digits for each number, which is at most 99.

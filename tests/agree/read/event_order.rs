@@ -1,7 +1,7 @@
 //! Events that do not follow each other, and ids that come again: 24.
 
 use super::comparison::Comparison;
-use super::event_fields::{get, put, set_start, start, ID};
+use super::event_fields::{duration, get, put, set_start, start, ID};
 use super::file::File;
 use super::given::Given;
 use super::layout::{rival, Layout};
@@ -39,7 +39,8 @@ fn order_in_section(comparison: &mut Comparison, file: &File) -> Result<(), Stri
     Ok(())
 }
 
-/// Starts that are equal to the last one of the section before, or before it, and one that is the next second.
+/// Starts that are equal to the last one of the section before, or before it, or before its event is over; and one in
+/// the very second in which it is.
 fn order_of_sections(comparison: &mut Comparison, random: &mut Random) -> Result<(), String> {
     let given = Given::short(comparison.caller, random, &[(0, 2), (2, 7)]);
     let counts = random.pick(&[&[1, 1, 5][..], &[3, 4], &[2, 2, 3], &[6, 1]]);
@@ -49,27 +50,24 @@ fn order_of_sections(comparison: &mut Comparison, random: &mut Random) -> Result
     for place in 3..file.sections.len() {
         let before = *file.events_in(place - 1).last().expect("an event");
         let latest = start(&file.sections[place - 1], before);
+        let end = latest + i64::from(duration(&file.sections[place - 1], before));
         let first = file.events_in(place)[0];
-        for back in [0, 1, 2] {
-            let changed = file.with(place, |section| set_start(section, first, latest - back));
+        for back in [1, end - latest, end - latest + 1, end - latest + 2] {
+            let changed = file.with(place, |section| set_start(section, first, end - back));
             let number = comparison.alike(&changed.bytes(), file.base_day)?.number;
             if number != 24 {
-                let fault = format!("a start {back} seconds before the last section's is {number}");
+                let fault = format!("a start {back} seconds before the last section's end is {number}");
                 return Err(comparison.describe(&fault, &changed.bytes(), file.base_day, None));
             }
         }
-        if latest + 1 < start(&file.sections[place], first) {
-            comparison.accepted(&file.with(place, |section| set_start(section, first, latest + 1)))?;
-        }
+        comparison.accepted(&file.with(place, |section| set_start(section, first, end)))?;
     }
     Ok(())
 }
 
 /// Each id again: later in the section, in a later section, and in a later table.
 fn ids(comparison: &mut Comparison, random: &mut Random, file: &File) -> Result<(), String> {
-    let all: Vec<_> = (0..file.sections.len())
-        .flat_map(|place| file.events_in(place).into_iter().map(move |event| (place, event)))
-        .collect();
+    let all = file.all_events();
     for (k, (place, event)) in all.iter().enumerate() {
         for (earlier_place, earlier) in &all[..k] {
             let id: [u8; 2] = get(&file.sections[*earlier_place], earlier + ID);

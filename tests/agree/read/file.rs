@@ -59,6 +59,12 @@ impl File {
         Section { bytes: &self.sections[place] }.events()
     }
 
+    /// The place of each event's section, and where the event starts in it.
+    pub fn all_events(&self) -> Vec<(usize, usize)> {
+        let in_place = |place| self.events_in(place).into_iter().map(move |event| (place, event));
+        (0..self.sections.len()).flat_map(in_place).collect()
+    }
+
     /// The places of the sections that have this many events or more.
     pub fn places_with(&self, events: usize) -> Vec<usize> {
         (0..self.sections.len()).filter(|place| self.events_in(*place).len() >= events).collect()

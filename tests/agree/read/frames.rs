@@ -8,11 +8,14 @@ use crate::build::seal;
 use crate::other::TABLE_IDS;
 use crate::random::Random;
 
+/// Bytes of a file that has few tables and segments without events.
+const SHORT: usize = 1_500;
+
 pub fn run(comparison: &mut Comparison) -> Result<(), String> {
     let random = &mut comparison.groups.begin("frames");
     for segments in [&[][..], &[(0, 1)], &[(0, 3), (2, 2)], &[(1, 2), (33, 4)]] {
         let given = Given::short(comparison.caller, random, segments);
-        let file = rival(random, &given);
+        let file = short_rival(random, &given);
         cut_anywhere(comparison, &file)?;
         bytes_behind(comparison, random, &file)?;
         for place in some_places(random, &file) {
@@ -22,6 +25,16 @@ pub fn run(comparison: &mut Comparison) -> Result<(), String> {
         }
     }
     Ok(())
+}
+
+/// A rival's file that is short enough to be cut before each of its bytes.
+fn short_rival(random: &mut Random, given: &Given) -> File {
+    loop {
+        let file = rival(random, given);
+        if file.bytes().len() <= SHORT {
+            return file;
+        }
+    }
 }
 
 /// The first section, the last and one between.

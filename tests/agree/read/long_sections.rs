@@ -7,7 +7,7 @@ use super::file::{set_twelve_bits, CRC, FRONT, SECTION_LENGTH};
 use super::given::Given;
 use super::layout::rival;
 use super::order::{END_ORDER, LONG, SECTION_ORDER};
-use super::precedence::Scene;
+use super::scene::Scene;
 use crate::build::seal;
 use crate::lineup::Lineup;
 use crate::other::Caller;

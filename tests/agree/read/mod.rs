@@ -10,6 +10,7 @@ mod ends;
 mod event_fields;
 mod event_loops;
 mod event_order;
+mod event_starts;
 mod event_values;
 mod file;
 mod frames;
@@ -21,11 +22,16 @@ mod long_sections;
 mod noise;
 mod numbering;
 mod order;
+mod overlap_faults;
+mod overlap_order;
+mod overlaps;
 mod precedence;
 mod record_faults;
 mod rivals;
 mod rule_faults;
+mod scene;
 mod tags;
+mod victim;
 
 pub use comparison::{Comparison, Subject};
 
@@ -36,6 +42,9 @@ use crate::other::{self, check, check_by, read, read_by, Asked, Caller, READ_PAP
 pub fn all_groups(comparison: &mut Comparison) -> Result<(), String> {
     bits::run(comparison)?;
     event_values::run(comparison)?;
+    overlaps::run(comparison)?;
+    overlap_order::run(comparison)?;
+    event_starts::run(comparison)?;
     headers::run(comparison)?;
     frames::run(comparison)?;
     event_loops::run(comparison)?;
@@ -86,7 +95,7 @@ fn self_check_for(caller: Caller) -> Result<Vec<String>, String> {
     for (fault, frame) in rule_faults::FRAMES {
         shown.push(shows(&reads, fault, outcome_by(&Asked { frame, ..READ_PAPERS }))?);
     }
-    for (fault, read) in record_faults::ALL.into_iter().chain(answer_faults::READS) {
+    for (fault, read) in record_faults::ALL.into_iter().chain(answer_faults::READS).chain(overlap_faults::READS) {
         shown.push(shows(&reads, fault, outcome(Subject { read: &read, ..right }))?);
     }
     for (fault, check) in answer_faults::CHECKS {

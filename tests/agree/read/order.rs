@@ -8,11 +8,14 @@ pub const END_ORDER: [u32; 2] = [25, 27];
 /// A section where 24 is for the forbidden tag.
 pub const TAGGED: &str = "tag 0xFF";
 
+/// A section where 24 is for an overlap.
+pub const OVERLAP: &str = "overlap";
+
 /// A section where 20 is for its length, beyond the caller's.
 pub const LONG: &str = "long section";
 
-/// Read's order in a section, of two sections, at the end, and over the call; around the forbidden tag, and around a
-/// section that is too long.
+/// Read's order in a section, of two sections, at the end, and over the call; around the forbidden tag, around an
+/// overlap, and around a section that is too long.
 pub fn precedences() -> Vec<Precedence> {
     let mut all = in_order("section", &SECTION_ORDER);
     for first in SECTION_ORDER {
@@ -22,9 +25,12 @@ pub fn precedences() -> Vec<Precedence> {
     all.extend(in_order("end", &END_ORDER));
     all.extend(SECTION_ORDER.iter().chain(&END_ORDER).map(|second| ("call", 1, *second)));
 
-    let tagged = in_order(TAGGED, &SECTION_ORDER);
-    all.extend(tagged.into_iter().filter(|(_, first, second)| *first == 24 || *second == 24));
-    all.extend(END_ORDER.map(|second| (TAGGED, 24, second)));
+    for by in [TAGGED, OVERLAP] {
+        let around = in_order(by, &SECTION_ORDER).into_iter();
+        all.extend(around.filter(|(_, first, second)| *first == 24 || *second == 24));
+        all.extend(END_ORDER.map(|second| (by, 24, second)));
+    }
+    all.push((OVERLAP, 1, 24));
 
     all.push((LONG, 1, 20));
     all.extend(SECTION_ORDER[1..].iter().chain(&END_ORDER).map(|second| (LONG, 20, *second)));

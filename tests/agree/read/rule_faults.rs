@@ -1,5 +1,6 @@
 //! Faults of what Read asks of a section: the other implementation with other rules stands in for the library.
 
+use super::overlap_faults;
 use crate::other::{frame, frame_within, Before, Caller, Frame, IsChain, Received, Rule, Sizes, RULES, TABLE_IDS};
 use crate::wrong_chains;
 use std::collections::HashSet;
@@ -28,9 +29,9 @@ pub const FRAMES: [(&str, Frame); 7] = [
 ];
 
 /// What a fault asks, and the rule in whose place it does.
-type Replaced = (&'static str, &'static str, fn(&Received, &Before) -> bool);
+pub type Replaced = (&'static str, &'static str, fn(&Received, &Before) -> bool);
 
-const REPLACED: [Replaced; 26] = [
+const REPLACED: [Replaced; 24] = [
     ("takes any bits before the version but 00", "bits 11", |section, _| section.bytes[5] >> 6 != 0),
     ("takes last_table_ids below 0x50", "last_table_id in range", |section, _| section.header.last_table_id < 0x60),
     ("takes last_table_ids above 0x5F", "last_table_id in range", |section, _| section.header.last_table_id > 0x4F),
@@ -83,13 +84,6 @@ const REPLACED: [Replaced; 26] = [
         let table = i64::from(section.header.table_id) - 0x50;
         section.events.iter().all(|event| event.start.div_euclid(345_600) == table)
     }),
-    ("takes a start equal to the last one", "starts that rise", |section, before| {
-        let starts = section.events.iter().map(|event| event.start);
-        before.last_start.into_iter().chain(starts).is_sorted()
-    }),
-    ("compares starts inside a section alone", "starts that rise", |section, _| {
-        section.events.iter().map(|event| event.start).is_sorted_by(|earlier, later| earlier < later)
-    }),
     ("compares ids inside a section alone", "ids that differ", |section, _| {
         let mut ids = HashSet::new();
         section.events.iter().all(|event| ids.insert(event.id))
@@ -120,7 +114,7 @@ pub fn rules() -> Vec<(String, Vec<Rule>)> {
     let pairs = (0..ORDER.len()).flat_map(|k| ORDER[k + 1..].iter().map(move |second| (ORDER[k], *second)));
     let out_of_order =
         pairs.map(|(first, second)| (format!("asks for {second} before {first}"), earlier(first, second)));
-    let replaced = REPLACED.map(|(fault, says, holds)| {
+    let replaced = REPLACED.into_iter().chain(overlap_faults::REPLACED).map(|(fault, says, holds)| {
         let replace = |rule: Rule| if rule.says == says { Rule { holds, ..rule } } else { rule };
         (fault.to_string(), RULES.map(replace).to_vec())
     });

@@ -8,7 +8,7 @@ use super::file::File;
 use super::given::Given;
 use super::layout::rival;
 use super::order::{END_ORDER, SECTION_ORDER, TAGGED};
-use super::precedence::Scene;
+use super::scene::Scene;
 use crate::lineup::Lineup;
 use crate::lists::{List, MARKS};
 use crate::other::Caller;
