@@ -8,14 +8,14 @@ use Rattle.eit.specs.Pools.{Pools}
 use Rattle.eit.specs.Records.{EventList}
 use Rattle.script.specs.Form.{Edit}
 use Rattle.script.specs.Machine.{Step, done, refused, step}
-use Rattle.script.specs.Edit.{Edited, run}
+use Rattle.script.specs.Edit.{Edited, runBy, run}
 use Rattle.script.proofs.Edit.{run-done, run-refused}
 
 module _ (sizes : Sizes) (pools : Pools) where
   module _ (list : EventList) (e : Edit) where
     pub one-done : (next : EventList) → step sizes pools list (e .act) ≡ done next
         → run sizes pools list (e ∷ []) ≡ record { number = 0; value = next .count; list = next }
-    unfolding run
+    unfolding runBy
     one-done next q = run-done sizes pools list e [] next q
 
     pub one-refused : (number : ℕ) → step sizes pools list (e .act) ≡ refused number
@@ -24,13 +24,13 @@ module _ (sizes : Sizes) (pools : Pools) where
 
   -- nothing to carry out
   pub none-done : (list : EventList) → run sizes pools list [] ≡ record { number = 0; value = list .count; list = list }
-  unfolding run
+  unfolding runBy
   none-done list = refl
 
   -- edits of which one is refused end the run
   pub run-ends : (list : EventList) (es fs : List Edit) → (run sizes pools list es .number ≡ 0 → ⊥)
       → run sizes pools list (es ++ fs) ≡ run sizes pools list es
-  unfolding run
+  unfolding runBy
   run-ends list [] fs refuses = absurd (refuses refl)
   run-ends list (e ∷ es) fs refuses = by (step sizes pools list (e .act)) refl (λ next. run-ends next es fs)
     where

@@ -12,10 +12,14 @@ pub mod Steps
 pub mod Machine
 -- MOVE onto its own start
 pub mod OwnStart
+-- Edit by any machine: its run, and its refusals
+pub mod EditBy
 -- Edit: its run, its refusals, and that it keeps a list sound
 pub mod Edit
 -- events that overlap: what document 02 claims
 pub mod NoOverlap
+-- an equal start is an overlap: what document 02 claims
+pub mod EqualStart
 -- PUT and WITHDRAW as one write from the record's place on, MOVE as both
 pub mod Writes
 -- the other numbers that an edit does not touch

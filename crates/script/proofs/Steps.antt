@@ -1,11 +1,12 @@
 -- Which number an edit is refused with, and when it is done: the first check that fails, in the papers' order (01,
 -- "When a call says no": per edit 5, 9, 6, 7, 8; 02, W-204: 30 just before 7). With `put-done`, `withdraw-done` and
 -- `move-done` each answer is exact. Assumes nothing.
-use mathlib.Core.Path.{_≡_, refl, _∙_}
+use mathlib.Core.Path.{_≡_, refl, subst, _∙_}
+use mathlib.Core.Logic.{_⊎_, inl, inr}
 use mathlib.Core.Bool.{Bool, true, false, not}
 use Prim.Native.Nat.{ℕ}
 use native.Mathlib.Omega.{arith}
-use mathlib.Core.List.{List}
+use mathlib.Core.List.{List, [], _∷_}
 use lib.Dec.{T, ltb}
 use Rattle.eit.specs.declared.Sizes.{Sizes}
 use Rattle.eit.specs.Limits.{windowSeconds}
@@ -16,7 +17,7 @@ use Rattle.eit.specs.Overlap.{overlapsOne}
 use Rattle.eit.specs.Sound.{inRange, hasChain, idsOf, startsOf}
 use Rattle.eit.specs.declared.Record.{Record}
 use Rattle.eit.proofs.Test.{not-not}
-use Rattle.script.specs.Form.{put, withdraw, move}
+use Rattle.script.specs.Form.{Act, put, withdraw, move}
 use Rattle.script.specs.Machine.{limitOf, without, moved, afterPut, afterWithdraw, afterMove, Step, done, refused}
 use Rattle.script.specs.Machine.{check, step}
 
@@ -24,13 +25,59 @@ use Rattle.script.specs.Machine.{check, step}
 pub done-none : (next : EventList) (n : ℕ) → done next ≡ refused n → ⊥
 done-none next n e = let z : _≡_ {A = ℕ} 0 1 = cc in absurd (omega arith)
 
-check-passed : (b : Bool) (n : ℕ) (s : Step) → T b → check b n s ≡ s
+-- an edit is done or refused
+pub step-or : (s : Step) → ((next : EventList) × (s ≡ done next)) ⊎ ((number : ℕ) × (s ≡ refused number))
+step-or (done next) = inl (next, refl)
+step-or (refused number) = inr (number, refl)
+
+pub check-passed : (b : Bool) (n : ℕ) (s : Step) → T b → check b n s ≡ s
 check-passed true n s t = refl
 check-passed false n s t = absurd t
 
 check-failed : (b : Bool) (n : ℕ) (s : Step) → T (not b) → check b n s ≡ refused n
 check-failed true n s t = absurd t
 check-failed false n s t = refl
+
+-- ---- which numbers there are
+
+-- a step is refused with one of some numbers alone
+abbrev pub RefusesWith : List ℕ → Step → Type 0
+RefusesWith ns s = (n : ℕ) → s ≡ refused n → T (isAmong n ns)
+
+pub done-with : (ns : List ℕ) (next : EventList) → RefusesWith ns (done next)
+done-with ns next n e = absurd (done-none next n e)
+
+pub check-with : (ns : List ℕ) (b : Bool) (k : ℕ) {s : Step} → T (isAmong k ns) → RefusesWith ns s
+    → RefusesWith ns (check b k s)
+check-with ns true k is h n e = h n e
+check-with ns false k is h n e = let same : k ≡ n = cc in subst (λ (m : ℕ). T (isAmong m ns)) same is
+
+-- the numbers of an edit's refusals, in their order
+abbrev pub editNumbers : List ℕ
+editNumbers = 5 ∷ 9 ∷ 6 ∷ 30 ∷ 7 ∷ 8 ∷ []
+
+pub step-number : (sizes : Sizes) (pools : Pools) (list : EventList) (a : Act)
+    → RefusesWith editNumbers (step sizes pools list a)
+unfolding step
+step-number sizes pools list (put r) =
+    let rs = recordsOf list in
+    check-with editNumbers (inRange r) 5 tt
+    (check-with editNumbers (hasChain pools r) 9 tt
+    (check-with editNumbers (not (isAmong (r .id) (idsOf rs))) 6 tt
+    (check-with editNumbers (not (overlapsOne r rs)) 30 tt
+    (check-with editNumbers (not (isAmong (r .start) (startsOf rs))) 7 tt
+    (check-with editNumbers (ltb (list .count) (limitOf sizes list)) 8 tt (done-with editNumbers (afterPut list r)))))))
+step-number sizes pools list (withdraw id) =
+    check-with editNumbers (isAmong id (idsOf (recordsOf list))) 6 tt (done-with editNumbers (afterWithdraw list id))
+step-number sizes pools list (move id start) =
+    let rs = recordsOf list in
+    check-with editNumbers (ltb start windowSeconds) 5 tt
+    (check-with editNumbers (isAmong id (idsOf rs)) 6 tt
+    (check-with editNumbers (not (overlapsOne (moved id start rs) (without id rs))) 30 tt
+    (check-with editNumbers (not (isAmong start (startsOf (without id rs)))) 7 tt
+    (done-with editNumbers (afterMove list id start)))))
+
+-- ---- which comes when
 
 module _ (sizes : Sizes) (pools : Pools) (list : EventList) (r : Record) where
   abbrev newId : Bool

@@ -1,6 +1,6 @@
 -- 01's term: plain machine ("Edit"). Its state is the whole buffer and the count; a number that no command changes
--- stays. Laws: proofs/Placing, Places, Steps, Machine, OwnStart and Frame; claims of overlap: NoOverlap.antt. Assumes
--- nothing.
+-- stays. Laws: proofs/Placing, Places, Steps, Machine, OwnStart and Frame; claims: NoOverlap.antt, EqualStart.antt.
+-- Assumes nothing.
 use Prim.Native.Nat.{ℕ, _+_, _-_, _/_, min}
 use mathlib.Core.Bool.{Bool, true, false, not}
 use mathlib.Core.List.{List, [], _∷_, _++_}
@@ -78,6 +78,10 @@ pub data Step : Type 0 where
   done : EventList → Step
   refused : ℕ → Step
 
+-- a machine: what it makes of a list by one edit
+abbrev pub Machine : Type 0
+Machine = EventList → Act → Step
+
 -- a check: if it fails, the edit is refused with its number
 abbrev pub check : Bool → ℕ → Step → Step
 check true number next = next
@@ -86,7 +90,7 @@ check false number next = refused number
 -- 01, "When a call says no": per edit 5, 9, 6, 7, 8. 5 value out of range (PUT, MOVE); 9 part outside pool, or no chain
 -- (PUT); 6 id present (PUT), absent (others); 7 start of another event; 8 list at its limit (PUT). 02, W-204: "30, a
 -- PUT or MOVE that would overlap another event .. it stands just before 7"
-unfoldable pub step : Sizes → Pools → EventList → Act → Step
+unfoldable pub step : Sizes → Pools → Machine
 step sizes pools list (put r) =
     let rs = recordsOf list in
     check (inRange r) 5
