@@ -1,14 +1,13 @@
 -- What an edit on an index leaves, by the tests that the code makes: the steps of the plain machine on the list that
 -- the index stands for. A refusal changes nothing of that list; an edit that is done changes the index, and of the lent
 -- list only what lies behind the records. By the laws of `step` and of the index. Assumes nothing.
-use mathlib.Core.Path.{_≡_, refl, sym, ap, subst, _∙_}
+use mathlib.Core.Path.{_≡_, sym, ap, subst, _∙_}
 use mathlib.Core.Logic.{⊎-elim}
 use mathlib.Core.Bool.{not}
 use mathlib.Core.List.{List}
-use Prim.Native.Nat.{ℕ, zero, suc, _-_, _*_, _≤_, _<_}
+use Prim.Native.Nat.{ℕ, suc, _-_, _*_, _≤_, _<_}
 use native.Mathlib.Omega.{arith}
-use borrow.Author.Tests.{eqb-true, eqb-false}
-use lib.Dec.{T, not-T, eqb}
+use lib.Dec.{T, not-T}
 use lib.ListN.{length, getD, List·getD-eq-default}
 use Rattle.eit.specs.declared.Sizes.{Sizes}
 use Rattle.eit.specs.Pools.{lentPools}
@@ -20,10 +19,10 @@ use Rattle.eit.specs.Records.{EventList, recordSize, recordsOf, numbersOfAll}
 use Rattle.eit.specs.Sound.{idsOf, startsOf}
 use Rattle.eit.specs.declared.Place.{Place}
 use Rattle.eit.specs.declared.Record.{Record}
-use Rattle.eit.proofs.Find.{place-length, position-length}
+use Rattle.eit.proofs.Find.{position-length}
 use Rattle.eit.proofs.Overwrite.{over-again}
 use Rattle.eit.proofs.Records.{numbers-length}
-use Rattle.eit.proofs.Test.{le-or-lt, true-is, false-is, test-or}
+use Rattle.eit.proofs.Test.{le-or-lt}
 use Rattle.script.specs.Form.{Act, Command, doEdit}
 use Rattle.script.specs.Machine.{step, done, refused, find, without}
 use Rattle.script.specs.Edit as model
@@ -31,16 +30,15 @@ use Rattle.edit_answer.specs.Outcome.{outcomeOf}
 use Rattle.edit_answer.specs.declared.Edited.{Edited}
 use Rattle.edit_answer.specs.declared.EditAnswer.{EditAnswer}
 use Rattle.edit_answer.specs.declared.EditAnswer.the-variants.{Done}
-use Rattle.edit_index.specs.Order.{startIn}
 use Rattle.edit_index.specs.Index.{idLimit, noSlot, Index, slotRecord, heldRecords, heldStarts, Holds, takenOut}
 use Rattle.edit_index.specs.Index.{indexedNumbers, indexedList}
 use Rattle.edit_index.specs.Rises.{Rises}
-use Rattle.edit_index.proofs.IndexLaws.{held-length, index-records, held-place, held-start, id-absent, id-present}
+use Rattle.edit_index.proofs.IndexLaws.{held-length, index-records, held-place, id-absent, id-present}
 use Rattle.edit_index.proofs.IndexLaws.{id-record}
 use Rattle.edit_index.proofs.TakeOutLaws.{take-out-records, take-out-holds}
-use Rattle.edit_index.proofs.RiseLaws.{rising-starts, own-place, start-has, start-none}
+use Rattle.edit_index.proofs.RiseLaws.{rising-starts, own-place}
 use Rattle.edit.specs.Run.{runOne}
-use Rattle.edit.specs.Indexed.{startBefore, Kept, Leaves}
+use Rattle.edit.specs.Indexed.{Kept, Leaves}
 use Rattle.edit.proofs.RunLaws.{one-done, one-refused}
 
 -- the same command in other words
@@ -49,46 +47,6 @@ pub leaves-as : (sizes : Sizes) (day series : List ℕ) (before : EventList) {r 
     → Leaves (runOne sizes day series before c) r list x → Leaves (runOne sizes day series before d) r list x
 leaves-as sizes day series before {r} {list} {x} c d e l =
     subst (λ (b : Command). Leaves (runOne sizes day series before b) r list x) e l
-
--- ---- whether a start is taken
-
--- as the code asks it
-pub before-is : (place start : ℕ) (order : List ℕ) → (place ≡ 0 → ⊥)
-    → eqb (startIn (getD order (place - 1) 0)) start ≡ startBefore place start order
-before-is zero start order some = absurd (some refl)
-before-is (suc p) start order some =
-    let e : suc p - 1 ≡ p = omega arith in
-    ap (λ (n : ℕ). eqb (startIn (getD order n 0)) start) e
-
--- where starts rise, one of the records has a start exactly if the one before the start's place has it
-module _ (x : Index) (count : ℕ) (h : Holds x count) (rises : Rises (startsOf (heldRecords count x))) (start : ℕ) where
-  abbrev held : List Record
-  held = heldRecords count x
-
-  pub taken-is : (place : ℕ) → place ≡ placeOf start (heldRecords count x)
-      → startBefore place start (x .order) ≡ isAmong start (startsOf (heldRecords count x))
-  taken-is zero at-place =
-      sym
-      (false-is (isAmong start (startsOf held))
-      (start-none held rises start 0 at-place (λ some. absurd (omega arith))))
-  taken-is (suc p) at-place =
-      let few : suc p ≤ length held = omega (arith, place-length start held) in
-      let here : p < count = omega (arith, held-length h) in
-      let at-p : suc p - 1 ≡ p = omega arith in
-      let same : getD (startsOf held) (suc p - 1) 0 ≡ startIn (getD (x .order) p 0) =
-      ap (λ (n : ℕ). getD (startsOf held) n 0) at-p ∙ sym (held-start h p here) in
-      ⊎-elim
-      (λ t.
-      let e = eqb-true (startIn (getD (x .order) p 0)) start (true-is _ t) in
-      true-is (eqb (startIn (getD (x .order) p 0)) start) t
-      ∙ sym (true-is (isAmong start (startsOf held))
-      (start-has held rises start (suc p) at-place (omega arith) few (same ∙ e))))
-      (λ t.
-      let ne = eqb-false (startIn (getD (x .order) p 0)) start (false-is _ t) in
-      false-is (eqb (startIn (getD (x .order) p 0)) start) t
-      ∙ sym (false-is (isAmong start (startsOf held))
-      (start-none held rises start (suc p) at-place (λ some e. ne (sym same ∙ e)))))
-      (test-or (eqb (startIn (getD (x .order) p 0)) start))
 
 module _ (sizes : Sizes) (day series list : List ℕ) (x : Index) (count : ℕ) (k : Kept list x count) (at : ℕ) where
   abbrev rs : List Record

@@ -28,9 +28,9 @@ use Rattle.script.specs.Form.{move}
 use Rattle.script.specs.Machine.{insert, find, without, withStart, moved, afterMove}
 use Rattle.script.proofs.Placing.{insert-length, without-length, without-rises, without-gone, find-id}
 use Rattle.script.proofs.Places.{insert-place, without-position}
-use Rattle.script.proofs.Steps.{move-5, move-6, move-30, move-7, move-passes}
+use Rattle.script.proofs.Steps.{move-5, move-6, move-30, move-passes}
 use Rattle.edit_answer.specs.declared.EditAnswer.{EditAnswer}
-use Rattle.edit_answer.specs.declared.EditAnswer.the-variants.{Done, OutOfRange, WrongId, StartTaken, Overlap}
+use Rattle.edit_answer.specs.declared.EditAnswer.the-variants.{Done, OutOfRange, WrongId, Overlap}
 use Rattle.edit_index.specs.Index.{slotLimit, idLimit, noSlot, Index, slotRecord, heldRecords, heldStarts, Holds}
 use Rattle.edit_index.specs.Index.{added, takenOut, indexedNumbers, indexedList}
 use Rattle.edit_index.specs.Neighbours.{overlapsNeighbour}
@@ -38,9 +38,9 @@ use Rattle.edit_index.specs.Rises.{Rises}
 use Rattle.edit_index.proofs.SlotLaws.{leave}
 use Rattle.edit_index.proofs.NeighbourLaws.{neighbour-is}
 use Rattle.edit_index.proofs.AddLaws.{add-records, add-holds}
-use Rattle.edit_index.proofs.RiseLaws.{without-starts, own-start, place-left-before, place-left-behind}
-use Rattle.edit.specs.Indexed.{startBefore, placeLeft, Kept, Leaves}
-use Rattle.edit.proofs.IndexedLaws.{taken-is, does, stands-records, records-length, found-place, refuses, stays}
+use Rattle.edit_index.proofs.RiseLaws.{place-left-before, place-left-behind}
+use Rattle.edit.specs.Indexed.{placeLeft, Kept, Leaves}
+use Rattle.edit.proofs.IndexedLaws.{does, stands-records, records-length, found-place, refuses, stays}
 use Rattle.edit.proofs.IndexedLaws.{starts-rise, passes, written-over, absent, present, id-small, its-record}
 use Rattle.edit.proofs.IndexedLaws.{its-place, its-position, out-records, out-holds}
 use Rattle.edit.proofs.PutLaws.{holds, fails}
@@ -92,28 +92,6 @@ module _ (sizes : Sizes) (day series list : List ℕ) (x : Index) (count : ℕ) 
 
       its-id : event .id ≡ id
       its-id = ap (λ (r : Record). r .id) its ∙ find-id id rs old
-
-      asked : isAmong start (startsOf (without id (recordsOf stands))) ≡ isAmong start (startsOf others)
-      asked =
-          ap (λ (qs : List Record). isAmong start (startsOf (without id qs)))
-          (stands-records sizes day series list x count k at)
-
-      -- whether another record has the start: its own it may keep
-      pub free-own : start ≡ event .start → T (not (isAmong start (startsOf (without id (heldRecords count x)))))
-      free-own same = rw (same ∙ ap (λ (r : Record). r .start) its) (own-start id rs old rise)
-
-      -- another start is taken if the record before its place has it
-      module _ (p : Place) (at-place : p ≡ placing start (heldStarts count x)) (other : start ≡ event .start → ⊥) where
-        tested : isAmong start (startsOf others) ≡ startBefore (p .place) start (x .order)
-        tested =
-            without-starts id rs old start (λ e. other (e ∙ ap (λ (r : Record). r .start) (sym its)))
-            ∙ sym
-            (taken-is x count (k .holds) rise start (p .place)
-            (found-place sizes day series list x count k at p start at-place))
-
-        pub free-other : startBefore (p .place) start (x .order) ≡ false
-            → T (not (isAmong start (startsOf (without id (heldRecords count x)))))
-        free-other free = fails (tested ∙ free)
 
       module _ (p : Place) (at-place : p ≡ placing start (heldStarts count x)) (own : Place)
           (at-own : own ≡ placing (event .start) (heldStarts count x)) where
@@ -177,45 +155,36 @@ module _ (sizes : Sizes) (day series list : List ℕ) (x : Index) (count : ℕ) 
               (refuses sizes day series list x count k at (move id start) 30
               (move-30 sizes (lentPools day series) stands id start (holds range) old-id (holds (beside ∙ e))))
 
-          module _ (clear : overlapsNeighbour m (x .slots) (x .order) count (own .place - 1) to ≡ false) where
-            pub move-taken : (start ≡ event .start → ⊥) → startBefore (p .place) start (x .order) ≡ true
-                → Left (StartTaken at) x
-            move-taken other taken =
-                stays sizes day series list x count k at (move id start) (StartTaken at)
-                (refuses sizes day series list x count k at (move id start) 7
-                (move-7 sizes (lentPools day series) stands id start (holds range) old-id (fails (beside ∙ clear))
-                (holds (asked ∙ tested p at-place other ∙ taken))))
-
-            -- it goes to its new place: z is the index then
-            pub move-goes : T (not (isAmong start (startsOf (without id (heldRecords count x)))))
-                → (z : Index) → z ≡ added (count - 1) to m (takenOut count (own .place - 1) id x) → Left Done z
-            move-goes free z is-z =
-                let r : Record = moved id start rs in
-                let same-id : m .id ≡ id = ap (λ (q : Record). q .id) is-m ∙ its-id in
-                let there : to ≤ count - 1 = omega (arith, at-others, place-length start others, others-length) in
-                let room : count - 1 < slotLimit = omega (arith, k .holds .few, others-length) in
-                let again : count - 1 + 1 ≡ count = omega (arith, others-length) in
-                let small : m .id < idLimit =
-                omega (arith, same-id, id-small sizes day series list x count k at id slot found some) in
-                let gone : T (not (isAmong (m .id) (idsOf (heldRecords (count - 1) left)))) =
-                rw (left-records, same-id) (without-gone id rs (k .differ)) in
-                let records : heldRecords count z ≡ insert r others =
-                ap₂ heldRecords (sym again) is-z
-                ∙ add-records left-holds room to m there
-                ∙ ap (λ (qs : List Record). take to qs ++ m ∷ drop to qs) left-records
-                ∙ ap₂ (λ (n : ℕ) (q : Record). take n others ++ q ∷ drop n others) at-others same
-                ∙ sym (insert-place r others) in
-                let after : afterMove stands id start ≡ indexedList list z count =
-                ap
-                (λ (qs : List Record).
-                lentList (overwrite (indexedNumbers list x count) 0
-                (numbersOfAll (insert (moved id start qs) (without id qs)))) count)
-                (stands-records sizes day series list x count k at)
-                ∙ ap (λ (ns : List ℕ). lentList ns count)
-                (written-over sizes day series list x count k at (insert r others)
-                (omega (arith, insert-length r others, others-length))
-                ∙ ap (λ (qs : List Record). overwrite list 0 (numbersOfAll qs)) (sym records)) in
-                passes sizes day series list x count k at (move id start) (afterMove stands id start)
-                (move-passes sizes (lentPools day series) stands id start (holds range) old-id
-                (fails (beside ∙ clear)) (rw asked free))
-                list z count after (rw is-z (rw again at (add-holds left-holds room to m there small gone))) (k .fits)
+          -- it goes to its new place: z is the index then
+          pub move-goes : overlapsNeighbour m (x .slots) (x .order) count (own .place - 1) to ≡ false
+              → (z : Index) → z ≡ added (count - 1) to m (takenOut count (own .place - 1) id x) → Left Done z
+          move-goes clear z is-z =
+              let r : Record = moved id start rs in
+              let same-id : m .id ≡ id = ap (λ (q : Record). q .id) is-m ∙ its-id in
+              let there : to ≤ count - 1 = omega (arith, at-others, place-length start others, others-length) in
+              let room : count - 1 < slotLimit = omega (arith, k .holds .few, others-length) in
+              let again : count - 1 + 1 ≡ count = omega (arith, others-length) in
+              let small : m .id < idLimit =
+              omega (arith, same-id, id-small sizes day series list x count k at id slot found some) in
+              let gone : T (not (isAmong (m .id) (idsOf (heldRecords (count - 1) left)))) =
+              rw (left-records, same-id) (without-gone id rs (k .differ)) in
+              let records : heldRecords count z ≡ insert r others =
+              ap₂ heldRecords (sym again) is-z
+              ∙ add-records left-holds room to m there
+              ∙ ap (λ (qs : List Record). take to qs ++ m ∷ drop to qs) left-records
+              ∙ ap₂ (λ (n : ℕ) (q : Record). take n others ++ q ∷ drop n others) at-others same
+              ∙ sym (insert-place r others) in
+              let after : afterMove stands id start ≡ indexedList list z count =
+              ap
+              (λ (qs : List Record).
+              lentList (overwrite (indexedNumbers list x count) 0
+              (numbersOfAll (insert (moved id start qs) (without id qs)))) count)
+              (stands-records sizes day series list x count k at)
+              ∙ ap (λ (ns : List ℕ). lentList ns count)
+              (written-over sizes day series list x count k at (insert r others)
+              (omega (arith, insert-length r others, others-length))
+              ∙ ap (λ (qs : List Record). overwrite list 0 (numbersOfAll qs)) (sym records)) in
+              passes sizes day series list x count k at (move id start) (afterMove stands id start)
+              (move-passes sizes (lentPools day series) stands id start (holds range) old-id
+              (fails (beside ∙ clear)))
+              list z count after (rw is-z (rw again at (add-holds left-holds room to m there small gone))) (k .fits)

@@ -15,7 +15,7 @@ use Rattle.eit.specs.Find.{placeOf}
 use Rattle.eit.specs.Overlap.{overlapsOne}
 use Rattle.eit.specs.Placing.{placing}
 use Rattle.eit.specs.Records.{EventList, lentList, recordSize, recordsOf, numbersOfAll}
-use Rattle.eit.specs.Sound.{inRange, hasChain, idsOf, startsOf}
+use Rattle.eit.specs.Sound.{inRange, hasChain, idsOf}
 use Rattle.eit.specs.declared.Place.{Place}
 use Rattle.eit.specs.declared.Record.{Record}
 use Rattle.eit.proofs.Find.{place-length}
@@ -28,9 +28,9 @@ use Rattle.script.specs.Form.{put}
 use Rattle.script.specs.Machine.{limitOf, insert, afterPut}
 use Rattle.script.proofs.Placing.{insert-length}
 use Rattle.script.proofs.Places.{insert-place}
-use Rattle.script.proofs.Steps.{put-5, put-9, put-6, put-30, put-7, put-8, put-passes}
+use Rattle.script.proofs.Steps.{put-5, put-9, put-6, put-30, put-8, put-passes}
 use Rattle.edit_answer.specs.declared.EditAnswer.{EditAnswer}
-use Rattle.edit_answer.specs.declared.EditAnswer.the-variants.{Done, OutOfRange, WrongId, StartTaken, ListFull}
+use Rattle.edit_answer.specs.declared.EditAnswer.the-variants.{Done, OutOfRange, WrongId, ListFull}
 use Rattle.edit_answer.specs.declared.EditAnswer.the-variants.{NoChain, Overlap}
 use Rattle.edit_index.specs.Index.{slotLimit, idLimit, noSlot, Index, heldRecords, heldStarts, added, indexedNumbers}
 use Rattle.edit_index.specs.Index.{indexedList}
@@ -38,9 +38,9 @@ use Rattle.edit_index.specs.Neighbours.{overlapsNeighbour}
 use Rattle.edit_index.proofs.SlotLaws.{leave, leave-none}
 use Rattle.edit_index.proofs.NeighbourLaws.{neighbour-is}
 use Rattle.edit_index.proofs.AddLaws.{add-records, add-holds}
-use Rattle.edit.specs.Indexed.{startBefore, Kept, Leaves}
-use Rattle.edit.proofs.IndexedLaws.{taken-is, does, stands-records, records-length, found-place, refuses, stays}
-use Rattle.edit.proofs.IndexedLaws.{starts-rise, passes, written-over, absent, present}
+use Rattle.edit.specs.Indexed.{Kept, Leaves}
+use Rattle.edit.proofs.IndexedLaws.{does, stands-records, records-length, found-place, refuses, stays}
+use Rattle.edit.proofs.IndexedLaws.{passes, written-over, absent, present}
 
 -- a test that came out true, and one that came out false
 pub holds : {b : Bool} → b ≡ true → T b
@@ -115,71 +115,56 @@ module _ (sizes : Sizes) (day series list : List ℕ) (x : Index) (count : ℕ) 
             (put-30 sizes (lentPools day series) stands r (holds range) (holds chain) new-id (holds (beside ∙ e))))
 
         module _ (clear : overlapsNeighbour r (x .slots) (x .order) count count (p .place) ≡ false) where
-          tested : isAmong (r .start) (startsOf (recordsOf stands)) ≡ startBefore (p .place) (r .start) (x .order)
-          tested =
-              ap (λ (qs : List Record). isAmong (r .start) (startsOf qs))
+          size : length (indexedNumbers list x count) ≡ length list
+          size =
+              over-length list 0 (numbersOfAll rs)
+              (omega (arith, numbers-length rs, records-length sizes day series list x count k at, k .fits))
+
+          pub put-full : min (length list / recordSize) (sizes .«event_limit») ≤ count → Refused (ListFull at)
+          put-full h =
+              let most : min (length (indexedNumbers list x count) / recordSize)
+              (sizes .«event_limit») ≤ count =
+              rw size h in
+              stays sizes day series list x count k at (put r) (ListFull at)
+              (refuses sizes day series list x count k at (put r) 8
+              (put-8 sizes (lentPools day series) stands r (holds range) (holds chain) new-id
+              (fails (beside ∙ clear))
+              (fails (le-ltb count (limitOf sizes stands) most))))
+
+          pub put-goes-in : count < min (length list / recordSize) (sizes .«event_limit»)
+              → sizes .«event_limit» ≤ slotLimit
+              → (y : Index) → y ≡ added count (p .place) r x
+              → Leaves (does sizes day series list x count k at (put r))
+              (record { answer = Done; count = count + 1 }) list y
+          put-goes-in few capacity y is =
+              let below : count < min (length (indexedNumbers list x count) / recordSize)
+              (sizes .«event_limit») =
+              rw size few in
+              let there : p .place ≤ count =
+              omega (
+                arith,
+                place,
+                place-length (r .start) rs,
+                records-length sizes day series list x count k at,
+              ) in
+              let small : r .id < idLimit = omega (arith, range-facts r (holds range) .id) in
+              let records : heldRecords (count + 1) y ≡ insert r rs =
+              ap (heldRecords (count + 1)) is
+              ∙ add-records (k .holds) (omega arith) (p .place) r there
+              ∙ ap (λ (n : ℕ). take n rs ++ r ∷ drop n rs) place
+              ∙ sym (insert-place r rs) in
+              let next : afterPut stands r ≡ indexedList list y (count + 1) =
+              ap (λ (qs : List Record). lentList
+              (overwrite (indexedNumbers list x count) 0 (numbersOfAll (insert r qs))) (count + 1))
               (stands-records sizes day series list x count k at)
-              ∙ sym
-              (taken-is x count (k .holds) (starts-rise sizes day series list x count k at) (r .start) (p .place) place)
-
-          pub put-taken : startBefore (p .place) (r .start) (x .order) ≡ true → Refused (StartTaken at)
-          put-taken e =
-              stays sizes day series list x count k at (put r) (StartTaken at)
-              (refuses sizes day series list x count k at (put r) 7
-              (put-7 sizes (lentPools day series) stands r (holds range) (holds chain) new-id (fails (beside ∙ clear))
-              (not-not (isAmong (r .start) (startsOf (recordsOf stands))) (holds (tested ∙ e)))))
-
-          module _ (free : startBefore (p .place) (r .start) (x .order) ≡ false) where
-            size : length (indexedNumbers list x count) ≡ length list
-            size =
-                over-length list 0 (numbersOfAll rs)
-                (omega (arith, numbers-length rs, records-length sizes day series list x count k at, k .fits))
-
-            pub put-full : min (length list / recordSize) (sizes .«event_limit») ≤ count → Refused (ListFull at)
-            put-full h =
-                let most : min (length (indexedNumbers list x count) / recordSize)
-                (sizes .«event_limit») ≤ count =
-                rw size h in
-                stays sizes day series list x count k at (put r) (ListFull at)
-                (refuses sizes day series list x count k at (put r) 8
-                (put-8 sizes (lentPools day series) stands r (holds range) (holds chain) new-id
-                (fails (beside ∙ clear)) (fails (tested ∙ free))
-                (fails (le-ltb count (limitOf sizes stands) most))))
-
-            pub put-goes-in : count < min (length list / recordSize) (sizes .«event_limit»)
-                → sizes .«event_limit» ≤ slotLimit
-                → (y : Index) → y ≡ added count (p .place) r x
-                → Leaves (does sizes day series list x count k at (put r))
-                (record { answer = Done; count = count + 1 }) list y
-            put-goes-in few capacity y is =
-                let below : count < min (length (indexedNumbers list x count) / recordSize)
-                (sizes .«event_limit») =
-                rw size few in
-                let there : p .place ≤ count =
-                omega (
-                  arith,
-                  place,
-                  place-length (r .start) rs,
-                  records-length sizes day series list x count k at,
-                ) in
-                let small : r .id < idLimit = omega (arith, range-facts r (holds range) .id) in
-                let records : heldRecords (count + 1) y ≡ insert r rs =
-                ap (heldRecords (count + 1)) is
-                ∙ add-records (k .holds) (omega arith) (p .place) r there
-                ∙ ap (λ (n : ℕ). take n rs ++ r ∷ drop n rs) place
-                ∙ sym (insert-place r rs) in
-                let next : afterPut stands r ≡ indexedList list y (count + 1) =
-                ap (λ (qs : List Record). lentList
-                (overwrite (indexedNumbers list x count) 0 (numbersOfAll (insert r qs))) (count + 1))
-                (stands-records sizes day series list x count k at)
-                ∙ ap (λ (ns : List ℕ). lentList ns (count + 1))
-                (written-over sizes day series list x count k at (insert r rs)
-                (omega (arith, insert-length r rs, records-length sizes day series list x count k at))
-                ∙ ap (λ (qs : List Record). overwrite list 0 (numbersOfAll qs)) (sym records)) in
-                passes sizes day series list x count k at (put r) (afterPut stands r)
-                (put-passes sizes (lentPools day series) stands r (holds range) (holds chain) new-id
-                (fails (beside ∙ clear)) (fails (tested ∙ free))
-                (lt→ltb count (limitOf sizes stands) below))
-                list y (count + 1) next
-                (rw is (add-holds (k .holds) (omega arith) (p .place) r there small new))
-                (omega arith)
+              ∙ ap (λ (ns : List ℕ). lentList ns (count + 1))
+              (written-over sizes day series list x count k at (insert r rs)
+              (omega (arith, insert-length r rs, records-length sizes day series list x count k at))
+              ∙ ap (λ (qs : List Record). overwrite list 0 (numbersOfAll qs)) (sym records)) in
+              passes sizes day series list x count k at (put r) (afterPut stands r)
+              (put-passes sizes (lentPools day series) stands r (holds range) (holds chain) new-id
+              (fails (beside ∙ clear))
+              (lt→ltb count (limitOf sizes stands) below))
+              list y (count + 1) next
+              (rw is (add-holds (k .holds) (omega arith) (p .place) r there small new))
+              (omega arith)

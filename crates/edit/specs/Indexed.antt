@@ -1,11 +1,11 @@
 -- What the machine's edits ask of the index that they run on and of the lent list, and what they leave: the list that
 -- the index stands for is the plain machine's (01, "Edit"). Laws: proofs/IndexedLaws.antt. Assumes nothing.
 use mathlib.Core.Path.{_≡_}
-use Prim.Native.Nat.{ℕ, zero, suc, _-_, _*_, _≤_, _<_}
-use mathlib.Core.Bool.{Bool, true, false}
+use Prim.Native.Nat.{ℕ, _-_, _*_, _≤_, _<_}
+use mathlib.Core.Bool.{true, false}
 use mathlib.Core.List.{List}
-use lib.Dec.{T, leb, eqb}
-use lib.ListN.{length, getD}
+use lib.Dec.{T, leb}
+use lib.ListN.{length}
 use Rattle.eit.specs.Among.{isAmong, allDiffer}
 use Rattle.eit.specs.Records.{recordSize}
 use Rattle.eit.specs.Events.{eventsIn, rising}
@@ -14,13 +14,7 @@ use Rattle.eit.specs.Sound.{idsOf}
 use Rattle.script.specs.Edit as model
 use Rattle.edit_answer.specs.Outcome.{outcomeOf}
 use Rattle.edit_answer.specs.declared.Edited.{Edited}
-use Rattle.edit_index.specs.Order.{startIn}
 use Rattle.edit_index.specs.Index.{idLimit, Index, heldRecords, Holds, indexedNumbers}
-
--- the entry before a place has the start
-abbrev pub startBefore : ℕ → ℕ → List ℕ → Bool
-startBefore zero start order = false
-startBefore (suc p) start order = eqb (startIn (getD order p 0)) start
 
 -- the place of a start, of `place`, once the record before place `out` is taken out
 abbrev pub placeLeft : ℕ → ℕ → ℕ

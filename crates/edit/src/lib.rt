@@ -1,4 +1,4 @@
-// Edit (01, "Edit"). Its refusals in their order: 12, 3 and 4 here, and for each edit 5, 9, 6, 30, 7, 8 in `machine`.
+// Edit (01, "Edit"). Its refusals in their order: 12, 3 and 4 here, and for each edit 5, 9, 6, 30, 8 in `machine`.
 // `run` carries the live edits out, `part` runs scripts of any length in parts.
 use edit_answer::EditAnswer;
 use edit_answer::Edited;

@@ -6,7 +6,6 @@ use edit_answer::Edited;
 use edit_index::index;
 use edit_index::index::NO_SLOT;
 use edit_index::neighbours;
-use edit_index::order;
 use edit_index::search;
 use edit_scan::command;
 use edit_scan::command::Command;
@@ -24,7 +23,7 @@ ghost use Rattle.script.specs.Form.{commandOf};
 ghost use Rattle.edit_scan.specs.Commands.{modelCommand};
 ghost use Rattle.edit_index.specs.Index.{slotLimit, lentIndex, indexedList};
 ghost use Rattle.edit.specs.Run.{runOne};
-ghost use Rattle.edit.specs.Indexed.{startBefore, placeLeft, Kept, Leaves};
+ghost use Rattle.edit.specs.Indexed.{placeLeft, Kept, Leaves};
 
 // What WITHDRAW sets the freed record to.
 const ZEROS: Record = Record {
@@ -48,17 +47,7 @@ fn limit_of(list: &[u32], sizes: Sizes) -> usize
     }
 }
 
-// Whether the record before the place has the start.
-fn is_taken(order: &[u64], place: usize, start: u32) -> bool
-    ensures { λ r. ⌜ r ≡ startBefore place start (now (order .entry)) ⌝ }
-{
-    if place == 0 {
-        return false;
-    }
-    order::start_at(order, place - 1) == start as u64
-}
-
-// PUT: 5, 9, 6, 30, 7, 8; then the record is put in its place.
+// PUT: 5, 9, 6, 30, 8; then the record is put in its place.
 fn put<'a>(
     list: &[u32],
     slots: &mut [u32],
@@ -102,12 +91,6 @@ fn put<'a>(
     if neighbours::overlaps_neighbour(slots, order, count, count, found.place, event) {
         return Edited {
             answer: EditAnswer::Overlap(at),
-            count,
-        };
-    }
-    if is_taken(order, found.place, event.start) {
-        return Edited {
-            answer: EditAnswer::StartTaken(at),
             count,
         };
     }
@@ -168,7 +151,7 @@ fn place_left(place: usize, out: usize) -> usize
     if out <= place { place - 1 } else { place }
 }
 
-// MOVE: 5, 6, 30, 7; then the record goes to the place of its new start among the others.
+// MOVE: 5, 6, 30; then the record goes to the place of its new start among the others.
 fn move_to(
     list: &[u32],
     slots: &mut [u32],
@@ -206,17 +189,10 @@ fn move_to(
     let own = places.one;
     let found = places.other;
     let to = place_left(found.place, own.place);
-    let was = event.start;
     event.start = start;
     if neighbours::overlaps_neighbour(slots, order, count, own.place - 1, to, event) {
         return Edited {
             answer: EditAnswer::Overlap(at),
-            count,
-        };
-    }
-    if start != was && is_taken(order, found.place, start) {
-        return Edited {
-            answer: EditAnswer::StartTaken(at),
             count,
         };
     }

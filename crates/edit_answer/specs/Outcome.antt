@@ -6,9 +6,8 @@ use Rattle.eit.specs.Records.{lentList}
 use Rattle.script.specs.Edit as model
 use Rattle.edit_answer.specs.declared.EditAnswer.{EditAnswer}
 use Rattle.edit_answer.specs.declared.EditAnswer.the-variants.{Done, Unsound, BrokenScript, NothingToUndo}
-use Rattle.edit_answer.specs.declared.EditAnswer.the-variants.{OutOfRange}
-use Rattle.edit_answer.specs.declared.EditAnswer.the-variants.{WrongId, StartTaken, ListFull, NoChain}
-use Rattle.edit_answer.specs.declared.EditAnswer.the-variants.{Overlap}
+use Rattle.edit_answer.specs.declared.EditAnswer.the-variants.{OutOfRange, WrongId, ListFull}
+use Rattle.edit_answer.specs.declared.EditAnswer.the-variants.{NoChain, Overlap}
 use Rattle.edit_answer.specs.declared.Edited.{Edited}
 
 -- Edit's refusals and their numbers
@@ -19,7 +18,6 @@ answerNumber (BrokenScript at) = 3
 answerNumber (NothingToUndo at) = 4
 answerNumber (OutOfRange at) = 5
 answerNumber (WrongId at) = 6
-answerNumber (StartTaken at) = 7
 answerNumber (ListFull at) = 8
 answerNumber (NoChain at) = 9
 answerNumber (Overlap at) = 30
@@ -32,7 +30,6 @@ answerValue count (BrokenScript at) = at
 answerValue count (NothingToUndo at) = at
 answerValue count (OutOfRange at) = at
 answerValue count (WrongId at) = at
-answerValue count (StartTaken at) = at
 answerValue count (ListFull at) = at
 answerValue count (NoChain at) = at
 answerValue count (Overlap at) = at

@@ -16,8 +16,6 @@ pub enum EditAnswer {
     OutOfRange(usize),
     // 6: the id is present (PUT), or absent (WITHDRAW, MOVE).
     WrongId(usize),
-    // 7: the start of another event.
-    StartTaken(usize),
     // 8: the list is at its limit.
     ListFull(usize),
     // 9: the part is outside its pool, or no chain.
@@ -43,7 +41,6 @@ pub fn number_of(answer: EditAnswer) -> u32
         EditAnswer::NothingToUndo(_) => 4,
         EditAnswer::OutOfRange(_) => 5,
         EditAnswer::WrongId(_) => 6,
-        EditAnswer::StartTaken(_) => 7,
         EditAnswer::ListFull(_) => 8,
         EditAnswer::NoChain(_) => 9,
         EditAnswer::Overlap(_) => 30,
@@ -61,7 +58,6 @@ pub fn value_of(answer: EditAnswer, count: usize) -> usize
         EditAnswer::NothingToUndo(at) => at,
         EditAnswer::OutOfRange(at) => at,
         EditAnswer::WrongId(at) => at,
-        EditAnswer::StartTaken(at) => at,
         EditAnswer::ListFull(at) => at,
         EditAnswer::NoChain(at) => at,
         EditAnswer::Overlap(at) => at,

@@ -14,7 +14,7 @@ use Rattle.eit.specs.Among.{isAmong}
 use Rattle.eit.specs.Find.{positionOf, placeOf}
 use Rattle.eit.specs.Placing.{placing}
 use Rattle.eit.specs.Records.{lentList, recordSize, recordsOf, numbersOfAll}
-use Rattle.eit.specs.Sound.{idsOf, startsOf}
+use Rattle.eit.specs.Sound.{idsOf}
 use Rattle.eit.specs.declared.Record.{Record}
 use Rattle.eit.proofs.Find.{position-length}
 use Rattle.eit.proofs.Overwrite.{over-self}
@@ -23,7 +23,7 @@ use Rattle.eit.proofs.Records.{records-written, numbers-back}
 use Rattle.eit.proofs.Test.{test-or}
 use Rattle.script.specs.Machine.{find, zeroRecord}
 use Rattle.script.proofs.Places.{find-at}
-use Rattle.edit_index.specs.Order.{slotIn, startIn, slotsIn}
+use Rattle.edit_index.specs.Order.{slotIn, slotsIn}
 use Rattle.edit_index.specs.Index.{Index, slotLimit, idLimit, noSlot, slotRecord, heldSlots, heldStarts}
 use Rattle.edit_index.specs.Index.{heldRecords, AllBelow, Holds, indexedNumbers, indexedList}
 use Rattle.edit_index.proofs.SlotLaws.{below-at, below-front, map-joined, map-at, slot-none, slot-some}
@@ -51,14 +51,6 @@ module _ {x : Index} {count : ℕ} (h : Holds x count) where
   held-place start =
       ap (λ (starts : List ℕ). placing start starts .place) (h .starts)
       ∙ place-search .same-place start (heldRecords count x)
-
-  -- the start beside a record's slot is the record's
-  pub held-start : (k : ℕ) → k < count → startIn (getD (x .order) k 0) ≡ getD (startsOf (heldRecords count x)) k 0
-  held-start k within =
-      let few : k < length (take count (x .order)) = omega (arith, entries-length) in
-      ap startIn (sym (getD-take count (x .order) k 0 within))
-      ∙ sym (map-at startIn (take count (x .order)) k 0 0 few)
-      ∙ ap (λ (starts : List ℕ). getD starts k 0) (h .starts)
 
   -- a record is the one in the slot of its entry
   pub held-record : (k : ℕ) → k < count

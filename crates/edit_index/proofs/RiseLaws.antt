@@ -1,25 +1,23 @@
--- Places by starts that rise strictly: the place of a start, whether a record has it, and the place of the record of an
--- id. By the records before the place and the one behind it. Assumes nothing.
-use mathlib.Core.Path.{_≡_, sym, ap, subst, _∙_}
+-- Places by starts that rise strictly: the place of a start, and the place of the record of an id. By the records
+-- before the place and the one behind it. Assumes nothing.
+use mathlib.Core.Path.{_≡_, sym, ap, _∙_}
 use mathlib.Core.Logic.{⊎-elim}
-use mathlib.Core.Bool.{Bool, not, _||_}
 use mathlib.Core.List.{List, [], _∷_}
 use Prim.Native.Nat.{ℕ, zero, suc, _-_, _≤_, _<_}
 use native.Mathlib.Omega.{arith}
-use lib.Dec.{T, eqb, ltb, lt→ltb, ltb→lt, nltb→le, not-T}
-use lib.ListN.{length, getD, length-append, length-take, length-drop, length-map, List·getD-map}
+use lib.Dec.{T, ltb, lt→ltb, ltb→lt, nltb→le, not-T}
+use lib.ListN.{length, getD, length-map, List·getD-map}
 use Rattle.eit.specs.Pools.{Pools}
 use Rattle.eit.specs.Among.{isAmong}
 use Rattle.eit.specs.Events.{eventOf, eventsIn, rising}
 use Rattle.eit.specs.Find.{positionOf, placeOf}
 use Rattle.eit.specs.Sound.{idsOf, startsOf}
 use Rattle.eit.specs.declared.Record.{Record}
-use Rattle.eit.proofs.Among.{among-at, among-found}
 use Rattle.eit.proofs.Events.{AllAfter, rising-rest, rising-after}
 use Rattle.eit.proofs.Find.{place-here, place-later, place-length, position-length}
-use Rattle.eit.proofs.Test.{le-or-lt, test-or, ne-test, false-is}
+use Rattle.eit.proofs.Test.{le-or-lt, test-or}
 use Rattle.script.specs.Machine.{find, without, zeroRecord}
-use Rattle.script.proofs.Placing.{find-here, find-later, without-here, without-later, without-length, among-later}
+use Rattle.script.proofs.Placing.{without-length}
 use Rattle.script.proofs.Places.{find-at, without-position}
 use Rattle.edit_index.specs.Rises.{Rises}
 use Rattle.edit_index.proofs.SlotLaws.{map-leave, leave, leave-before, leave-behind}
@@ -96,49 +94,6 @@ module _ (rs : List Record) (rises : Rises (startsOf rs)) where
       place-is start rs (suc i) (omega arith) (λ j h. omega (arith, rises-to j i (omega arith) within))
       (λ h. omega (arith, rises i (suc i) (omega arith) (omega (arith, starts-length rs))))
 
-  -- a record has the start exactly if the one before the start's place has it
-  module _ (start place : ℕ) (at-place : place ≡ placeOf start rs) where
-    pub start-has : 0 < place → place ≤ length rs → getD (startsOf rs) (place - 1) 0 ≡ start
-        → T (isAmong start (startsOf rs))
-    start-has some few is =
-        subst (λ (n : ℕ). T (isAmong n (startsOf rs))) is
-        (among-at (startsOf rs) (place - 1) (omega (arith, starts-length rs)))
-
-    -- where it stands
-    pub has-start : T (isAmong start (startsOf rs)) → (0 < place) × (getD (startsOf rs) (place - 1) 0 ≡ start)
-    has-start a =
-        let found = among-found start (startsOf rs) a in
-        let within : found .0 < length rs = omega (arith, starts-length rs) in
-        let e : place ≡ suc (found .0) = at-place ∙ place-own (found .0) start within (found .2) in
-        let i : place - 1 ≡ found .0 = omega arith in
-        (omega arith, ap (λ (n : ℕ). getD (startsOf rs) n 0) i ∙ found .2)
-
-    pub start-none : ((0 < place) → getD (startsOf rs) (place - 1) 0 ≡ start → ⊥)
-        → T (not (isAmong start (startsOf rs)))
-    start-none none = not-T (isAmong start (startsOf rs)) (λ a. let h = has-start a in none (h .0) (h .1))
-
--- ---- starts with one taken out
-
-module _ (ss : List ℕ) (rises : Rises ss) (i : ℕ) (within : i < length ss) where
-  abbrev others : List ℕ
-  others = leave i ss
-
-  others-length : suc (length others) ≡ length ss
-  others-length = simp (length-append, length-take, length-drop) (omega arith)
-
-  -- none of them has its start
-  own-none : T (not (isAmong (getD ss i 0) others))
-  own-none =
-      not-T (isAmong (getD ss i 0) others)
-      (λ a.
-      let found = among-found (getD ss i 0) others a in
-      let size : suc (length others) ≡ length ss = others-length in
-      ⊎-elim
-      (λ behind. omega
-      (arith, leave-behind i ss (found .0) 0 behind, rises i (suc (found .0)) (omega arith) (omega arith)))
-      (λ before. omega (arith, leave-before i ss (found .0) 0 before, rises (found .0) i before within))
-      (le-or-lt i (found .0)))
-
 -- ---- the record of an id
 
 module _ (id : ℕ) (rs : List Record) (a : T (isAmong id (idsOf rs))) where
@@ -150,37 +105,10 @@ module _ (id : ℕ) (rs : List Record) (a : T (isAmong id (idsOf rs))) where
   others-are : startsOf (without id rs) ≡ leave (positionOf id rs) (startsOf rs)
   others-are = ap startsOf (without-position id rs a) ∙ map-leave (λ (r : Record). r .start) (positionOf id rs) rs
 
-  -- another start is among the others exactly if it is among all
-  pub without-starts : (start : ℕ) → (start ≡ find id rs .start → ⊥)
-      → isAmong start (startsOf (without id rs)) ≡ isAmong start (startsOf rs)
-  without-starts start other = by rs a other
-    where
-      by : (qs : List Record) → T (isAmong id (idsOf qs)) → (start ≡ find id qs .start → ⊥)
-          → isAmong start (startsOf (without id qs)) ≡ isAmong start (startsOf qs)
-      by [] b ne = absurd b
-      by (q ∷ qs) b ne =
-          ⊎-elim
-          (λ t.
-          let apart : start ≡ q .start → ⊥ = λ e. ne (e ∙ ap (λ (r : Record). r .start) (sym (find-here id q qs t))) in
-          rw (without-here id q qs t, false-is (eqb start (q .start)) (ne-test start (q .start) apart)))
-          (λ t.
-          let rest =
-          by qs (among-later id q qs t b)
-          (λ e. ne (e ∙ ap (λ (r : Record). r .start) (sym (find-later id q qs t)))) in
-          rw (without-later id q qs t) (ap (λ (c : Bool). eqb start (q .start) || c) rest))
-          (test-or (eqb id (q .id)))
-
   module _ (rises : Rises (startsOf rs)) where
     -- its start has its place behind it
     pub own-place : placeOf (find id rs .start) rs ≡ suc (positionOf id rs)
     own-place = place-own rs rises (positionOf id rs) (find id rs .start) (position-length id rs a) found-start
-
-    position-starts : positionOf id rs < length (startsOf rs)
-    position-starts = omega (arith, starts-length rs, position-length id rs a)
-
-    -- its own start is not among the others
-    pub own-start : T (not (isAmong (find id rs .start) (startsOf (without id rs))))
-    own-start = rw (others-are, ← found-start) (own-none (startsOf rs) rises (positionOf id rs) position-starts)
 
     -- the place of a start, once the record is taken out: one less if the record stood before it
     module _ (start : ℕ) where

@@ -2,7 +2,7 @@
 // out and moved in place.
 ghost use mathlib.Core.Path.{_≡_};
 ghost use lib.ListN.{length, getD};
-ghost use Rattle.edit_index.specs.Order.{entryOf, startIn, slotIn, slotsFrom};
+ghost use Rattle.edit_index.specs.Order.{entryOf, slotIn, slotsFrom};
 ghost use Rattle.edit_index.specs.Order.{withEntry, withoutEntry, movedSlot, movedEntry};
 
 // An entry is a record's start × 65,536 + its slot.
@@ -14,23 +14,15 @@ pub fn entry_of(start: u32, slot: u16) -> u64
     start as u64 * SLOT_NUMBERS + slot as u64
 }
 
-// Entry i, 0 beyond the end.
-fn entry_at(order: &[u64], i: usize) -> u64
-    ensures { λ r. ⌜ r ≡ getD (now (order .entry)) i 0 ⌝ }
-{
-    if i < order.len() { order[i] } else { 0 }
-}
-
-pub fn start_at(order: &[u64], i: usize) -> u64
-    ensures { λ r. ⌜ r ≡ startIn (getD (now (order .entry)) i 0) ⌝ }
-{
-    entry_at(order, i) / SLOT_NUMBERS
-}
-
+// The slot of entry i, 0 beyond the end.
 pub fn slot_at(order: &[u64], i: usize) -> u16
     ensures { λ r. ⌜ r ≡ slotIn (getD (now (order .entry)) i 0) ⌝ }
 {
-    (entry_at(order, i) % SLOT_NUMBERS) as u16
+    if i < order.len() {
+        (order[i] % SLOT_NUMBERS) as u16
+    } else {
+        0
+    }
 }
 
 // Sets the order to the slots from 0 on, all free.

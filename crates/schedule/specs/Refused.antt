@@ -30,7 +30,7 @@ pub record RefusedFor (sizes : Sizes) : Type 0 where
   pub edit-leaves : (pools : Pools) (list : EventList) (script : List ℕ)
       → let o = edit sizes pools list script in
       (o .number ≡ 12) ⊎ ((o .number ≡ 3) ⊎ (o .number ≡ 4)) → o .list ≡ list
-  -- 5 to 9, and 30: the list is as the edits before made it
+  -- by an edit: the list is as the edits before made it
   pub edit-keeps : (pools : Pools) (list : EventList) (script : List ℕ) (cs : List Command) (es : List Edit)
       → T (sound sizes pools list) → formOf script ≡ commands cs → unstruckIn cs ≡ unstruck es
       → (edit sizes pools list script .number ≡ 0 → ⊥)

@@ -21,7 +21,7 @@ use Rattle.script.proofs.Machine.{step-sound}
 use Rattle.script.proofs.EditBy.{by-done, by-refused, by-unsound, by-broken, by-nothing, by-runs, by-both}
 
 -- the numbers of an edit's refusals are none of the others
-number-apart : (n m : ℕ) → T (isAmong n editNumbers) → T (not (isAmong m editNumbers)) → n ≡ m → ⊥
+pub number-apart : (n m : ℕ) → T (isAmong n editNumbers) → T (not (isAmong m editNumbers)) → n ≡ m → ⊥
 number-apart n m is none e =
     T-not (isAmong m editNumbers) none (subst (λ (k : ℕ). T (isAmong k editNumbers)) e is)
 

@@ -1,6 +1,6 @@
 -- What W-209 claims holds: an event with the start of another one overlaps it, so that an edit which passes 30 passes
 -- 7. Assumes nothing.
-use mathlib.Core.Path.{_≡_, refl, sym, subst, _∙_}
+use mathlib.Core.Path.{_≡_, refl, sym, _∙_}
 use mathlib.Core.Logic.{⊎-elim}
 use mathlib.Core.Bool.{Bool, true, false, not}
 use Prim.Native.Nat.{ℕ, _≤_}
@@ -9,26 +9,28 @@ use mathlib.Core.List.{List, [], _∷_}
 use lib.Dec.{T, ltb, eqb, eqb→eq, not-T, T-not}
 use Rattle.eit.specs.declared.Sizes.{Sizes}
 use Rattle.eit.specs.Limits.{windowSeconds}
-use Rattle.eit.specs.Pools.{Pools}
+use Rattle.eit.specs.Chain.{isChain}
+use Rattle.eit.specs.Pools.{Pools, choose}
 use Rattle.eit.specs.Records.{EventList, recordsOf}
 use Rattle.eit.specs.Among.{isAmong}
+use Rattle.eit.specs.Events.{follows}
 use Rattle.eit.specs.Overlap.{overlap, overlapsOne}
 use Rattle.eit.specs.Sound.{inRange, hasChain, allValid, idsOf, startsOf, sound}
 use Rattle.eit.specs.declared.Record.{Record}
 use Rattle.eit.proofs.OverlapLaws.{starts-overlap}
 use Rattle.eit.proofs.Sound.{sound-list, range-facts}
 use Rattle.eit.proofs.Test.{tests, or-cases, or-left, or-right}
-use Rattle.script.specs.Form.{Edit, Act, put, withdraw, move}
-use Rattle.script.specs.Machine.{limitOf, find, without, moved, afterPut, afterWithdraw, afterMove, Step, refused}
-use Rattle.script.specs.Machine.{check, step}
+use Rattle.script.specs.Form.{Edit, Act, put, withdraw, move, formOf}
+use Rattle.script.specs.Struck.{unstruckIn}
+use Rattle.script.specs.Machine.{find, without, moved, Step, refused, check, step}
 use Rattle.script.specs.Edit.{runBy, run, editBy, edit}
 use Rattle.script.specs.NoOverlap.{PassesBefore}
-use Rattle.script.specs.EqualStart.{startOfAnother, stepWithout7, EqualStart}
+use Rattle.script.specs.EqualStart.{startOfAnother, stepWith7, EqualStart, EqualStartExamples}
 use Rattle.script.proofs.Placing.{find-valid, without-valid}
-use Rattle.script.proofs.Steps.{check-passed, step-or, RefusesWith, done-with, check-with, put-30, move-30}
+use Rattle.script.proofs.Steps.{check-passed, step-or, put-30, move-30}
 use Rattle.script.proofs.Machine.{step-sound}
 use Rattle.script.proofs.EditBy.{by-done, by-refused, by-both}
-use Rattle.script.proofs.Edit.{run-ind, edit-or}
+use Rattle.script.proofs.Edit.{number-apart, run-number, edit-or}
 
 -- an equal start is an overlap
 equal-overlap : (r s : Record) → 1 ≤ r .duration → 1 ≤ s .duration → r .start ≡ s .start → T (overlap r s)
@@ -80,7 +82,7 @@ module _ (sizes : Sizes) (pools : Pools) (list : EventList) (t : T (sound sizes 
   comes-first (move id start) (limit, old) equal =
       move-30 sizes pools list id start limit old (move-overlaps id start old equal)
 
-  -- one that overlaps none has not, and so a machine without 7 does the same
+  -- one that overlaps none has not, and so 7 changes nothing
   put-free : (r : Record) → T (inRange r) → T (not (overlapsOne r rs)) → T (not (startOfAnother list (put r)))
   put-free r range apart =
       not-T (startOfAnother list (put r)) (λ equal. T-not (overlapsOne r rs) apart (put-overlaps r range equal))
@@ -92,89 +94,72 @@ module _ (sizes : Sizes) (pools : Pools) (list : EventList) (t : T (sound sizes 
       (λ equal.
       T-not (overlapsOne (moved id start rs) (without id rs)) apart (move-overlaps id start old equal))
 
-  step-same : (a : Act) → stepWithout7 sizes pools list a ≡ step sizes pools list a
-  unfolding step stepWithout7
+  step-same : (a : Act) → stepWith7 sizes pools list a ≡ step sizes pools list a
+  unfolding step stepWith7
   step-same (put r) =
       check-same (inRange r) 5 _ _
       (λ range. check-same (hasChain pools r) 9 _ _
       (λ chain. check-same (not (isAmong (r .id) (idsOf rs))) 6 _ _
       (λ new. check-same (not (overlapsOne r rs)) 30 _ _
-      (λ apart. sym
-      (check-passed (not (startOfAnother list (put r))) 7 _ (put-free r range apart))))))
+      (λ apart. check-passed (not (startOfAnother list (put r))) 7 _ (put-free r range apart)))))
   step-same (withdraw id) = refl
   step-same (move id start) =
       check-same (ltb start windowSeconds) 5 _ _
       (λ limit. check-same (isAmong id (idsOf rs)) 6 _ _
       (λ old. check-same (not (overlapsOne (moved id start rs) (without id rs))) 30 _ _
-      (λ apart. sym
-      (check-passed (not (startOfAnother list (move id start))) 7 _ (move-free id start old apart)))))
+      (λ apart. check-passed (not (startOfAnother list (move id start))) 7 _ (move-free id start old apart))))
 
 -- ---- Edit
 
 module _ (sizes : Sizes) (pools : Pools) where
   run-same : (list : EventList) (es : List Edit) → T (sound sizes pools list)
-      → runBy (stepWithout7 sizes pools) list es ≡ run sizes pools list es
+      → runBy (stepWith7 sizes pools) list es ≡ run sizes pools list es
   unfolding runBy
   run-same list [] t = refl
   run-same list (e ∷ es) t =
       ⊎-elim
       (λ (next, does).
-      by-done (stepWithout7 sizes pools) list e es next (step-same sizes pools list t (e .act) ∙ does)
+      by-done (stepWith7 sizes pools) list e es next (step-same sizes pools list t (e .act) ∙ does)
       ∙ run-same next es (step-sound sizes pools list (e .act) next does t)
       ∙ sym (by-done (step sizes pools) list e es next does))
       (λ (number, refuses).
-      by-refused (stepWithout7 sizes pools) list e es number (step-same sizes pools list t (e .act) ∙ refuses)
+      by-refused (stepWith7 sizes pools) list e es number (step-same sizes pools list t (e .act) ∙ refuses)
       ∙ sym (by-refused (step sizes pools) list e es number refuses))
       (step-or (step sizes pools list (e .act)))
 
   edit-same : (list : EventList) (script : List ℕ)
-      → editBy (stepWithout7 sizes pools) sizes pools list script ≡ edit sizes pools list script
+      → editBy (stepWith7 sizes pools) sizes pools list script ≡ edit sizes pools list script
   unfolding edit
   edit-same list script =
-      by-both (stepWithout7 sizes pools) (step sizes pools) sizes pools list script _≡_ refl (λ at. refl) (λ at. refl)
+      by-both (stepWith7 sizes pools) (step sizes pools) sizes pools list script _≡_ refl (λ at. refl) (λ at. refl)
       (λ es t. run-same list es t)
-
-  -- which is refused with these alone
-  abbrev others : List ℕ
-  others = 5 ∷ 9 ∷ 6 ∷ 30 ∷ 8 ∷ []
-
-  without-number : (list : EventList) (a : Act) → RefusesWith others (stepWithout7 sizes pools list a)
-  unfolding step stepWithout7
-  without-number list (put r) =
-      let rs = recordsOf list in
-      check-with others (inRange r) 5 tt
-      (check-with others (hasChain pools r) 9 tt
-      (check-with others (not (isAmong (r .id) (idsOf rs))) 6 tt
-      (check-with others (not (overlapsOne r rs)) 30 tt
-      (check-with others (ltb (list .count) (limitOf sizes list)) 8 tt (done-with others (afterPut list r))))))
-  without-number list (withdraw id) =
-      check-with others (isAmong id (idsOf (recordsOf list))) 6 tt (done-with others (afterWithdraw list id))
-  without-number list (move id start) =
-      let rs = recordsOf list in
-      check-with others (ltb start windowSeconds) 5 tt
-      (check-with others (isAmong id (idsOf rs)) 6 tt
-      (check-with others (not (overlapsOne (moved id start rs) (without id rs))) 30 tt
-      (done-with others (afterMove list id start))))
-
-  run-never : (list : EventList) (es : List Edit) → T (sound sizes pools list) → run sizes pools list es .number ≡ 7 → ⊥
-  run-never =
-      run-ind sizes pools (λ list o. T (sound sizes pools list) → o .number ≡ 7 → ⊥) (λ list t z. omega arith)
-      (λ list e n q t z.
-      subst (λ (m : ℕ). T (isAmong m others)) z
-      (without-number list (e .act) n (step-same sizes pools list t (e .act) ∙ q)))
-      (λ list e next o q ih t. ih (step-sound sizes pools list (e .act) next q t))
 
   edit-never : (list : EventList) (script : List ℕ) → edit sizes pools list script .number ≡ 7 → ⊥
   edit-never list script =
       edit-or sizes pools (λ o. o .number ≡ 7 → ⊥) list script (λ z. omega arith) (λ at z. omega arith)
       (λ at z. omega arith)
-      (λ es t. run-never list es t)
+      (λ es t.
+      ⊎-elim (λ ended z. omega (arith, ended .0)) (λ is. number-apart (run sizes pools list es .number) 7 is tt)
+      (run-number sizes pools list es))
 
 pub equal-start : EqualStart
 equal-start =
     record {
       overlaps = equal-overlap;
       thirty-first = comes-first;
-      needs-none = edit-same;
+      adds-nothing = edit-same;
       never-given = edit-never;
+    }
+
+pub equal-start-examples : EqualStartExamples
+unfolding edit stepWith7 formOf unstruckIn sound recordsOf follows overlap choose isChain
+equal-start-examples =
+    record {
+      put-first = refl;
+      put-last = refl;
+      put-overlap = refl;
+      move-first = refl;
+      move-last = refl;
+      move-own = refl;
+      by-machine = refl;
     }

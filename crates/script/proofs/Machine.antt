@@ -15,7 +15,7 @@ use Rattle.eit.specs.Pools.{Pools}
 use Rattle.eit.specs.Records.{EventList, recordSize, recordsOf, numbersOfAll}
 use Rattle.eit.specs.Among.{isAmong}
 use Rattle.eit.specs.Overlap.{overlapsOne}
-use Rattle.eit.specs.Sound.{inRange, hasChain, idsOf, startsOf, sound}
+use Rattle.eit.specs.Sound.{inRange, hasChain, idsOf, sound}
 use Rattle.eit.specs.declared.Record.{Record}
 use Rattle.eit.proofs.Test.{tests}
 use Rattle.eit.proofs.Overwrite.{over-length}
@@ -156,7 +156,6 @@ module _ (sizes : Sizes) (pools : Pools) (list : EventList) where
     pub chain : T (hasChain pools r)
     pub newId : T (not (isAmong (r .id) (idsOf (recordsOf list))))
     pub apart : T (not (overlapsOne r (recordsOf list)))
-    pub newStart : T (not (isAmong (r .start) (startsOf (recordsOf list))))
     pub limit : T (ltb (list .count) (limitOf sizes list))
     pub after : next ≡ afterPut list r
 
@@ -168,7 +167,6 @@ module _ (sizes : Sizes) (pools : Pools) (list : EventList) where
     pub range : T (ltb start windowSeconds)
     pub oldId : T (isAmong id (idsOf (recordsOf list)))
     pub apart : T (not (overlapsOne (moved id start (recordsOf list)) (without id (recordsOf list))))
-    pub newStart : T (not (isAmong start (startsOf (without id (recordsOf list)))))
     pub after : next ≡ afterMove list id start
 
   pub put-done : (r : Record) (next : EventList) → step sizes pools list (put r) ≡ done next → PutDone r next
@@ -178,16 +176,14 @@ module _ (sizes : Sizes) (pools : Pools) (list : EventList) where
       let b = check-done (hasChain pools r) 9 _ (a .1) in
       let c = check-done (not (isAmong (r .id) (idsOf (recordsOf list)))) 6 _ (b .1) in
       let d = check-done (not (overlapsOne r (recordsOf list))) 30 _ (c .1) in
-      let f = check-done (not (isAmong (r .start) (startsOf (recordsOf list)))) 7 _ (d .1) in
-      let g = check-done (ltb (list .count) (limitOf sizes list)) 8 _ (f .1) in
+      let f = check-done (ltb (list .count) (limitOf sizes list)) 8 _ (d .1) in
       record {
         range = a .0;
         chain = b .0;
         newId = c .0;
         apart = d .0;
-        newStart = f .0;
-        limit = g .0;
-        after = cc (g .1);
+        limit = f .0;
+        after = cc (f .1);
       }
 
   pub withdraw-done : (id : ℕ) (next : EventList) → step sizes pools list (withdraw id) ≡ done next
@@ -204,8 +200,7 @@ module _ (sizes : Sizes) (pools : Pools) (list : EventList) where
       let b = check-done (isAmong id (idsOf (recordsOf list))) 6 _ (a .1) in
       let others : List Record = without id (recordsOf list) in
       let c = check-done (not (overlapsOne (moved id start (recordsOf list)) others)) 30 _ (b .1) in
-      let d = check-done (not (isAmong start (startsOf others))) 7 _ (c .1) in
-      record { range = a .0; oldId = b .0; apart = c .0; newStart = d .0; after = cc (d .1) }
+      record { range = a .0; oldId = b .0; apart = c .0; after = cc (c .1) }
 
   -- it leaves a sound list sound
   pub step-sound : (a : Act) (next : EventList) → step sizes pools list a ≡ done next → T (sound sizes pools list)

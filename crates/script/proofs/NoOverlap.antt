@@ -1,6 +1,6 @@
 -- What W-204 claims holds: by the laws of events that overlap, and by the order of an edit's checks. Assumes nothing.
 use mathlib.Core.Path.{_≡_}
-use mathlib.Core.Logic.{_⊎_, ⊎-elim}
+use mathlib.Core.Logic.{⊎-elim}
 use mathlib.Core.Bool.{Bool, true, false, not}
 use Prim.Native.Nat.{ℕ, suc, _≤_, _<_}
 use native.Mathlib.Omega.{arith}
@@ -14,7 +14,7 @@ use Rattle.eit.specs.Records.{EventList, recordsOf}
 use Rattle.eit.specs.Among.{isAmong}
 use Rattle.eit.specs.Events.{Event, eventOf, eventsIn, rising}
 use Rattle.eit.specs.Overlap.{endOf, OnTogether, overlapsOne}
-use Rattle.eit.specs.Sound.{inRange, hasChain, allValid, idsOf, startsOf, sound}
+use Rattle.eit.specs.Sound.{inRange, hasChain, allValid, idsOf, sound}
 use Rattle.eit.specs.declared.Record.{Record}
 use Rattle.eit.proofs.Events.{follows-end, later-follows, rising-at, rising-all}
 use Rattle.eit.proofs.OverlapLaws.{overlap-second, overlaps-at, overlaps-found}
@@ -148,10 +148,7 @@ module _ (sizes : Sizes) (pools : Pools) (list : EventList) (t : T (sound sizes 
       let c = check-other (not (isAmong (r .id) (idsOf rs))) 6 30 _ (λ z. omega arith) (b .1) in
       let d =
       check-own (overlapsOne r rs) 30 _
-      (λ f.
-      let g = check-other (not (isAmong (r .start) (startsOf rs))) 7 30 _ (λ z. omega arith) f in
-      let h = check-other (ltb (list .count) (limitOf sizes list)) 8 30 _ (λ z. omega arith) (g .1) in
-      done-none _ 30 (h .1))
+      (λ f. done-none _ 30 (check-other (ltb (list .count) (limitOf sizes list)) 8 30 _ (λ z. omega arith) f .1))
       (c .1) in
       ((a .0, b .0, c .0), overlaps-on pools r rs (a .0) valid d)
   thirty-passes (withdraw id) e =
@@ -161,9 +158,7 @@ module _ (sizes : Sizes) (pools : Pools) (list : EventList) (t : T (sound sizes 
       let a = check-other (ltb start windowSeconds) 5 30 _ (λ z. omega arith) e in
       let b = check-other (isAmong id (idsOf rs)) 6 30 _ (λ z. omega arith) (a .1) in
       let c =
-      check-own (overlapsOne (moved id start rs) others) 30 _
-      (λ f. done-none _ 30 (check-other (not (isAmong start (startsOf others))) 7 30 _ (λ z. omega arith) f .1))
-      (b .1) in (
+      check-own (overlapsOne (moved id start rs) others) 30 _ (done-none _ 30) (b .1) in (
         (a .0, b .0),
         overlaps-on pools (moved id start rs) others (moved-range id start (a .0) (b .0))
             (without-valid pools id rs valid) c,

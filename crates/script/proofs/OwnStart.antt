@@ -17,9 +17,9 @@ use Rattle.eit.specs.Records.{EventList, recordSize, recordsOf, numbersOfAll}
 use Rattle.eit.specs.Events.{eventOf, eventsIn, follows, rising}
 use Rattle.eit.specs.Among.{isAmong}
 use Rattle.eit.specs.Overlap.{overlap, overlapsOne}
-use Rattle.eit.specs.Sound.{idsOf, startsOf, sound}
+use Rattle.eit.specs.Sound.{idsOf, sound}
 use Rattle.eit.specs.declared.Record.{Record}
-use Rattle.eit.proofs.Test.{tests, nor-both, ne-test, test-or}
+use Rattle.eit.proofs.Test.{tests, nor-both, test-or}
 use Rattle.eit.proofs.Overwrite.{over-self}
 use Rattle.eit.proofs.Records.{numbers-back}
 use Rattle.eit.proofs.Events.{AllAfter, AllFollow, rising-rest, rising-after, rising-follow}
@@ -59,28 +59,6 @@ module _ (pools : Pools) where
       ∙ insert-later (find id rs) r (without id rs) (le→nltb (find id rs .start) (r .start) (omega arith))
       ∙ ap (λ (ss : List Record). r ∷ ss)
       (insert-back id rs (among-later id r rs there a) (rising-rest (eventOf pools r) (eventsIn pools rs) t)))
-      (test-or (eqb id (r .id)))
-
-  -- a start before all others is none of theirs
-  start-before : (s : ℕ) (rs : List Record) → AllAfter s (eventsIn pools rs) → T (not (isAmong s (startsOf rs)))
-  start-before s [] after = tt
-  start-before s (r ∷ rs) after =
-      nor-both (eqb s (r .start)) (isAmong s (startsOf rs)) (ne-test s (r .start) (λ e. omega arith))
-      (start-before s rs (after .1))
-
-  start-other : (id : ℕ) (rs : List Record) → T (isAmong id (idsOf rs)) → T (rising (eventsIn pools rs))
-      → T (not (isAmong (find id rs .start) (startsOf (without id rs))))
-  start-other id [] a t = absurd a
-  start-other id (r ∷ rs) a t =
-      let after = rising-after (eventOf pools r) (eventsIn pools rs) t in
-      ⊎-elim
-      (λ here. rw (find-here id r rs here, without-here id r rs here) (start-before (r .start) rs after))
-      (λ there.
-      let later = find-after (r .start) id rs (among-later id r rs there a) after in
-      rw (find-later id r rs there, without-later id r rs there)
-      (nor-both (eqb (find id rs .start) (r .start)) (isAmong (find id rs .start) (startsOf (without id rs)))
-      (ne-test (find id rs .start) (r .start) (λ e. omega arith))
-      (start-other id rs (among-later id r rs there a) (rising-rest (eventOf pools r) (eventsIn pools rs) t))))
       (test-or (eqb id (r .id)))
 
   -- an event that all others follow overlaps none of them, and neither does one that follows
@@ -135,4 +113,4 @@ module _ (sizes : Sizes) (pools : Pools) (list : EventList) (id : ℕ) (t : T (s
       let was = find-valid pools id rs a (f .records .valid) in
       let range : T (ltb start windowSeconds) = search (tests, was .0) in
       move-passes sizes pools list id start range a (own-apart pools id rs a (f .records .rises))
-      (start-other pools id rs a (f .records .rises)) ∙ ap done move-same
+      ∙ ap done move-same

@@ -1,5 +1,5 @@
 -- Which number an edit is refused with, and when it is done: the first check that fails, in the papers' order (01,
--- "When a call says no": per edit 5, 9, 6, 7, 8; 02, W-204: 30 just before 7). With `put-done`, `withdraw-done` and
+-- "When a call says no"; 02, W-204 and W-209): 5, 9, 6, 30, 8. With `put-done`, `withdraw-done` and
 -- `move-done` each answer is exact. Assumes nothing.
 use mathlib.Core.Path.{_≡_, refl, subst, _∙_}
 use mathlib.Core.Logic.{_⊎_, inl, inr}
@@ -14,7 +14,7 @@ use Rattle.eit.specs.Pools.{Pools}
 use Rattle.eit.specs.Records.{EventList, recordsOf}
 use Rattle.eit.specs.Among.{isAmong}
 use Rattle.eit.specs.Overlap.{overlapsOne}
-use Rattle.eit.specs.Sound.{inRange, hasChain, idsOf, startsOf}
+use Rattle.eit.specs.Sound.{inRange, hasChain, idsOf}
 use Rattle.eit.specs.declared.Record.{Record}
 use Rattle.eit.proofs.Test.{not-not}
 use Rattle.script.specs.Form.{Act, put, withdraw, move}
@@ -40,42 +40,38 @@ check-failed false n s t = refl
 
 -- ---- which numbers there are
 
--- a step is refused with one of some numbers alone
-abbrev pub RefusesWith : List ℕ → Step → Type 0
-RefusesWith ns s = (n : ℕ) → s ≡ refused n → T (isAmong n ns)
-
-pub done-with : (ns : List ℕ) (next : EventList) → RefusesWith ns (done next)
-done-with ns next n e = absurd (done-none next n e)
-
-pub check-with : (ns : List ℕ) (b : Bool) (k : ℕ) {s : Step} → T (isAmong k ns) → RefusesWith ns s
-    → RefusesWith ns (check b k s)
-check-with ns true k is h n e = h n e
-check-with ns false k is h n e = let same : k ≡ n = cc in subst (λ (m : ℕ). T (isAmong m ns)) same is
-
--- the numbers of an edit's refusals, in their order
+-- in their order
 abbrev pub editNumbers : List ℕ
-editNumbers = 5 ∷ 9 ∷ 6 ∷ 30 ∷ 7 ∷ 8 ∷ []
+editNumbers = 5 ∷ 9 ∷ 6 ∷ 30 ∷ 8 ∷ []
 
-pub step-number : (sizes : Sizes) (pools : Pools) (list : EventList) (a : Act)
-    → RefusesWith editNumbers (step sizes pools list a)
+-- a step is refused with one of them
+abbrev Numbered : Step → Type 0
+Numbered s = (n : ℕ) → s ≡ refused n → T (isAmong n editNumbers)
+
+done-numbered : (next : EventList) → Numbered (done next)
+done-numbered next n e = absurd (done-none next n e)
+
+check-numbered : (b : Bool) (k : ℕ) {s : Step} → T (isAmong k editNumbers) → Numbered s → Numbered (check b k s)
+check-numbered true k is h n e = h n e
+check-numbered false k is h n e = let same : k ≡ n = cc in subst (λ (m : ℕ). T (isAmong m editNumbers)) same is
+
+pub step-number : (sizes : Sizes) (pools : Pools) (list : EventList) (a : Act) → Numbered (step sizes pools list a)
 unfolding step
 step-number sizes pools list (put r) =
     let rs = recordsOf list in
-    check-with editNumbers (inRange r) 5 tt
-    (check-with editNumbers (hasChain pools r) 9 tt
-    (check-with editNumbers (not (isAmong (r .id) (idsOf rs))) 6 tt
-    (check-with editNumbers (not (overlapsOne r rs)) 30 tt
-    (check-with editNumbers (not (isAmong (r .start) (startsOf rs))) 7 tt
-    (check-with editNumbers (ltb (list .count) (limitOf sizes list)) 8 tt (done-with editNumbers (afterPut list r)))))))
+    check-numbered (inRange r) 5 tt
+    (check-numbered (hasChain pools r) 9 tt
+    (check-numbered (not (isAmong (r .id) (idsOf rs))) 6 tt
+    (check-numbered (not (overlapsOne r rs)) 30 tt
+    (check-numbered (ltb (list .count) (limitOf sizes list)) 8 tt (done-numbered (afterPut list r))))))
 step-number sizes pools list (withdraw id) =
-    check-with editNumbers (isAmong id (idsOf (recordsOf list))) 6 tt (done-with editNumbers (afterWithdraw list id))
+    check-numbered (isAmong id (idsOf (recordsOf list))) 6 tt (done-numbered (afterWithdraw list id))
 step-number sizes pools list (move id start) =
     let rs = recordsOf list in
-    check-with editNumbers (ltb start windowSeconds) 5 tt
-    (check-with editNumbers (isAmong id (idsOf rs)) 6 tt
-    (check-with editNumbers (not (overlapsOne (moved id start rs) (without id rs))) 30 tt
-    (check-with editNumbers (not (isAmong start (startsOf (without id rs)))) 7 tt
-    (done-with editNumbers (afterMove list id start)))))
+    check-numbered (ltb start windowSeconds) 5 tt
+    (check-numbered (isAmong id (idsOf rs)) 6 tt
+    (check-numbered (not (overlapsOne (moved id start rs) (without id rs))) 30 tt
+    (done-numbered (afterMove list id start))))
 
 -- ---- which comes when
 
@@ -85,9 +81,6 @@ module _ (sizes : Sizes) (pools : Pools) (list : EventList) (r : Record) where
 
   abbrev apart : Bool
   apart = not (overlapsOne r (recordsOf list))
-
-  abbrev newStart : Bool
-  newStart = not (isAmong (r .start) (startsOf (recordsOf list)))
 
   abbrev below : Bool
   below = ltb (list .count) (limitOf sizes list)
@@ -115,26 +108,17 @@ module _ (sizes : Sizes) (pools : Pools) (list : EventList) (r : Record) where
             ∙ check-failed apart 30 _ (not-not (overlapsOne r (recordsOf list)) d)
 
         module _ (clear : T apart) where
-          pub put-7 : T (not newStart) → step sizes pools list (put r) ≡ refused 7
+          pub put-8 : T (not below) → step sizes pools list (put r) ≡ refused 8
           unfolding step
-          put-7 e =
+          put-8 e =
               check-passed (inRange r) 5 _ range ∙ check-passed (hasChain pools r) 9 _ chain ∙ check-passed newId 6 _ id
-              ∙ check-passed apart 30 _ clear ∙ check-failed newStart 7 _ e
+              ∙ check-passed apart 30 _ clear ∙ check-failed below 8 _ e
 
-          module _ (start : T newStart) where
-            pub put-8 : T (not below) → step sizes pools list (put r) ≡ refused 8
-            unfolding step
-            put-8 f =
-                check-passed (inRange r) 5 _ range ∙ check-passed (hasChain pools r) 9 _ chain
-                ∙ check-passed newId 6 _ id
-                ∙ check-passed apart 30 _ clear ∙ check-passed newStart 7 _ start ∙ check-failed below 8 _ f
-
-            pub put-passes : T below → step sizes pools list (put r) ≡ done (afterPut list r)
-            unfolding step
-            put-passes f =
-                check-passed (inRange r) 5 _ range ∙ check-passed (hasChain pools r) 9 _ chain
-                ∙ check-passed newId 6 _ id
-                ∙ check-passed apart 30 _ clear ∙ check-passed newStart 7 _ start ∙ check-passed below 8 _ f
+          pub put-passes : T below → step sizes pools list (put r) ≡ done (afterPut list r)
+          unfolding step
+          put-passes e =
+              check-passed (inRange r) 5 _ range ∙ check-passed (hasChain pools r) 9 _ chain ∙ check-passed newId 6 _ id
+              ∙ check-passed apart 30 _ clear ∙ check-passed below 8 _ e
 
 module _ (sizes : Sizes) (pools : Pools) (list : EventList) (id : ℕ) where
   pub withdraw-6 : T (not (isAmong id (idsOf (recordsOf list)))) → step sizes pools list (withdraw id) ≡ refused 6
@@ -172,21 +156,10 @@ module _ (sizes : Sizes) (pools : Pools) (list : EventList) (id : ℕ) where
             ∙ check-passed (isAmong id (idsOf (recordsOf list))) 6 _ old
             ∙ check-failed (not among) 30 _ (not-not among c)
 
-        module _ (clear : T (not (overlapsOne (moved id start (recordsOf list)) (without id (recordsOf list))))) where
-          pub move-7 : T (isAmong start (startsOf (without id (recordsOf list))))
-              → step sizes pools list (move id start) ≡ refused 7
-          unfolding step
-          move-7 d =
-              check-passed (ltb start windowSeconds) 5 _ range
-              ∙ check-passed (isAmong id (idsOf (recordsOf list))) 6 _ old
-              ∙ check-passed (not among) 30 _ clear
-              ∙ check-failed (not (isAmong start (startsOf others))) 7 _ (not-not (isAmong start (startsOf others)) d)
-
-          pub move-passes : T (not (isAmong start (startsOf (without id (recordsOf list)))))
-              → step sizes pools list (move id start) ≡ done (afterMove list id start)
-          unfolding step
-          move-passes d =
-              check-passed (ltb start windowSeconds) 5 _ range
-              ∙ check-passed (isAmong id (idsOf (recordsOf list))) 6 _ old
-              ∙ check-passed (not among) 30 _ clear
-              ∙ check-passed (not (isAmong start (startsOf others))) 7 _ d
+        pub move-passes : T (not (overlapsOne (moved id start (recordsOf list)) (without id (recordsOf list))))
+            → step sizes pools list (move id start) ≡ done (afterMove list id start)
+        unfolding step
+        move-passes c =
+            check-passed (ltb start windowSeconds) 5 _ range
+            ∙ check-passed (isAmong id (idsOf (recordsOf list))) 6 _ old
+            ∙ check-passed (not among) 30 _ c

@@ -13,7 +13,7 @@ use Rattle.eit.specs.Pools.{Pools}
 use Rattle.eit.specs.Records.{EventList, recordSize, recordsOf, numbersOfAll}
 use Rattle.eit.specs.Among.{isAmong}
 use Rattle.eit.specs.Overlap.{overlapsOne}
-use Rattle.eit.specs.Sound.{inRange, hasChain, idsOf, startsOf}
+use Rattle.eit.specs.Sound.{inRange, hasChain, idsOf}
 use Rattle.eit.specs.declared.Record.{Record}
 use Rattle.script.specs.Form.{Act, put, withdraw, move}
 
@@ -87,9 +87,9 @@ abbrev pub check : Bool → ℕ → Step → Step
 check true number next = next
 check false number next = refused number
 
--- 01, "When a call says no": per edit 5, 9, 6, 7, 8. 5 value out of range (PUT, MOVE); 9 part outside pool, or no chain
--- (PUT); 6 id present (PUT), absent (others); 7 start of another event; 8 list at its limit (PUT). 02, W-204: "30, a
--- PUT or MOVE that would overlap another event .. it stands just before 7"
+-- per edit 5, 9, 6, 30, 8 (01, "When a call says no"; 02, W-204 and W-209): 5 value out of range (PUT, MOVE); 9 part
+-- outside pool, or no chain (PUT); 6 id present (PUT), absent (others); 30 "a PUT or MOVE that would overlap another
+-- event"; 8 list at its limit (PUT)
 unfoldable pub step : Sizes → Pools → Machine
 step sizes pools list (put r) =
     let rs = recordsOf list in
@@ -97,13 +97,11 @@ step sizes pools list (put r) =
     (check (hasChain pools r) 9
     (check (not (isAmong (r .id) (idsOf rs))) 6
     (check (not (overlapsOne r rs)) 30
-    (check (not (isAmong (r .start) (startsOf rs))) 7
-    (check (ltb (list .count) (limitOf sizes list)) 8 (done (afterPut list r)))))))
+    (check (ltb (list .count) (limitOf sizes list)) 8 (done (afterPut list r))))))
 step sizes pools list (withdraw id) =
     check (isAmong id (idsOf (recordsOf list))) 6 (done (afterWithdraw list id))
 step sizes pools list (move id start) =
     let rs = recordsOf list in
     check (ltb start windowSeconds) 5
     (check (isAmong id (idsOf rs)) 6
-    (check (not (overlapsOne (moved id start rs) (without id rs))) 30
-    (check (not (isAmong start (startsOf (without id rs)))) 7 (done (afterMove list id start)))))
+    (check (not (overlapsOne (moved id start rs) (without id rs))) 30 (done (afterMove list id start))))

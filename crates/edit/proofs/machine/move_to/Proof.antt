@@ -2,7 +2,6 @@
 use mathlib.Core.Path.{_≡_, refl, sym, ap, _∙_}
 use mathlib.Core.Bool.{true}
 use mathlib.Core.List.{[]}
-use mathlib.Core.Logic.{inl, inr}
 use Prim.Native.Nat.{_<_}
 use native.Mathlib.Omega.{arith}
 use denote.Ref.{now}
@@ -16,8 +15,7 @@ use Rattle.eit.specs.Sizes.{broadcast}
 use Rattle.edit_index.specs.Order.{startsIn}
 use Rattle.edit_index.specs.declared.search.Places.{Places}
 use Rattle.edit.proofs.IndexedLaws.{its-place}
-use Rattle.edit.proofs.MoveLaws.{move-outside, move-absent, move-overlaps, move-taken, free-own, free-other}
-use Rattle.edit.proofs.MoveLaws.{move-goes}
+use Rattle.edit.proofs.MoveLaws.{move-outside, move-absent, move-overlaps, move-goes}
 use Rattle.edit.proofs.machine.move_to.Statement.{statement}
 use Rattle.edit.proofs.machine.move_to.Tie as tie
 
@@ -125,8 +123,13 @@ returns-3 c = λ sizes day series.
     event _ (new places) _ (own places) _ (left .place-left .ensures) _ refl
     (sym (c .before .overlaps-neighbour .ensures) ∙ c .if3 .taken)
 
-is-taken-requires : tie.Need-is-taken-requires
-is-taken-requires c κs = search needs
+sub-re-place : tie.Need-sub-re-place
+sub-re-place c =
+    let clear = c .before .before .before .before in
+    omega (arith, own-some (found (placed (clear .before))))
+
+re-place-requires : tie.Need-re-place-requires
+re-place-requires c κs = search needs
 
 same-length-5 : tie.Need-same-length-5
 same-length-5 c = search needs
@@ -139,40 +142,8 @@ same-length-7 c = search needs
 
 returns-4 : tie.Need-returns-4
 returns-4 c = λ sizes day series.
-    let clear = c .before .before .before .before in
-    let left = placed (clear .before) in
-    let places = found left in
-    let start = entry (ranged places) in
-    let slot = present places .before .slot-of .ensures in
-    let some = present places .if2 .left in
-    let event = places .before .before .record-at .ensures in
-    move-taken sizes day series _ _ _ (start .pre) (start .args .at) _ _ (in-window (ranged places)) _ slot some _
-    event _ (new places) _ (own places) _ (left .place-left .ensures) _ refl
-    (sym (clear .before .overlaps-neighbour .ensures) ∙ clear .if3 .left) (c .before .before .before .if4 .taken)
-    (sym (c .before .is-taken .ensures) ∙ c .if5 .taken)
-
-sub-re-place : tie.Need-sub-re-place
-sub-re-place c =
-    let clear = c .before .before .before .before .before in
-    omega (arith, own-some (found (placed (clear .before))))
-
-re-place-requires : tie.Need-re-place-requires
-re-place-requires c κs = search needs
-
-same-length-8 : tie.Need-same-length-8
-same-length-8 c = search needs
-
-same-length-9 : tie.Need-same-length-9
-same-length-9 c = search needs
-
-same-length-10 : tie.Need-same-length-10
-same-length-10 c = search needs
-
-returns-5 : tie.Need-returns-5
-returns-5 c = λ sizes day series.
     let goes = c .before .before .before .before .before .before in
-    let joined = goes .before .before .before .before .before in
-    let clear = joined .before in
+    let clear = goes .before .before .before .before .before in
     let left = placed (clear .before) in
     let places = found left in
     let start = entry (ranged places) in
@@ -181,16 +152,7 @@ returns-5 c = λ sizes day series.
     let event = places .before .before .record-at .ensures in
     move-goes sizes day series _ _ _ (start .pre) (start .args .at) _ _ (in-window (ranged places)) _ slot some _
     event _ (new places) _ (own places) _ (left .place-left .ensures) _ refl
-    (sym (clear .before .overlaps-neighbour .ensures) ∙ clear .if3 .left)
-    (elim (joined .if4 .came) [
-      | inl w ↦
-          free-other sizes day series _ _ _ (start .pre) (start .args .at) _ _ (in-window (ranged places)) _ slot some
-          _ event _ (new places) (w .0 .taken) (sym (w .2 .ensures) ∙ w .3 .left)
-      | inr w ↦
-          free-own sizes day series _ _ _ (start .pre) (start .args .at) _ _ (in-window (ranged places)) _ slot some _
-          event (w .left)
-    ])
-    _ (goes .re-place .ensures)
+    (sym (clear .before .overlaps-neighbour .ensures) ∙ clear .if3 .left) _ (goes .re-place .ensures)
 
 pub move-to-spec : {M : Type 1} → statement M
 move-to-spec =
@@ -211,14 +173,9 @@ move-to-spec =
     same-length-3
     same-length-4
     returns-3
-    is-taken-requires
+    sub-re-place
+    re-place-requires
     same-length-5
     same-length-6
     same-length-7
-    returns-4
-    sub-re-place
-    re-place-requires
-    same-length-8
-    same-length-9
-    same-length-10
-    returns-5)
+    returns-4)

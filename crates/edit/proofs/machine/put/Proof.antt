@@ -7,8 +7,7 @@ use borrow.Author.Needs.{needs}
 use borrow.Author.Tests.{not-true, not-false}
 use Rattle.eit.specs.Pools.{lentPools}
 use Rattle.eit.specs.Sound.{inRange, hasChain}
-use Rattle.edit.proofs.PutLaws.{put-outside, put-unchained, put-present, put-overlaps, put-taken, put-full}
-use Rattle.edit.proofs.PutLaws.{put-goes-in}
+use Rattle.edit.proofs.PutLaws.{put-outside, put-unchained, put-present, put-overlaps, put-full, put-goes-in}
 use Rattle.edit.proofs.machine.put.Statement.{statement}
 use Rattle.edit.proofs.machine.put.Tie as tie
 
@@ -28,7 +27,7 @@ module _ (c : tie.Else2) where
   has-part : let a = entry ranged .args in hasChain (lentPools (now (a .day)) (now (a .series))) (a .event) ≡ true
   has-part = sym (c .before .has-chain .ensures) ∙ not-false (c .before .has-chain .result) (c .if2 .left)
 
--- 6 is, and the place is found; 30 is; 7 is
+-- 6 is, and the place is found
 abbrev chained : tie.Else3 → tie.Else2
 chained c = c .before .before .before
 
@@ -37,9 +36,6 @@ new c = c .before .before
 
 abbrev located : tie.After-overlaps-neighbour → tie.After-place-of
 located c = c .before .before .before
-
-abbrev apart : tie.Else5 → tie.Else4
-apart c = c .before .before .before
 
 is-in-range-requires : tie.Need-is-in-range-requires
 is-in-range-requires c κs = search needs
@@ -100,8 +96,8 @@ returns-4 c =
     _ (absent .before .slot-of .ensures) (absent .if3 .left) _ (found .place-of .ensures)
     (sym (c .before .overlaps-neighbour .ensures) ∙ c .if4 .taken)
 
-is-taken-requires : tie.Need-is-taken-requires
-is-taken-requires c κs = search needs
+limit-of-requires : tie.Need-limit-of-requires
+limit-of-requires c κs = search needs
 
 same-length-5 : tie.Need-same-length-5
 same-length-5 c = search needs
@@ -114,19 +110,22 @@ same-length-7 c = search needs
 
 returns-5 : tie.Need-returns-5
 returns-5 c =
-    let clear = c .before .before .before in
+    let clear = c .before .before in
     let found = located (clear .before) in
     let absent = new found in
     let part = chained absent in
     let start = entry (ranged part) in
-    put-taken (start .args .sizes) _ _ _ _ _ (start .pre .0) (start .args .at) _ (in-range (ranged part))
+    put-full (start .args .sizes) _ _ _ _ _ (start .pre .0) (start .args .at) _ (in-range (ranged part))
     (has-part part)
     _ (absent .before .slot-of .ensures) (absent .if3 .left) _ (found .place-of .ensures)
     (sym (clear .before .overlaps-neighbour .ensures) ∙ clear .if4 .left)
-    (sym (c .before .is-taken .ensures) ∙ c .if5 .taken)
+    (omega (arith, c .before .limit-of .ensures))
 
-limit-of-requires : tie.Need-limit-of-requires
-limit-of-requires c κs = search needs
+add-requires : tie.Need-add-requires
+add-requires c κs = search needs
+
+add-t28 : tie.Need-add-t28
+add-t28 c = search needs
 
 same-length-8 : tie.Need-same-length-8
 same-length-8 c = search needs
@@ -139,40 +138,9 @@ same-length-10 c = search needs
 
 returns-6 : tie.Need-returns-6
 returns-6 c =
-    let free = c .before .before in
-    let clear = apart free in
-    let found = located (clear .before) in
-    let absent = new found in
-    let part = chained absent in
-    let start = entry (ranged part) in
-    put-full (start .args .sizes) _ _ _ _ _ (start .pre .0) (start .args .at) _ (in-range (ranged part))
-    (has-part part)
-    _ (absent .before .slot-of .ensures) (absent .if3 .left) _ (found .place-of .ensures)
-    (sym (clear .before .overlaps-neighbour .ensures) ∙ clear .if4 .left)
-    (sym (free .before .is-taken .ensures) ∙ free .if5 .left)
-    (omega (arith, c .before .limit-of .ensures))
-
-add-requires : tie.Need-add-requires
-add-requires c κs = search needs
-
-add-t32 : tie.Need-add-t32
-add-t32 c = search needs
-
-same-length-11 : tie.Need-same-length-11
-same-length-11 c = search needs
-
-same-length-12 : tie.Need-same-length-12
-same-length-12 c = search needs
-
-same-length-13 : tie.Need-same-length-13
-same-length-13 c = search needs
-
-returns-7 : tie.Need-returns-7
-returns-7 c =
     let added = c .before .before .before .before .before .before in
     let room = added .before .before .before .before in
-    let free = room .before .before in
-    let clear = apart free in
+    let clear = room .before .before in
     let found = located (clear .before) in
     let absent = new found in
     let part = chained absent in
@@ -181,7 +149,6 @@ returns-7 c =
     (has-part part)
     _ (absent .before .slot-of .ensures) (absent .if3 .left) _ (found .place-of .ensures)
     (sym (clear .before .overlaps-neighbour .ensures) ∙ clear .if4 .left)
-    (sym (free .before .is-taken .ensures) ∙ free .if5 .left)
     (omega (arith, room .before .limit-of .ensures)) (start .pre .1) _ (added .add .ensures)
 
 pub put-spec : {M : Type 1} → statement M
@@ -201,19 +168,14 @@ put-spec =
     same-length-3
     same-length-4
     returns-4
-    is-taken-requires
+    limit-of-requires
     same-length-5
     same-length-6
     same-length-7
     returns-5
-    limit-of-requires
+    add-requires
+    add-t28
     same-length-8
     same-length-9
     same-length-10
-    returns-6
-    add-requires
-    add-t32
-    same-length-11
-    same-length-12
-    same-length-13
-    returns-7)
+    returns-6)
