@@ -28,12 +28,12 @@
 #include <stdint.h>
 
 /* The version of this face, by semantic versioning of its names, values and calls; the Rust wrapper has the same. Link
- * a library of the same major version: one before 4 lets events overlap, and one before 3 has calls of the same names
- * that take other arguments. */
-#define CHIRDALUKO_VERSION_MAJOR 4
+ * a library of the same major version, or of version 4, whose calls do the same; one before 4 lets events overlap, and
+ * one before 3 has calls of the same names that take other arguments. */
+#define CHIRDALUKO_VERSION_MAJOR 5
 #define CHIRDALUKO_VERSION_MINOR 0
 #define CHIRDALUKO_VERSION_PATCH 0
-#define CHIRDALUKO_VERSION "4.0.0"
+#define CHIRDALUKO_VERSION "5.0.0"
 
 #ifdef __cplusplus
 extern "C" {
@@ -68,7 +68,7 @@ enum {
     EIT_REFUSED_NOTHING_TO_UNDO = 4,
     EIT_REFUSED_OUT_OF_RANGE = 5,
     EIT_REFUSED_WRONG_ID = 6,
-    EIT_REFUSED_START_TAKEN = 7, /* not returned: an equal start is an overlap, and EIT_REFUSED_OVERLAP comes first */
+    /* 7 is not used again: an equal start is EIT_REFUSED_OVERLAP */
     EIT_REFUSED_LIST_FULL = 8,
     EIT_REFUSED_NO_CHAIN = 9,
     EIT_REFUSED_UNPACKABLE = 10,
@@ -102,8 +102,6 @@ static inline const char *eit_cause(uint32_t number) {
         return "PUT, MOVE: start, duration or marks out of range";
     case EIT_REFUSED_WRONG_ID:
         return "PUT: the list has the id already; WITHDRAW, MOVE: it has not";
-    case EIT_REFUSED_START_TAKEN:
-        return "PUT, MOVE: another event has the start; from version 4 on that is 30";
     case EIT_REFUSED_LIST_FULL:
         return "PUT: the list is at its limit";
     case EIT_REFUSED_NO_CHAIN:
@@ -189,7 +187,7 @@ enum {
 /* What Edit returns. */
 typedef struct EitEdited {
     uint32_t number; /* EIT_SUCCESS, or the refusal */
-    size_t value;    /* success: the new count; 3 to 9, 30: offset of the refused command's byte in the script; 12: 0 */
+    size_t value;    /* success: the new count; 12: 0; else the offset of the refused command's byte in the script */
     size_t count;    /* the count that the list has now, refused or not; after 12, 3 and 4 it is the given one */
 } EitEdited;
 
@@ -209,7 +207,7 @@ typedef struct EitEdited {
  *
  * Refusals: EIT_REFUSED_UNSOUND; EIT_REFUSED_BROKEN_SCRIPT over the whole script; EIT_REFUSED_NOTHING_TO_UNDO over the
  * whole script; then edit by edit EIT_REFUSED_OUT_OF_RANGE, EIT_REFUSED_NO_CHAIN, EIT_REFUSED_WRONG_ID,
- * EIT_REFUSED_OVERLAP, EIT_REFUSED_START_TAKEN, EIT_REFUSED_LIST_FULL.
+ * EIT_REFUSED_OVERLAP, EIT_REFUSED_LIST_FULL.
  * Left: after the first three all of `list` is as it was; after the others it is as the edits before the refused one
  * made it. Numbers that no edit changes stay, behind the list too. */
 EitEdited eit_edit(uint8_t caller, uint32_t *list, size_t list_length, size_t count, const uint8_t *day,

@@ -5,8 +5,7 @@
 /* The names stand for the numbers of documents 01 and 02. */
 _Static_assert(EIT_SUCCESS == 0 && EIT_REFUSED_BASE_DAY == 1 && EIT_REFUSED_VERSION == 2
                    && EIT_REFUSED_BROKEN_SCRIPT == 3 && EIT_REFUSED_NOTHING_TO_UNDO == 4
-                   && EIT_REFUSED_OUT_OF_RANGE == 5 && EIT_REFUSED_WRONG_ID == 6
-                   && EIT_REFUSED_START_TAKEN == 7 && EIT_REFUSED_LIST_FULL == 8
+                   && EIT_REFUSED_OUT_OF_RANGE == 5 && EIT_REFUSED_WRONG_ID == 6 && EIT_REFUSED_LIST_FULL == 8
                    && EIT_REFUSED_NO_CHAIN == 9 && EIT_REFUSED_UNPACKABLE == 10 && EIT_REFUSED_OUTPUT_SHORT == 11
                    && EIT_REFUSED_UNSOUND == 12 && EIT_REFUSED_OVERLAP == 30,
                "refusals of Edit and Build");

@@ -35,7 +35,6 @@ fn edits() {
         (EditRefusal::NothingToUndo { offset, count }, 4),
         (EditRefusal::OutOfRange { offset, count }, 5),
         (EditRefusal::WrongId { offset, count }, 6),
-        (EditRefusal::StartTaken { offset, count }, 7),
         (EditRefusal::ListFull { offset, count }, 8),
         (EditRefusal::NoChain { offset, count }, 9),
         (EditRefusal::Overlap { offset, count }, 30),

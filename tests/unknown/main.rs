@@ -52,7 +52,7 @@ fn main() {
     set_hook(Box::new(|_| ()));
     for number in (0..100).chain([u32::MAX]) {
         let is = |numbers: &[u32]| numbers.contains(&number);
-        if !is(&[0, 3, 4, 5, 6, 7, 8, 9, 12, 30]) {
+        if !is(&[0, 3, 4, 5, 6, 8, 9, 12, 30]) {
             panics(edited, number, 7, 7, 0);
         }
         if !is(&[0, 1, 2, 10, 11, 12]) {

@@ -30,7 +30,7 @@ pub const ALL: [Detail; 13] = [
          it may go over the event's old time, and up to it.",
         move_over_own,
     ),
-    ("An event with the start of another one overlaps it: PUT and MOVE say 30, and never 7.", equal_start),
+    ("An event with the start of another one overlaps it: PUT and MOVE say 30.", equal_start),
     ("An event may end past the last segment: at 5,529,599, the last start, it may have any duration.", past_the_end),
 ];
 

@@ -9,8 +9,9 @@
 //!
 //! An answer that is none of a call's, an unknown number or a value that its number does not come with, panics: the
 //! library is proved to return no such answer, so it is then of another version than this file, and no program could
-//! go on from there. Link a library of the same major version: one before 4 lets events overlap, and one before 3 has
-//! calls of the same names that take other arguments, and what they do then is undefined.
+//! go on from there. Link a library of the same major version, or of version 4, whose calls do the same; one before 4
+//! lets events overlap, and one before 3 has calls of the same names that take other arguments, and what they do then
+//! is undefined.
 //!
 //! ```
 //! use chirdaluko::{build, check, edit, place, read, BuildRefusal, Caller, Identity, Place, Pools, Record};
@@ -175,7 +176,6 @@ pub fn cause(number: u32) -> &'static str {
         4 => "UNDO with no edit before it that is not yet struck",
         5 => "PUT, MOVE: start, duration or marks out of range",
         6 => "PUT: the list has the id already; WITHDRAW, MOVE: it has not",
-        7 => "PUT, MOVE: another event has the start; from version 4 on that is 30",
         8 => "PUT: the list is at its limit",
         9 => "PUT: the descriptors lie outside their pool, do not end where their part ends, or one has tag 0xFF",
         10 => "a segment needs a ninth section, or has an event with over 4,066 bytes of descriptors, for cable 994",
@@ -216,8 +216,6 @@ pub enum EditRefusal {
     WrongId { offset: usize, count: usize },
     /// 30: PUT, MOVE: the event would overlap another one. Touching is legal, and so is a moved event's own old time.
     Overlap { offset: usize, count: usize },
-    /// 7: not returned: an event with the start of another one overlaps it, and `Overlap` comes first.
-    StartTaken { offset: usize, count: usize },
     /// 8: PUT: the list is at its limit.
     ListFull { offset: usize, count: usize },
 }
@@ -230,7 +228,6 @@ impl EditRefusal {
             EditRefusal::NothingToUndo { offset, count } => (4, offset, count),
             EditRefusal::OutOfRange { offset, count } => (5, offset, count),
             EditRefusal::WrongId { offset, count } => (6, offset, count),
-            EditRefusal::StartTaken { offset, count } => (7, offset, count),
             EditRefusal::ListFull { offset, count } => (8, offset, count),
             EditRefusal::NoChain { offset, count } => (9, offset, count),
             EditRefusal::Unsound { count } => (12, 0, count),
@@ -420,7 +417,6 @@ pub fn edit(caller: Caller, list: &mut [u32], count: usize, pools: Pools, script
         4 => EditRefusal::NothingToUndo { offset, count },
         5 => EditRefusal::OutOfRange { offset, count },
         6 => EditRefusal::WrongId { offset, count },
-        7 => EditRefusal::StartTaken { offset, count },
         8 => EditRefusal::ListFull { offset, count },
         9 => EditRefusal::NoChain { offset, count },
         12 => EditRefusal::Unsound { count },
