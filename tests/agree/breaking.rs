@@ -7,8 +7,8 @@ use crate::random::Random;
 use crate::scripts::Command;
 use crate::times::Times;
 
-/// PUT that breaks these of 5, 9, 6, 30 and 7, and no other, but that 5 may bring 30 with it, and 30 may bring 7. Where 7
-/// is among them, 30 is. Whether it breaks 8 lies with the list.
+/// PUT that breaks these of 5, 9, 6 and 30, and no other, but that 5 may bring 30 with it; 30 often by an equal start.
+/// Whether it breaks 8 lies with the list.
 pub fn put(random: &mut Random, pools: &Pools, held: &Held, broken: &[u32]) -> Command {
     Command::Put(broken_record(random, pools, held, broken))
 }
@@ -24,10 +24,12 @@ pub fn put_tagged(random: &mut Random, pools: &Pools, held: &Held, broken: &[u32
 fn broken_record(random: &mut Random, pools: &Pools, held: &Held, broken: &[u32]) -> [u32; NUMBERS] {
     let mut record = record(random, pools);
     record[ID] = if broken.contains(&6) { held.event(random).0 } else { held.new_id(random) };
-    let times = match (broken.contains(&30), broken.contains(&7)) {
-        (true, false) => held.overlapping(random),
-        (_, true) => Times { start: held.event(random).1.start, duration: record[DURATION] },
-        _ => held.free(random),
+    let times = if !broken.contains(&30) {
+        held.free(random)
+    } else if random.one_in(3) {
+        Times { start: held.event(random).1.start, duration: record[DURATION] }
+    } else {
+        held.overlapping(random)
     };
     record[START..MARKS].copy_from_slice(&times.numbers());
     if broken.contains(&9) {
@@ -46,7 +48,7 @@ fn broken_record(random: &mut Random, pools: &Pools, held: &Held, broken: &[u32]
             values.extend([(DURATION, 0), (START, record[START] | high_bit(random, START))]);
         }
         // A start out of range is no event's, but the last one may go on up to it.
-        if broken.contains(&30) == (held.timetable.end() > START_END) && !broken.contains(&7) {
+        if broken.contains(&30) == (held.timetable.end() > START_END) {
             values.push((START, START_END));
         }
         let (field, value) = random.pick(&values);
@@ -55,20 +57,19 @@ fn broken_record(random: &mut Random, pools: &Pools, held: &Held, broken: &[u32]
     record
 }
 
-/// MOVE that breaks these of 5, 6, 30 and 7, and no other, but that 30 may bring 7 with it. The list has two events or
-/// more, 5 is not among them with 30, and 7 is with it.
+/// MOVE that breaks these of 5, 6 and 30, not both 5 and 30, and no other; 30 often by an equal start. The list has two
+/// events or more.
 pub fn move_one(random: &mut Random, held: &Held, broken: &[u32]) -> Command {
     let (held_id, own) = held.event(random);
     let id = if broken.contains(&6) { held.new_id(random) } else { held_id };
     let start = if broken.contains(&5) {
         let high = held.free(random).start | high_bit(random, START);
         random.pick(&[START_END, high])
-    } else if broken.contains(&7) {
-        held.other_times(random, own).start
     } else if broken.contains(&30) {
         let other = held.other_times(random, own);
         let seconds = other.duration.min(START_END - other.start);
-        other.start + random.below(seconds as usize) as u32
+        let later = random.below(seconds as usize) as u32;
+        other.start + random.pick(&[0, later])
     } else {
         held.free(random).start
     };

@@ -25,7 +25,7 @@ pub fn run(comparison: &mut Comparison) -> Result<(), String> {
         }
     }
     fill(comparison, random, &pools, 0, full + 600)?;
-    for numbers in [full, full + 6, 8 * full] {
+    for numbers in [full, full + 6, 8 * full].repeat(4) {
         before_the_limit(comparison, random, &pools, numbers)?;
     }
     values(comparison, random, &pools)
@@ -82,7 +82,7 @@ fn before_the_limit(
 ) -> Result<(), String> {
     let list = List::sound(random, pools, comparison.caller.sizes().events, numbers);
     let held = Held::by(comparison.caller, &list);
-    for first in ORDER.into_iter().filter(|first| ![7, 8].contains(first)) {
+    for first in ORDER.into_iter().filter(|first| *first != 8) {
         let put = breaking::put(random, pools, &held, &[first, 8]);
         comparison.answers((first, 0), pools, &list, &bytes(&[put]))?;
         comparison.tally.precedence((PUT_AT_MOST, first, 8));

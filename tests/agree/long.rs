@@ -1,7 +1,7 @@
 //! Long scripts: refusals far behind the script's start, and edits that are carried out up to its end.
 
 use crate::breaking;
-use crate::edits::Comparison;
+use crate::edits::{Comparison, CALL_ORDER};
 use crate::held::Held;
 use crate::lists::List;
 use crate::other::Caller;
@@ -11,9 +11,6 @@ use crate::scripts::{bytes, unstruck, Command};
 
 const MB: usize = 1 << 20;
 
-/// Refusals of a script or an edit.
-const NUMBERS: [u32; 7] = [3, 4, 5, 9, 6, 30, 8];
-
 /// Commands from which on the library takes a script in halves, and these in halves again.
 const HALVED_TWICE: usize = 2 * 262_144;
 
@@ -22,11 +19,12 @@ pub fn run(comparison: &mut Comparison) -> Result<(), String> {
     let pools = Pools::of_lengths(random, 300, 200);
     let most = comparison.caller.sizes().events;
     carried_out(comparison, random, &pools, most / 2, most)?;
-    for number in NUMBERS {
+    // Each refusal of a script or an edit.
+    for number in &CALL_ORDER[1..] {
         // From 64 KB to 2 MB, so that each bit of the offset from 16 to 20 counts.
         for bit in [16, 17, 18, 19, 20].repeat(2) {
             let length = (1 << bit) + random.below(1 << bit);
-            refused(comparison, random, &pools, number, length)?;
+            refused(comparison, random, &pools, *number, length)?;
         }
     }
     if comparison.caller == Caller::Broadcast {
@@ -39,7 +37,7 @@ pub fn run(comparison: &mut Comparison) -> Result<(), String> {
 /// depends on the caller's sizes, so that one caller is enough.
 fn longest(comparison: &mut Comparison, random: &mut Random, pools: &Pools) -> Result<(), String> {
     carried_out(comparison, random, pools, 3, 12)?;
-    NUMBERS.into_iter().try_for_each(|number| refused(comparison, random, pools, number, 8 * MB))
+    CALL_ORDER[1..].iter().try_for_each(|number| refused(comparison, random, pools, *number, 8 * MB))
 }
 
 /// This refusal, behind at least so many bytes of commands that are carried out or struck.

@@ -3,7 +3,7 @@
 use crate::other::{EditMethod, Event, Follows, List, EDIT_PAPERS};
 use crate::wrong_follows;
 
-pub const METHODS: [(&str, EditMethod); 22] = [
+pub const METHODS: [(&str, EditMethod); 23] = [
     ("takes a list in which events overlap", with_follows(wrong_follows::by_starts)),
     ("takes a list in which events overlap by a second", with_follows(wrong_follows::by_a_second_too_few)),
     ("takes no list in which events touch", with_follows(wrong_follows::without_touching)),
@@ -18,10 +18,7 @@ pub const METHODS: [(&str, EditMethod); 22] = [
     ("puts by the event before alone", with_put(into_the_one_before)),
     ("puts by the event behind alone", with_put(into_the_next)),
     ("puts by the first event alone", with_put(|list, event| list.events().take(1).any(|first| overlap(first, event)))),
-    (
-        "puts by whether its start is taken",
-        with_put(|list, event| list.events().any(|other| (other.start..other.end()).contains(&event.start))),
-    ),
+    ("puts an event with the start of another", with_put(but_for_equal_starts)),
     ("puts no event that ends past the window", with_put(|list, event| list.overlaps(event) || is_past(event))),
     // MOVE.
     ("moves an event over another", with_move(|_, _, _| false)),
@@ -32,6 +29,7 @@ pub const METHODS: [(&str, EditMethod); 22] = [
     ("moves no event up to another", with_move(|others, _, moved| by(wrong_follows::without_touching, others, moved))),
     ("moves by the event before alone", with_move(|others, _, moved| into_the_one_before(others, moved))),
     ("moves by the event behind alone", with_move(|others, _, moved| into_the_next(others, moved))),
+    ("moves an event onto the start of another", with_move(|others, _, moved| but_for_equal_starts(others, moved))),
     (
         "compares a moved event with itself",
         with_move(|others, own, moved| others.overlaps(moved) || overlap(own, moved)),
@@ -81,6 +79,10 @@ fn into_the_one_before(list: &List, event: &Event) -> bool {
 
 fn into_the_next(list: &List, event: &Event) -> bool {
     list.events().any(|other| event.start < other.start && other.start < event.end())
+}
+
+fn but_for_equal_starts(list: &List, event: &Event) -> bool {
+    list.events().any(|other| other.start != event.start && overlap(other, event))
 }
 
 fn is_past(event: &Event) -> bool {

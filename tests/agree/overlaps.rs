@@ -1,4 +1,4 @@
-//! Overlap (02, W-204) of every kind in PUT: 30. Events that touch, and a last one that ends past the window, are taken.
+//! Overlap (02, W-204) of every kind in PUT: 30. Events that touch, and a last one that ends past the window, are put.
 
 use crate::edits::Comparison;
 use crate::lists::{List, DURATION_MAX, ID, START, START_END};
@@ -71,8 +71,8 @@ fn puts(comparison: &mut Comparison, random: &mut Random, pools: &Pools, list: &
     Ok(())
 }
 
-/// A last event that ends past the window is taken, in the list and by PUT. A start past the window is refused for that,
-/// also where the last event goes on.
+/// A last event that ends past the window is taken, in the list and by PUT. A start past the window is refused for
+/// that, also where the last event goes on.
 fn past_window(comparison: &mut Comparison, random: &mut Random, pools: &Pools, list: &List) -> Result<(), String> {
     for duration in [2, 3_600, DURATION_MAX] {
         let last = Times { start: START_END - 1, duration };

@@ -75,7 +75,6 @@ pub fn before_all(
         let script = match second {
             3 => vec![0x77],
             4 => vec![0x04],
-            7 => bytes(&[breaking::put(random, pools, &held, &[30, 7])]),
             _ => bytes(&[breaking::put(random, pools, &held, &[*second])]),
         };
         comparison.answers((12, 0), pools, unsound, &script)?;

@@ -1,4 +1,4 @@
-//! Edit: 01, "Edit" and "When a call says no", and 02, W-204 and W-206.
+//! Edit: 01, "Edit" and "When a call says no", and 02, W-204, W-206 and W-209.
 
 use super::caller::Caller;
 use super::event::{follows, is_chain, start_in_range, Event, Follows, IsChain, Pools, NUMBERS};
@@ -7,7 +7,6 @@ use super::script::{edits, Edit};
 
 const OUT_OF_RANGE: u32 = 5;
 const ID_PRESENT_OR_ABSENT: u32 = 6;
-const START_OF_ANOTHER: u32 = 7;
 const AT_LIMIT: u32 = 8;
 const NO_CHAIN: u32 = 9;
 const UNSOUND: u32 = 12;
@@ -21,7 +20,7 @@ pub struct Answer {
     pub count: usize,
 }
 
-/// What Edit goes by: the most events of a sound list and of one after a PUT, which parts are chains, and what overlaps.
+/// What Edit goes by: the most events of a sound list and of one after a PUT, which parts are chains, what overlaps.
 #[derive(Clone, Copy)]
 pub struct EditMethod {
     pub sound_max: fn(Caller) -> usize,
@@ -87,7 +86,6 @@ fn carry_out(method: EditMethod, list: &mut List, edit: &Edit, pools: Pools, lim
             keep(pools.hold_chain_of(&event), NO_CHAIN)?;
             keep(list.start_of(event.id).is_none(), ID_PRESENT_OR_ABSENT)?;
             keep(!(method.put_overlaps)(list, &event), OVERLAP)?;
-            keep(!list.has_start(event.start), START_OF_ANOTHER)?;
             keep(list.len() < limit, AT_LIMIT)?;
             list.insert(event);
         }
@@ -98,10 +96,9 @@ fn carry_out(method: EditMethod, list: &mut List, edit: &Edit, pools: Pools, lim
             keep(start_in_range(start), OUT_OF_RANGE)?;
             let event = list.remove(id).ok_or(ID_PRESENT_OR_ABSENT)?;
             let moved = Event { start, ..event };
-            let kept = keep(!(method.move_overlaps)(list, &event, &moved), OVERLAP)
-                .and_then(|()| keep(!list.has_start(start), START_OF_ANOTHER));
-            list.insert(if kept.is_ok() { moved } else { event });
-            kept?;
+            let overlaps = (method.move_overlaps)(list, &event, &moved);
+            list.insert(if overlaps { event } else { moved });
+            keep(!overlaps, OVERLAP)?;
         }
     }
     Ok(())

@@ -55,10 +55,6 @@ impl List {
         self.start_of.get(&id).copied()
     }
 
-    pub fn has_start(&self, start: u32) -> bool {
-        self.by_start.contains_key(&start)
-    }
-
     /// Whether the event overlaps one of the list. Of those that start before it is over, the last one ends last.
     pub fn overlaps(&self, event: &Event) -> bool {
         let last = self.by_start.range(..event.end()).next_back();

@@ -1,6 +1,6 @@
-//! Another implementation of document 01, with W-202, W-203, W-204 and W-206 of document 02, written from the papers
-//! alone and in a shape of its own. The library's answers are compared with it. Every function whose outcome depends on
-//! a size takes the caller, or its sizes.
+//! Another implementation of document 01, with W-202, W-203, W-204, W-206 and W-209 of document 02, written from the
+//! papers alone and in a shape of its own. The library's answers are compared with it. Every function whose outcome
+//! depends on a size takes the caller, or its sizes.
 
 mod before;
 mod build;

@@ -1,5 +1,5 @@
-//! Faults of what Build and Plan go by: the caller's sizes, chains, overlap and the packing rule. Each stands in for the
-//! library, and must show.
+//! Faults of what Build and Plan go by: the caller's sizes, chains, overlap and the packing rule. Each stands in for
+//! the library, and must show.
 
 use super::packings;
 use crate::other::{pack, Caller, Follows, IsChain, Method, Sizes, PAPERS};

@@ -1,4 +1,4 @@
-//! Which refusal comes where a section has an overlap (02, W-204) and asks for one more: 01, "Checks run in this order".
+//! Which refusal comes where a section has an overlap (02, W-204) and asks for another: 01, "Checks run in this order".
 
 use super::comparison::Comparison;
 use super::order::{END_ORDER, OVERLAP, SECTION_ORDER};
