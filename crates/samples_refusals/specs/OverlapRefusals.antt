@@ -1,7 +1,7 @@
 -- Read's 24 for an event that starts before the one before it ends (02, W-204: "Touching is legal. Read treats overlap
 -- as a broken event rule (24)"): in one section, and from section to section, always charged to the later one. Each
--- event 1 starts at 00:00:00, and event 2 when it ends or a second earlier. The value is in proofs/Refused.antt. Assumes
--- nothing.
+-- event 1 starts at 00:00:00, and event 2 when it ends or a second earlier. The value is in proofs/Refused.antt.
+-- Assumes nothing.
 use Prim.Native.Nat.{ℕ}
 use mathlib.Core.Path.{_≡_}
 use mathlib.Core.List.{List, [], _∷_, _++_}
