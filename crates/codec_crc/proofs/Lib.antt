@@ -1,6 +1,4 @@
 -- Laws of this crate's definitions, and the proofs of its functions.
--- two lists of numbers are the same, computed
-pub mod SameList
 -- what the tables hold
 pub mod TableLaws
 -- CRC_32 by the tables, block after block

@@ -2,6 +2,8 @@
 pub mod Test
 -- sizes and limits, as numbers
 pub mod Numbers
+-- two lists of numbers that are the same
+pub mod SameList
 -- big-endian fields and the numbers that they hold
 pub mod Fields
 -- writes into a buffer, and how they compose

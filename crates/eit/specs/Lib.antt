@@ -1,7 +1,8 @@
 -- Definitions, in the order of document 01.
 pub mod Sizes  -- bytes in a section, events in a list, by the caller
 pub mod Limits  -- ranges of a record's values, base day and version
-pub mod Identity  -- the identity of zeros
+pub mod Identity  -- how many tables there are, and the identity of zeros
+pub mod SameList  -- whether two lists of numbers are the same
 pub mod Fields  -- big-endian fields
 pub mod Overwrite  -- writing into a lent buffer
 pub mod Time  -- BCD digits and MJD, both ways

@@ -1,6 +1,7 @@
 // The types that the calls share, the least start behind an event, a caller's sizes, the time type, and the limits that
 // several crates ask for. Everything else of this crate is definitions (specs/) and laws (proofs/).
 use crate::limits::EVENTS_MAX;
+use crate::limits::TABLES;
 ghost use mathlib.Core.Path.{_≡_};
 ghost use mathlib.Core.Bool.{_&&_};
 ghost use mathlib.Core.List.{[]};
@@ -47,13 +48,14 @@ pub struct Triplet {
     pub original_network_id: u16,
 }
 
-// 01's term: identity. It is the same in every section of a file ("The file of sections").
+// 01's term: identity. The ids are the same in every section of a file, a version in every section of its table ("The
+// file of sections"; 02, W-208): versions[0] is that of table 0x50.
 pub struct Identity {
     pub triplet: Triplet,
-    pub version: u8,
+    pub versions: [u8; TABLES],
 }
 
-// Ids and version 0: what a refusal of Read returns.
+// Ids and versions 0: what a refusal of Read returns.
 pub fn zero_identity() -> Identity
     ensures { λ r. ⌜ r ≡ zeroIdentity ⌝ }
 {
@@ -64,7 +66,7 @@ pub fn zero_identity() -> Identity
     };
     Identity {
         triplet,
-        version: 0,
+        versions: [0; TABLES],
     }
 }
 

@@ -11,7 +11,7 @@ pub const MARKS_MAX: u32 = 7;
 // The base day is a Modified Julian Date of 0 to 65,472 ("Event record and sound list").
 pub const BASE_DAY_MAX: u32 = 65_472;
 
-// version (5 bits, 0 to 31) ("The file of sections").
+// A version has 5 bits, 0 to 31 ("The file of sections").
 pub const VERSION_MAX: u8 = 31;
 
 // Words of a set that has a bit for each id, 0 to 65,535.

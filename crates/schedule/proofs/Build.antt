@@ -2,12 +2,12 @@
 use mathlib.Core.Path.{_≡_, refl, sym, ap, ap₂, subst, _∙_}
 use mathlib.Core.Bool.{not}
 use mathlib.Core.Logic.{_⊎_, inl, inr, ⊎-elim}
-use mathlib.Core.List.{List, _++_}
+use mathlib.Core.List.{List, [], _∷_, _++_}
 use mathlib.Core.Option.{Option, none, some}
 use Prim.Native.Nat.{ℕ, _+_, _≤_, _<_}
 use native.Mathlib.Omega.{arith}
 use borrow.Author.Tests.{le-leb, lt-leb}
-use lib.Dec.{T}
+use lib.Dec.{T, leb, le→leb}
 use lib.ListN.{length, take, drop}
 use lib.Seq.{take-append-seam}
 use Rattle.eit.specs.declared.Sizes.{Sizes}
@@ -18,14 +18,23 @@ use Rattle.eit.specs.Records.{EventList}
 use Rattle.eit.specs.Events.{Event}
 use Rattle.eit.specs.Sound.{sound, eventsOf}
 use Rattle.eit.specs.declared.Identity.{Identity}
-use Rattle.eit.proofs.Test.{true-is, false-is, test-or, le-or-lt}
+use Rattle.eit.proofs.Test.{and-both, true-is, false-is, test-or, le-or-lt}
+use Rattle.sections.specs.Every.{Every}
 use Rattle.sections.specs.Section.{Section, sectionSizes}
 use Rattle.sections.specs.Encode.{fileBytes}
 use Rattle.sections.proofs.Lengths.{file-length}
 use Rattle.schedule.specs.SectionsOf.{lowestUnpackable, sectionsOf}
-use Rattle.schedule.specs.Build.{Built, refusal, written, buildEvents, build, fileOf}
+use Rattle.schedule.specs.Build.{Built, refusal, written, buildEvents, areVersions, build, fileOf}
 
 -- ---- 1, 2, 12, and the rest
+
+-- the versions of an identity that keeps the rules are legal
+pub legal-versions : (versions : List ℕ) → Every (λ (version : ℕ). version ≤ versionMax) versions
+    → T (areVersions versions)
+legal-versions [] few = tt
+legal-versions (version ∷ versions) few =
+    and-both (leb version versionMax) (areVersions versions) (le→leb version versionMax (few .0))
+    (legal-versions versions (few .1))
 
 module _ (sizes : Sizes) (pools : Pools) (list : EventList) (base : ℕ) (identity : Identity) (output : List ℕ) where
   pub build-base : baseDayMax < base
@@ -34,12 +43,12 @@ module _ (sizes : Sizes) (pools : Pools) (list : EventList) (base : ℕ) (identi
   build-base above = rw (build, lt-leb base baseDayMax above)
 
   module _ (day : base ≤ baseDayMax) where
-    pub build-version : versionMax < identity .version
+    pub build-version : T (not (areVersions (identity .versions)))
         → build sizes pools list base identity output ≡ record { number = 2; value = 0; output = output }
     unfolding build
-    build-version above = rw (build, le-leb base baseDayMax day, lt-leb (identity .version) versionMax above)
+    build-version above = rw (build, le-leb base baseDayMax day, false-is (areVersions (identity .versions)) above)
 
-    module _ (version : identity .version ≤ versionMax) where
+    module _ (legal : T (areVersions (identity .versions))) where
       pub build-unsound : T (not (sound sizes pools list))
           → build sizes pools list base identity output ≡ record { number = 12; value = 0; output = output }
       unfolding build
@@ -47,7 +56,7 @@ module _ (sizes : Sizes) (pools : Pools) (list : EventList) (base : ℕ) (identi
           rw (
             build,
             le-leb base baseDayMax day,
-            le-leb (identity .version) versionMax version,
+            true-is (areVersions (identity .versions)) legal,
             false-is (sound sizes pools list) unsound,
           )
 
@@ -58,7 +67,7 @@ module _ (sizes : Sizes) (pools : Pools) (list : EventList) (base : ℕ) (identi
           rw (
             build,
             le-leb base baseDayMax day,
-            le-leb (identity .version) versionMax version,
+            true-is (areVersions (identity .versions)) legal,
             true-is (sound sizes pools list) is,
           )
 
@@ -105,7 +114,7 @@ module _ (base : ℕ) (ss : List Section) (output : List ℕ) where
 
 -- ---- every outcome is a refusal, which leaves the output, or some sections written
 
-none-or-some : {A : Type 0} (o : Option A) → (o ≡ none) ⊎ ((x : A) × (o ≡ some x))
+pub none-or-some : {A : Type 0} (o : Option A) → (o ≡ none) ⊎ ((x : A) × (o ≡ some x))
 none-or-some none = inl refl
 none-or-some (some x) = inr (x, refl)
 
@@ -130,15 +139,15 @@ module _ (P : Built → Type 0) (sizes : Sizes) (base : ℕ) (identity : Identit
 
   pub build-is : (pools : Pools) (list : EventList) → P (build sizes pools list base identity output)
   build-is pools list =
-      ⊎-elim (λ day. ⊎-elim (λ version. ⊎-elim
-      (λ is. subst P (sym (build-sound sizes pools list base identity output day version is))
+      ⊎-elim (λ day. ⊎-elim (λ legal. ⊎-elim
+      (λ is. subst P (sym (build-sound sizes pools list base identity output day legal is))
       (events-is (eventsOf pools list)))
-      (λ unsound. subst P (sym (build-unsound sizes pools list base identity output day version unsound))
+      (λ unsound. subst P (sym (build-unsound sizes pools list base identity output day legal unsound))
       (refused 12 0 (λ e. omega arith)))
       (test-or (sound sizes pools list)))
       (λ above. subst P (sym (build-version sizes pools list base identity output day above))
       (refused 2 0 (λ e. omega arith)))
-      (le-or-lt (identity .version) versionMax))
+      (test-or (areVersions (identity .versions))))
       (λ above. subst P (sym (build-base sizes pools list base identity output above)) (refused 1 0 (λ e. omega arith)))
       (le-or-lt base baseDayMax)
 
@@ -158,14 +167,14 @@ module _ (sizes : Sizes) (pools : Pools) (list : EventList) (base : ℕ) (identi
       → Packs (build sizes pools list base identity output)
   build-packs is ends =
       ⊎-elim (λ day. ⊎-elim
-      (λ version.
+      (λ legal.
       subst Packs
-      (sym (build-sound sizes pools list base identity output day version is
+      (sym (build-sound sizes pools list base identity output day legal is
       ∙ events-written sizes base identity (eventsOf pools list) output ends))
       (written-packs (sectionsOf sizes identity (eventsOf pools list))))
       (λ above. subst Packs (sym (build-version sizes pools list base identity output day above))
       (λ e. omega arith, λ e. omega arith))
-      (le-or-lt (identity .version) versionMax))
+      (test-or (areVersions (identity .versions))))
       (λ above. subst Packs (sym (build-base sizes pools list base identity output above))
       (λ e. omega arith, λ e. omega arith))
       (le-or-lt base baseDayMax)

@@ -1,6 +1,6 @@
 -- The sections of Build's file keep the rules of a file, if no segment is unpackable: numbering by Numbers, events and
 -- sizes by Parts, and what is said of all events by Held. Assumes nothing.
-use mathlib.Core.Path.{_≡_}
+use mathlib.Core.Path.{_≡_, refl}
 use mathlib.Core.Bool.{not}
 use mathlib.Core.List.{List, [], _∷_}
 use Prim.Native.Nat.{ℕ, _≤_}
@@ -59,3 +59,12 @@ built-rules sizes identity es roomy legal facts fits =
       differ = rw all (facts .differ);
       few = rw all (facts .few);
     }
+
+pub built-last : (sizes : Sizes) (identity : Identity) (es : List Event)
+    (roomy : sectionOverhead ≤ sizes .«section_limit»)
+    (legal : IdentityRules identity)
+    (facts : SoundEvents sizes es)
+    (fits : (index : ℕ) → T (not (isUnpackable sizes es index)))
+    → built-rules sizes identity es roomy legal facts fits .lastTableId ≡ lastTableIdOf es
+unfolding built-rules
+built-last sizes identity es roomy legal facts fits = refl

@@ -15,13 +15,13 @@ use Rattle.eit.specs.declared.Identity.{Identity}
 use Rattle.eit.proofs.Test.{true-is, false-is}
 use Rattle.sections.specs.Section.{Section}
 use Rattle.sections.specs.Every.{Every}
-use Rattle.schedule.specs.Each.{each, lowest}
+use Rattle.sections.specs.Each.{each, lowest}
 use Rattle.schedule.specs.Extent.{lastTable, lastSegment, isInside}
 use Rattle.schedule.specs.SectionsOf.{isUnpackable, lowestUnpackable, sectionsOfSegment, sectionsOfTable}
 use Rattle.schedule.specs.SectionsOf.{sectionsOf}
 use Rattle.schedule.specs.Plan.{tabled}
-use Rattle.schedule.proofs.Each.{each-same, each-within, each-shift, each-rows}
-use Rattle.schedule.proofs.Each.{joined-none, joined-front, joined-rows, no-lowest, lowest-is}
+use Rattle.sections.proofs.Each.{each-same, each-within, each-shift, each-rows}
+use Rattle.sections.proofs.Each.{joined-none, joined-front, joined-rows, no-lowest, lowest-is}
 use Rattle.schedule.proofs.SoundEvents.{SoundEvents}
 use Rattle.schedule.proofs.Extent.{segment-in-table, tables-few, is-inside, inside-is}
 use Rattle.schedule.proofs.Held.{table-is, file-is}

@@ -55,9 +55,9 @@ use Rattle.schedule.proofs.Plan.{plan-sound, plan-unsound, tabled-at, c
 use Rattle.schedule.proofs.Plan.{count-outside}
 use Rattle.schedule.proofs.Plan.{count-unpackable}
 use Rattle.schedule.proofs.Given.{LegalSizes, legal-sizes}
-use Rattle.schedule.proofs.Given.{shown-rules, facts, ownSections, ownFile, build-or, own-rules}
+use Rattle.schedule.proofs.Given.{shown-rules, facts, ownSections, ownFile, build-or}
 use Rattle.schedule.proofs.Given.{own-events}
-use Rattle.schedule.proofs.Given.{own-carries, writes, rival-eight, own-counted}
+use Rattle.schedule.proofs.Given.{own-carries, ownIdentity, own-follows, writes, rival-eight, own-counted}
 
 -- ---- Demand 1: what a refusal leaves
 
@@ -117,18 +117,19 @@ module _ (sizes : Sizes) (legal : LegalSizes sizes) where
 
     reads : (buffer : List ℕ) → built g output .number ≡ 0 → RecordBuffer buffer
         → read sizes (g .base) (fileOf (built g output)) buffer .answer
-        ≡ record { number = 0; value = g .list .count; identity = g .identity; count = g .list .count }
+        ≡ success (ownIdentity legal g) (g .list .count)
     reads buffer zero size =
         let (fits, is, enough, file) = writes g output zero in
         let ss : List Section = ownSections g in
         let count : length (recordsFrom 0 ss) ≡ g .list .count =
         records-count 0 ss ∙ ap length (own-events g fits) ∙ events-length (g .pools) (g .list) in
         let few : g .list .count ≤ sizes .«event_limit» = sound-list sizes (g .pools) (g .list) (g .isSound) .few in
+        let (rules, absent) = own-follows legal g fits in
         ap (λ (f : List ℕ). read sizes (g .base) f buffer .answer) file
         ∙ ap (λ (r : Reading). r .answer)
-        (follows-read sizes (g .base) (legal .most) (g .legalBase) (g .identity) ss (own-rules legal g fits) buffer
+        (follows-read sizes (g .base) (legal .most) (g .legalBase) (ownIdentity legal g) ss rules absent buffer
         (omega (arith, legal .few)))
-        ∙ ap (success (g .identity)) count
+        ∙ ap (success (ownIdentity legal g)) count
 
     -- the value is the file's length, with 0 and with 11
     values : (built g output .number ≡ 10 → ⊥) → built g output .value ≡ sectionSizes (ownSections g)

@@ -16,9 +16,9 @@ use Rattle.sections.specs.Every.{Every}
 use Rattle.sections.specs.Count.{segmentEvents}
 use Rattle.sections.proofs.Every.{every-map}
 use Rattle.sections.proofs.Count.{events-more, events-same}
-use Rattle.schedule.specs.Each.{each}
+use Rattle.sections.specs.Each.{each}
 use Rattle.schedule.specs.Extent.{tableSegments, lastIndex, lastTable, lastSegment}
-use Rattle.schedule.proofs.Each.{joined-split}
+use Rattle.sections.proofs.Each.{joined-split}
 use Rattle.schedule.proofs.Extent.{startIndex, segment-in-table, last-most, segment-most}
 
 -- the events that start in a segment or in a later one

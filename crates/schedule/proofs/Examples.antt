@@ -7,6 +7,10 @@ use Rattle.eit.specs.Records.{recordsOf}
 use Rattle.eit.specs.Events.{follows}
 use Rattle.eit.specs.Sound.{sound, eventsOf}
 use Rattle.sections.specs.Section.{versionOf}
+use Rattle.sections.specs.Decode.{splitEvents, splitFile}
+use Rattle.sections.specs.HeaderTests.{isFramed, hasRightCrc, isHeader, hasRightNumbering}
+use Rattle.sections.specs.EventTests.{isEvent, isEventLoop, isWithinLimit}
+use Rattle.sections.specs.Read.{versionsIn, checkFile}
 use Rattle.schedule.specs.Plan.{plan}
 use Rattle.schedule.specs.Build.{build}
 use Rattle.schedule.specs.ExampleLists.{row}
@@ -36,15 +40,24 @@ examples =
 
 pub answers : Answers
 unfolding build plan sound eventsOf recordsOf follows choose isChain crc32 versionOf row
+    checkFile splitFile splitEvents isFramed hasRightCrc isHeader hasRightNumbering isEvent isEventLoop isWithinLimit
+    versionsIn
 answers =
     record {
       version-written = refl;
       byte-short = refl;
+      versions-by-section = refl;
+      versions-written = refl;
+      versions-back = refl;
+      version-present = refl;
+      version-absent = refl;
+      version-most = refl;
       base = refl;
       version = refl;
       unsound-list = refl;
       unpackable = refl;
       base-first = refl;
+      absent-version-first = refl;
       version-first = refl;
       unsound-first = refl;
       unpackable-first = refl;

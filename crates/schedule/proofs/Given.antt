@@ -4,7 +4,7 @@ use mathlib.Core.Path.{_≡_, sym, ap, subst, _∙_}
 use mathlib.Core.Bool.{not}
 use mathlib.Core.Logic.{_⊎_, inl, inr, ⊎-elim}
 use mathlib.Core.List.{List, []}
-use Prim.Native.Nat.{ℕ, _*_, _≤_, _<_}
+use Prim.Native.Nat.{ℕ, suc, _+_, _*_, _≤_, _<_}
 use native.Mathlib.Omega.{arith}
 use lib.Dec.{T}
 use lib.ListN.{length}
@@ -12,7 +12,9 @@ use Rattle.eit.specs.Sizes.{sectionOverhead}
 use Rattle.eit.specs.declared.Sizes.{Sizes}
 use Rattle.eit.specs.Fields.{Bytes}
 use Rattle.eit.specs.Records.{recordSize}
+use Rattle.eit.specs.Identity.{tables}
 use Rattle.eit.specs.Events.{Event}
+use Rattle.eit.specs.declared.Identity.{Identity}
 use Rattle.eit.proofs.Test.{le-or-lt}
 use Rattle.eit.proofs.SameEvent.{same-lists}
 use Rattle.sections.specs.Section.{Section, sectionEvents, sectionSizes}
@@ -22,19 +24,26 @@ use Rattle.sections.specs.Decode.{sectionsIn}
 use Rattle.sections.specs.Count.{firstSections, segmentSections, sectionsCounted, eventsCounted}
 use Rattle.sections.specs.Offsets.{filePools}
 use Rattle.sections.specs.Read.{Answer, checkFile, read, listOf}
-use Rattle.sections.specs.Exact.{acceptedNumbers, Accepted}
-use Rattle.sections.proofs.Exact.{accepted-rules, file-bytes, sections-in-back, follows-accepted}
+use Rattle.sections.specs.Exact.{acceptedNumbers, Accepted, ZeroWhereAbsent, SameUpTo}
+use Rattle.sections.specs.Segment.{tableFirst}
+use Rattle.sections.proofs.Every.{every-map}
+use Rattle.sections.proofs.Tables.{table-there, same-sym, same-rules}
+use Rattle.sections.proofs.Exact.{accepted-rules, file-bytes, sections-in-back, follows-shown}
 use Rattle.sections.proofs.Accepted.{some-buffer, accepted-check, check-accepted}
 use Rattle.sections.proofs.FileSound.{accepted-sound, accepted-events}
 use Rattle.sections.proofs.Count.{sections-counted, events-counted}
 use Rattle.schedule.specs.SectionsOf.{isUnpackable, sectionsOf}
-use Rattle.schedule.specs.Build.{Built, refusal, written, buildEvents, fileOf}
-use Rattle.schedule.specs.Given.{Given, built, events, Carries, EightHold}
-use Rattle.schedule.proofs.SoundEvents.{SoundEvents, sound-events}
+use Rattle.schedule.specs.Build.{Built, refusal, written, buildEvents, areVersions, fileOf}
+use Rattle.schedule.specs.Given.{Given, built, events, withTables, Carries, EightHold}
+use Rattle.schedule.specs.Extent.{lastTable, lastTableIdOf}
+use Rattle.schedule.proofs.SoundEvents.{EventFacts, SoundEvents, sound-events}
+use Rattle.schedule.proofs.Extent.{tables-few}
+use Rattle.schedule.proofs.UnderIdentity.{with-tables-rules, with-tables-same, with-tables-absent}
 use Rattle.schedule.proofs.Held.{sections-events}
-use Rattle.schedule.proofs.BuiltRules.{built-rules}
+use Rattle.schedule.proofs.BuiltRules.{built-rules, built-last}
 use Rattle.schedule.proofs.Rival.{segment-eight-hold}
-use Rattle.schedule.proofs.Build.{build-sound, events-refused, events-written, written-short, written-file}
+use Rattle.schedule.proofs.Build.{legal-versions, build-sound, events-refused, events-written, written-short}
+use Rattle.schedule.proofs.Build.{written-file}
 use Rattle.schedule.proofs.Packable.{packable-or}
 
 -- ---- accepted files
@@ -74,7 +83,7 @@ module _ {sizes : Sizes} (g : Given sizes) where
   build-or =
       let sounds : (output : List ℕ) → built g output ≡ buildEvents sizes (g .base) (g .identity) (events g) output =
       λ output. build-sound sizes (g .pools) (g .list) (g .base) (g .identity) output (g .legalBase)
-      (g .legalIdentity .version) (g .isSound) in
+      (legal-versions (g .identity .versions) (g .legalIdentity .versionRules)) (g .isSound) in
       ⊎-elim
       (λ (ends, fits). inl
       (fits, λ output. sounds output ∙ events-written sizes (g .base) (g .identity) (events g) output ends))
@@ -120,13 +129,17 @@ module _ {sizes : Sizes} (legal : LegalSizes sizes) (g : Given sizes) where
   pub own-rules : Fits g → Rules sizes (g .identity) (ownSections g)
   own-rules fits = built-rules sizes (g .identity) (events g) (legal .least) (g .legalIdentity) (facts g) fits
 
+  pub own-last : (fits : Fits g) → own-rules fits .lastTableId ≡ lastTableIdOf (events g)
+  unfolding own-rules
+  own-last fits = built-last sizes (g .identity) (events g) (legal .least) (g .legalIdentity) (facts g) fits
+
   pub own-carries : Fits g → Carries g (ownFile g)
   own-carries fits =
       let rules = own-rules fits in
       let accepted : Accepted sizes (g .base) (ownFile g) =
       check-accepted sizes (g .base) (ownFile g) (legal .few)
       (ap (λ (a : Answer). a .number)
-      (follows-accepted sizes (g .base) (legal .most) (g .legalBase) (g .identity) (ownSections g) rules)) in
+      (follows-shown sizes (g .base) (legal .most) (g .legalBase) (g .identity) (ownSections g) rules)) in
       let bytes : Bytes (ownFile g) =
       file-bytes sizes (g .base) (legal .most) (g .legalBase) (g .identity) (ownSections g) rules in
       record {
@@ -141,6 +154,40 @@ module _ {sizes : Sizes} (legal : LegalSizes sizes) (g : Given sizes) where
             (sections-in-back sizes (g .base) (legal .most) (g .legalBase) (g .identity) (ownSections g) rules)
             ∙ own-events g fits);
       }
+
+  -- the tables that it has, and the identity that Read returns
+  own-tables : lastTable (events g) < tables
+  own-tables =
+      tables-few (events g) (every-map (λ (e : Event) (f : EventFacts e). f .start) (events g) (facts g .facts))
+
+  abbrev pub ownIdentity : Identity
+  ownIdentity = withTables (suc (lastTable (events g))) (g .identity)
+
+  pub own-versions : T (areVersions (ownIdentity .versions))
+  own-versions =
+      legal-versions (ownIdentity .versions)
+      (with-tables-rules (suc (lastTable (events g))) own-tables (g .identity) (g .legalIdentity) .versionRules)
+
+  pub own-same : SameUpTo (lastTableIdOf (events g)) ownIdentity (g .identity)
+  own-same =
+      same-sym (lastTableIdOf (events g)) (g .identity) ownIdentity
+      (with-tables-same (suc (lastTable (events g))) own-tables (g .identity) (g .legalIdentity)
+      (lastTableIdOf (events g)) (omega arith))
+
+  pub own-follows : Fits g → Rules sizes ownIdentity (ownSections g) × ZeroWhereAbsent ownIdentity (ownSections g)
+  own-follows fits =
+      let n : ℕ = suc (lastTable (events g)) in
+      let rules = own-rules fits in (
+        same-rules sizes (g .identity) ownIdentity (ownSections g) rules
+            (with-tables-rules n own-tables (g .identity) (g .legalIdentity))
+            (with-tables-same n own-tables (g .identity) (g .legalIdentity) (rules .lastTableId)
+            (omega (arith, own-last fits))),
+        λ table least nowhere. ⊎-elim
+            (λ past. with-tables-absent n own-tables (g .identity) (g .legalIdentity) table past)
+            (λ inside. absurd (table-there sizes (g .identity) (ownSections g) rules table least
+            (omega (arith, own-last fits)) nowhere))
+            (le-or-lt (tableFirst + n) table),
+      )
 
   -- its sections and events, counted
   pub own-counted : Fits g → (index : ℕ)

@@ -12,11 +12,11 @@ use Rattle.eit.specs.declared.Identity.{Identity}
 use Rattle.sections.specs.Segment.{firstSection}
 use Rattle.sections.specs.Section.{Section, sectionEvents}
 use Rattle.sections.specs.Count.{segmentEvents}
-use Rattle.schedule.specs.Each.{each}
+use Rattle.sections.specs.Each.{each}
 use Rattle.schedule.specs.Extent.{tableSegments, lastTable, lastSegment}
 use Rattle.schedule.specs.SectionsOf.{isUnpackable, packedSegment, numberedFrom, sectionsOfSegment}
 use Rattle.schedule.specs.SectionsOf.{sectionsOfTable, sectionsOf}
-use Rattle.schedule.proofs.Each.{each-same, joined-map}
+use Rattle.sections.proofs.Each.{each-same, joined-map}
 use Rattle.schedule.proofs.EventsFrom.{segmentHeld, tableHeld, all-held}
 use Rattle.schedule.proofs.Parts.{parts-events}
 

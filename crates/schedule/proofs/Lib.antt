@@ -1,5 +1,3 @@
--- functions of numbers in a row
-pub mod Each
 -- the events of a sound list
 pub mod SoundEvents
 -- which segments Build's file has
@@ -18,6 +16,8 @@ pub mod Linked
 pub mod Numbers
 -- the sections of Build's file keep the rules
 pub mod BuiltRules
+-- its sections under another identity
+pub mod UnderIdentity
 -- any file that keeps the rules packs its segments
 pub mod Rival
 -- Build case by case
@@ -40,7 +40,17 @@ pub mod Only
 pub mod Demands
 -- what W-206 claims
 pub mod Callers
--- three laws of Build's file
+-- what is left of a section, version and CRC_32 aside
+pub mod LeftBytes
+-- and of a table
+pub mod TableBytes
+-- Rebuild case by case
+pub mod Rebuild
+-- laws of Build's file
 pub mod BuiltFile
+-- what W-208 claims
+pub mod Versions
 -- the examples and answers, computed
 pub mod Examples
+-- those of Rebuild
+pub mod RebuildExamples

@@ -7,7 +7,7 @@ use Prim.Native.Nat.{ℕ, zero, suc, _+_, _≤_, _<_}
 use native.Mathlib.Omega.{arith}
 use Rattle.sections.specs.Section.{Header, Section, headersOf}
 use Rattle.sections.specs.Rules.{First, Next, Last, Succeeding, Ordered}
-use Rattle.schedule.specs.Each.{each}
+use Rattle.sections.specs.Each.{each}
 
 -- headers from g to z, each right behind the one before it
 pub data Linked : Header → Header → List Header → Type 0 where

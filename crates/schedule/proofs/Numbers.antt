@@ -20,7 +20,7 @@ use Rattle.schedule.specs.Extent.{lastTable, lastTableIdOf, lastSegment}
 use Rattle.schedule.specs.SectionsOf.{packedSegment, segmentLast, tableLast, headerOf, numberedFrom}
 use Rattle.schedule.specs.SectionsOf.{sectionsOfSegment, sectionsOfTable}
 use Rattle.schedule.specs.SectionsOf.{sectionsOf}
-use Rattle.schedule.proofs.Each.{joined-every}
+use Rattle.sections.proofs.Each.{joined-every}
 use Rattle.schedule.proofs.Extent.{segment-in-table}
 use Rattle.schedule.proofs.Parts.{OneOrFilled, parts-some, parts-few}
 use Rattle.schedule.proofs.Linked.{Linked, one, more, linked-ordered, row-linked}

@@ -17,12 +17,15 @@ use Rattle.sections.specs.Decode.{sectionsIn}
 use Rattle.sections.specs.Count.{segmentEvents, segmentSections, sectionsCounted, eventsCounted}
 use Rattle.sections.specs.Read.{checkFile}
 use Rattle.sections.proofs.Count.{counted-is, held-is}
+use Rattle.sections.specs.Exact.{SameUpTo}
 use Rattle.sections.proofs.Only.{sections-only}
+use Rattle.sections.proofs.Tables.{same-rules}
+use Rattle.schedule.specs.Extent.{lastTableIdOf}
 use Rattle.schedule.specs.Build.{fileOf}
 use Rattle.schedule.specs.Given.{Given, built, events, Carries}
 use Rattle.schedule.proofs.Rival.{segment-packing, segment-parts, first-held}
-use Rattle.schedule.proofs.Given.{LegalSizes, shown-rules, ownSections, own-rules, own-events, own-counted}
-use Rattle.schedule.proofs.Given.{own-held}
+use Rattle.schedule.proofs.Given.{LegalSizes, shown-rules, ownSections, own-rules, own-last, own-events}
+use Rattle.schedule.proofs.Given.{own-counted, own-held}
 use Rattle.schedule.proofs.Given.{writes, rival-rules, rival-events}
 use Rattle.schedule.proofs.BestFile.{fewest, most}
 
@@ -51,23 +54,25 @@ module _ (sizes : Sizes) (identity : Identity) (ss ts : List Section)
 module _ (sizes : Sizes) (legal : LegalSizes sizes) (g : Given sizes) (output : List ℕ)
     (zero : built g output .number ≡ 0)
     (file : List ℕ) (c : Carries g file) where
-  -- under the same identity, with no more sections in any segment and no fewer events in its first k, a file is
-  -- Build's, byte for byte
-  pub built-only : checkFile sizes (g .base) file .identity ≡ g .identity
+  -- with the same triplet and the same versions of its tables, with no more sections in any segment and no fewer events
+  -- in its first k, a file is Build's, byte for byte
+  pub built-only : SameUpTo (lastTableIdOf (events g)) (g .identity) (checkFile sizes (g .base) file .identity)
       → ((index : ℕ) → sectionsCounted (g .base) file index ≤ sectionsCounted (g .base) (fileOf (built g output)) index)
       → ((index k : ℕ) → k ≤ 8
       → eventsCounted (g .base) (fileOf (built g output)) index k ≤ eventsCounted (g .base) file index k)
       → file ≡ fileOf (built g output)
-  built-only identity few as-many =
+  built-only sameIdentity few as-many =
       let (fits, is, enough, own) = writes g output zero in
       let ss : List Section = sectionsIn (g .base) file in
       let ts : List Section = ownSections g in
-      let ours : Rules sizes (g .identity) ss =
-      subst (λ (i : Identity). Rules sizes i ss) identity (rival-rules g file c) in
-      let theirs : Rules sizes (g .identity) ts = own-rules legal g fits in
+      let identity : Identity = checkFile sizes (g .base) file .identity in
+      let ours : Rules sizes identity ss = rival-rules g file c in
+      let theirs : Rules sizes identity ts =
+      same-rules sizes (g .identity) identity ts (own-rules legal g fits) (ours .identityRules)
+      (subst (λ (l : ℕ). SameUpTo l (g .identity) identity) (sym (own-last legal g fits)) sameIdentity) in
       let same : ss ≡ ts =
-      sections-only sizes (g .identity) ss ts ours theirs
-      (λ index. counts-only sizes (g .identity) ss ts ours theirs
+      sections-only sizes identity ss ts ours theirs
+      (λ index. counts-only sizes identity ss ts ours theirs
       (rival-events g file c ∙ sym (own-events g fits)) index
       (omega (
         arith,
@@ -84,7 +89,7 @@ module _ (sizes : Sizes) (legal : LegalSizes sizes) (g : Given sizes) (output : 
         held-is (g .base) file index k,
         ap (λ (f : List ℕ). eventsCounted (g .base) f index k) own,
         own-held legal g fits index k,
-        first-held sizes (g .identity) ss ours index k eight,
-        first-held sizes (g .identity) ts theirs index k eight,
+        first-held sizes identity ss ours index k eight,
+        first-held sizes identity ts theirs index k eight,
       ))) in
       sym (shown-rules sizes (g .base) file (c .bytes) (c .accepted) .1) ∙ ap (fileBytes (g .base)) same ∙ sym own

@@ -22,7 +22,7 @@ use Rattle.sections.proofs.Count.{events-same}
 use Rattle.schedule.specs.Extent.{lastIndex}
 use Rattle.schedule.specs.SectionsOf.{isUnpackable, lowestUnpackable}
 use Rattle.schedule.specs.Given.{EightHold}
-use Rattle.schedule.proofs.Each.{lowest-or}
+use Rattle.sections.proofs.Each.{lowest-or}
 use Rattle.schedule.proofs.SoundEvents.{EventFacts, SoundEvents}
 use Rattle.schedule.proofs.Extent.{startIndex, tables-few, last-most}
 

@@ -13,17 +13,18 @@ use Rattle.eit.specs.declared.Sizes.{Sizes}
 use Rattle.eit.specs.Pools.{Pools}
 use Rattle.eit.specs.Records.{EventList}
 use Rattle.eit.specs.Events.{Event, rising}
+use Rattle.eit.specs.Identity.{tables}
 use Rattle.eit.specs.Sound.{sound, eventsOf}
 use Rattle.eit.specs.declared.Identity.{Identity}
 use Rattle.eit.proofs.Test.{test-or, true-is, false-is}
 use Rattle.packing.specs.Greedy.{reach}
 use Rattle.sections.specs.Section.{Section, eventSize}
 use Rattle.sections.specs.Count.{segmentEvents, segmentSections}
-use Rattle.schedule.specs.Each.{each}
-use Rattle.schedule.specs.Extent.{tables, tableSegments, isInside}
+use Rattle.sections.specs.Each.{each}
+use Rattle.schedule.specs.Extent.{tableSegments, isInside}
 use Rattle.schedule.specs.SectionsOf.{isUnpackable, packedSegment, sectionsOfSegment, sectionsOf}
 use Rattle.schedule.specs.Plan.{sectionCount, tabled, plan, planned}
-use Rattle.schedule.proofs.Each.{each-length, each-at}
+use Rattle.sections.proofs.Each.{each-length, each-at}
 use Rattle.schedule.proofs.Extent.{held-inside}
 use Rattle.schedule.proofs.Parts.{parts-few}
 use Rattle.schedule.proofs.Segments.{sections-inside, sections-outside}

@@ -14,11 +14,11 @@ use Rattle.sections.specs.Segment.{firstSection}
 use Rattle.sections.specs.Section.{Section}
 use Rattle.sections.specs.Count.{isInFirst, segmentSections}
 use Rattle.sections.proofs.Count.{in-first, first-in, first-more, first-same, first-append}
-use Rattle.schedule.specs.Each.{each}
+use Rattle.sections.specs.Each.{each}
 use Rattle.schedule.specs.Extent.{tableSegments, lastTable, lastSegment, isInside}
 use Rattle.schedule.specs.SectionsOf.{packedSegment, headerOf, numberedFrom, sectionsOfSegment, sectionsOfTable}
 use Rattle.schedule.specs.SectionsOf.{sectionsOf}
-use Rattle.schedule.proofs.Each.{joined-map, joined-none, joined-only}
+use Rattle.sections.proofs.Each.{joined-map, joined-none, joined-only}
 use Rattle.schedule.proofs.Extent.{segment-in-table, is-inside, inside-is}
 use Rattle.schedule.proofs.Held.{table-is, file-is}
 

@@ -1,8 +1,8 @@
 -- Build as one total function of list, pools, base day, identity and output (01, "Build, Read", "When a call says no").
 -- Laws: proofs/Build.antt. Assumes nothing.
 use Prim.Native.Nat.{ℕ}
-use mathlib.Core.Bool.{true, false}
-use mathlib.Core.List.{List}
+use mathlib.Core.Bool.{Bool, true, false, _&&_}
+use mathlib.Core.List.{List, [], _∷_}
 use mathlib.Core.Option.{none, some}
 use lib.Dec.{leb}
 use lib.ListN.{length, take}
@@ -48,13 +48,18 @@ buildEvents sizes base identity es output =
       | none ↦ written base (sectionsOf sizes identity es) output
     ]
 
+-- 02, W-208: "2 is given if any is above 31", of all sixteen
+abbrev pub areVersions : List ℕ → Bool
+areVersions [] = true
+areVersions (version ∷ versions) = leb version versionMax && areVersions versions
+
 -- Build: 1, 2, 12, 10, 11
 unfoldable pub build : Sizes → Pools → EventList → ℕ → Identity → List ℕ → Built
 unfolding buildEvents
 build sizes pools list base identity output =
     elim (leb base baseDayMax) [
       | false ↦ refusal 1 0 output
-      | true ↦ elim (leb (identity .version) versionMax) [
+      | true ↦ elim (areVersions (identity .versions)) [
         | false ↦ refusal 2 0 output
         | true ↦ elim (sound sizes pools list) [
           | false ↦ refusal 12 0 output

@@ -18,7 +18,7 @@ use Rattle.script.specs.Machine.{limitOf}
 use Rattle.sections.specs.Section.{Section, sectionSize, sectionEvents}
 use Rattle.sections.specs.Every.{Every}
 use Rattle.sections.specs.Decode.{headerIn, splitEvents, splitFile, sectionsIn}
-use Rattle.sections.specs.HeaderTests.{isFramed, hasRightCrc, isHeader, hasRightNumbering}
+use Rattle.sections.specs.HeaderTests.{latest, isFramed, hasRightCrc, isHeader, hasRightNumbering}
 use Rattle.sections.specs.EventTests.{isEventLoop}
 use Rattle.sections.specs.Walk.{Progress, atStart, passed, walk}
 use Rattle.sections.specs.Read.{refusal, checkFile}
@@ -57,7 +57,7 @@ pub record Callers : Type 0 where
       → splitFile file ≡ front ++ bs ∷ rest
       → walk cable base atStart front ≡ passed p
       → T (isFramed cable bs) → T (hasRightCrc bs) → T (isHeader (p .before) bs)
-      → T (hasRightNumbering (p .before) (headerIn bs)) → T (isEventLoop base (p .seen) bs)
+      → T (hasRightNumbering (latest (p .before)) (headerIn bs)) → T (isEventLoop base (p .seen) bs)
       → 257 ≤ length (p .seen) + length (splitEvents bs)
       → checkFile cable base file ≡ refusal 26 (length (flatten front))
   -- beside the request, what the callers share: cable accepts broadcast's files that are within its sizes

@@ -8,7 +8,7 @@
 use mathlib.Core.Path.{_≡_}
 use mathlib.Core.Bool.{not}
 use mathlib.Core.Logic.{_↔_}
-use Prim.Native.Nat.{ℕ, _*_, _≤_, _<_}
+use Prim.Native.Nat.{ℕ, suc, _*_, _≤_, _<_}
 use mathlib.Core.List.{List}
 use lib.Dec.{T}
 use lib.ListN.{length}
@@ -29,10 +29,11 @@ use Rattle.sections.specs.Decode.{sectionsIn}
 use Rattle.sections.specs.Count.{sectionsCounted, eventsCounted}
 use Rattle.sections.specs.Offsets.{filePools}
 use Rattle.sections.specs.Read.{checkFile, read, listOf}
-use Rattle.sections.specs.Exact.{RecordBuffer, Accepted, FollowsRules, readingOf}
+use Rattle.sections.specs.Exact.{RecordBuffer, Accepted, SameUpTo, FollowsRules, readingOf}
+use Rattle.schedule.specs.Extent.{lastTable, lastTableIdOf}
 use Rattle.schedule.specs.Plan.{plan, planned}
 use Rattle.schedule.specs.Build.{build, fileOf}
-use Rattle.schedule.specs.Given.{Given, built, events, Carries, EightHold}
+use Rattle.schedule.specs.Given.{Given, built, events, withTables, Carries, EightHold}
 use Rattle.schedule.specs.Refused.{RefusedFor}
 
 pub record DemandsFor (sizes : Sizes) : Type 0 where
@@ -73,7 +74,12 @@ pub record DemandsFor (sizes : Sizes) : Type 0 where
       → Carries g (fileOf (built g output))
   pub built-read : (g : Given sizes) (output buffer : List ℕ) → built g output .number ≡ 0 → RecordBuffer buffer
       → read sizes (g .base) (fileOf (built g output)) buffer .answer
-      ≡ record { number = 0; value = g .list .count; identity = g .identity; count = g .list .count }
+      ≡ record {
+        number = 0;
+        value = g .list .count;
+        identity = withTables (suc (lastTable (events g))) (g .identity);
+        count = g .list .count;
+      }
   -- unless Build says 10 it gives the file's length for every output: with 0 where the file fits, with 11 where it does
   -- not
   pub built-length : (g : Given sizes) (output other : List ℕ) → (built g output .number ≡ 10 → ⊥)
@@ -111,9 +117,12 @@ pub record DemandsFor (sizes : Sizes) : Type 0 where
   pub most-events : (g : Given sizes) (output : List ℕ) → built g output .number ≡ 0
       → (file : List ℕ) → Carries g file → (index k : ℕ) → k ≤ 8
       → eventsCounted (g .base) file index k ≤ eventsCounted (g .base) (fileOf (built g output)) index k
-  -- and Build's file is the only one: under the same identity no other is as good in every segment
+  -- and Build's file is the only one: with the same triplet, and the same versions of the tables that Build's file has,
+  -- no other is as good in every segment. 02, W-208: "The best packing ignores versions": the two above ask for none,
+  -- and this one, of Build under a rival's own, says that as good a rival is Build's file
   pub built-only : (g : Given sizes) (output : List ℕ) → built g output .number ≡ 0
-      → (file : List ℕ) → Carries g file → checkFile sizes (g .base) file .identity ≡ g .identity
+      → (file : List ℕ) → Carries g file
+      → SameUpTo (lastTableIdOf (events g)) (g .identity) (checkFile sizes (g .base) file .identity)
       → ((index : ℕ) → sectionsCounted (g .base) file index ≤ sectionsCounted (g .base) (fileOf (built g output)) index)
       → ((index k : ℕ) → k ≤ 8
       → eventsCounted (g .base) (fileOf (built g output)) index k ≤ eventsCounted (g .base) file index k)

@@ -1,7 +1,6 @@
 -- Which segments Build's file has (01, "Build, Read": "last_table_id is that of the last event, 0x50 for no events.
 -- Each table ends with its last segment that has events, or with section 0 if it has none"). Tables are counted from 0
--- here: table 0x50 is
--- 0. Laws: proofs/Extent.antt. Assumes nothing.
+-- here: table 0x50 is 0. Laws: proofs/Extent.antt. Assumes nothing.
 use Prim.Native.Nat.{ℕ, _*_, _/_}
 use mathlib.Core.Bool.{Bool, true, false, _&&_}
 use mathlib.Core.List.{List, [], _∷_}
@@ -9,10 +8,7 @@ use lib.Dec.{eqb, leb}
 use Rattle.eit.specs.Events.{Event}
 use Rattle.sections.specs.Segment.{segmentIndex, tableOf}
 
--- tables 0x50 to 0x5F, and the segments of each
-abbrev pub tables : ℕ
-tables = 16
-
+-- the segments of each table
 abbrev pub tableSegments : ℕ
 tableSegments = 32
 

@@ -1,12 +1,13 @@
 -- What demands 2 and 3 speak of: what Build is given besides the output, files that are accepted and carry its events,
 -- and segments that eight sections hold (01, "Build, Read"). The demands are in specs/Demands.antt. Assumes nothing.
-use Prim.Native.Nat.{ℕ, _≤_}
-use mathlib.Core.List.{List, []}
+use Prim.Native.Nat.{ℕ, _-_, _≤_}
+use mathlib.Core.List.{List, [], _++_}
 use lib.Dec.{T}
-use lib.ListN.{length}
+use lib.ListN.{length, take, replicate}
 use Rattle.eit.specs.Sizes.{room}
 use Rattle.eit.specs.declared.Sizes.{Sizes}
 use Rattle.eit.specs.Limits.{baseDayMax}
+use Rattle.eit.specs.Identity.{tables}
 use Rattle.eit.specs.Fields.{Bytes}
 use Rattle.eit.specs.Pools.{Pools}
 use Rattle.eit.specs.Records.{EventList, recordsOf}
@@ -34,6 +35,12 @@ pub record Given (sizes : Sizes) : Type 0 where
   pub isSound : T (sound sizes pools list)
   pub legalBase : base ≤ baseDayMax
   pub legalIdentity : IdentityRules identity
+
+-- 02, W-208: "Read gives 0 for absent tables": an identity with the versions of so many tables, from 0x50 on, and 0 for
+-- the others
+abbrev pub withTables : ℕ → Identity → Identity
+withTables n identity =
+    record { triplet = identity .triplet; versions = take n (identity .versions) ++ replicate (tables - n) 0 }
 
 module _ {sizes : Sizes} where
   abbrev pub built : Given sizes → List ℕ → Built

@@ -8,9 +8,10 @@ use Rattle.eit.specs.declared.Sizes.{Sizes}
 use Rattle.eit.specs.Pools.{Pools}
 use Rattle.eit.specs.Records.{EventList}
 use Rattle.eit.specs.Events.{Event}
+use Rattle.eit.specs.Identity.{tables}
 use Rattle.eit.specs.Sound.{sound, eventsOf}
-use Rattle.schedule.specs.Each.{each}
-use Rattle.schedule.specs.Extent.{tables, tableSegments, isInside}
+use Rattle.sections.specs.Each.{each}
+use Rattle.schedule.specs.Extent.{tableSegments, isInside}
 use Rattle.schedule.specs.SectionsOf.{isUnpackable, packedSegment}
 
 -- 0 outside a table's range, 255 for an unpackable segment (which is inside: `count-unpackable`); else the number of

@@ -13,7 +13,7 @@ use Rattle.packing.specs.Greedy.{reach, greedy, unpackable}
 use Rattle.sections.specs.Segment.{tableOf, firstSection}
 use Rattle.sections.specs.Section.{Header, versionOf, Section, eventSize}
 use Rattle.sections.specs.Count.{segmentEvents}
-use Rattle.schedule.specs.Each.{each, lowest}
+use Rattle.sections.specs.Each.{each, lowest}
 use Rattle.schedule.specs.Extent.{tableSegments, lastIndex, lastTable, lastTableIdOf, lastSegment}
 
 -- a segment has at most eight sections

@@ -1,5 +1,5 @@
 -- A file is accepted, in 01's sense, exactly if check succeeds on it, and exactly if it is the joined bytes of sections
--- that keep the rules, where the largest list fits 12,288 numbers: by `accepted-rules` and `follows-accepted` of Exact.
+-- that keep the rules, where the largest list fits 12,288 numbers: by `accepted-rules` and `follows-shown` of Exact.
 -- Assumes nothing.
 use mathlib.Core.Path.{_≡_, ap, subst, _∙_}
 use mathlib.Core.Logic.{_↔_}
@@ -19,7 +19,7 @@ use Rattle.sections.specs.Rules.{Rules}
 use Rattle.sections.specs.Read.{Answer, checkFile, read}
 use Rattle.sections.specs.Exact.{acceptedNumbers, Accepted}
 use Rattle.sections.proofs.Read.{read-agrees, read-27}
-use Rattle.sections.proofs.Exact.{accepted-answer, accepted-few, accepted-rules, follows-accepted, read-accepted}
+use Rattle.sections.proofs.Exact.{accepted-answer, accepted-few, accepted-rules, follows-shown, read-accepted}
 
 -- a record buffer that the largest list fits in is never short
 pub read-enough : (sizes : Sizes) (base : ℕ) (file buffer : List ℕ) → sizes .«event_limit» * recordSize ≤ length buffer
@@ -60,5 +60,5 @@ accepted-exactly sizes base file lengthFits few legal bytes = (
   λ (identity, ss, rules, joined).
       check-accepted sizes base file few
       (subst (λ (f : List ℕ). checkFile sizes base f .number ≡ 0) joined
-      (ap (λ (a : Answer). a .number) (follows-accepted sizes base lengthFits legal identity ss rules))),
+      (ap (λ (a : Answer). a .number) (follows-shown sizes base lengthFits legal identity ss rules))),
 )

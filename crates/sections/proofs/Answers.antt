@@ -14,7 +14,7 @@ use Rattle.eit.specs.declared.Sizes.{Sizes}
 use Rattle.eit.specs.Limits.{baseDayMax}
 use Rattle.eit.proofs.Test.{true-is, false-is}
 use Rattle.sections.specs.Decode.{headerIn, splitFile}
-use Rattle.sections.specs.HeaderTests.{isFramed, hasRightCrc, isHeader, hasRightNumbering}
+use Rattle.sections.specs.HeaderTests.{latest, isFramed, hasRightCrc, isHeader, hasRightNumbering}
 use Rattle.sections.specs.EventTests.{isEventLoop, isWithinLimit}
 use Rattle.sections.specs.Walk.{Progress, atStart, behind, behindAll, Verdict, passed, refused, require, step}
 use Rattle.sections.specs.Walk.{walk}
@@ -33,7 +33,7 @@ module _ (sizes : Sizes) (base : ℕ) (p : Progress) (bs : List ℕ) where
   abbrev fromHeader : Verdict
   fromHeader =
       require (isHeader (p .before) bs) 22 (p .offset)
-      (require (hasRightNumbering (p .before) (headerIn bs)) 23 (p .offset) fromEvents)
+      (require (hasRightNumbering (latest (p .before)) (headerIn bs)) 23 (p .offset) fromEvents)
 
   pub step-20 : T (not (isFramed sizes bs)) → step sizes base p bs ≡ refused 20 (p .offset)
   unfolding step
@@ -51,17 +51,22 @@ module _ (sizes : Sizes) (base : ℕ) (p : Progress) (bs : List ℕ) where
     pub step-22 : T (not (isHeader (p .before) bs)) → step sizes base p bs ≡ refused 22 (p .offset)
     step-22 fails = at-header ∙ rw (false-is (isHeader (p .before) bs) fails)
 
-    pub step-23 : T (isHeader (p .before) bs) → T (not (hasRightNumbering (p .before) (headerIn bs)))
+    pub step-23 : T (isHeader (p .before) bs) → T (not (hasRightNumbering (latest (p .before)) (headerIn bs)))
         → step sizes base p bs ≡ refused 23 (p .offset)
     step-23 header fails =
-        at-header ∙ rw
-        (true-is (isHeader (p .before) bs) header, false-is (hasRightNumbering (p .before) (headerIn bs)) fails)
+        at-header ∙ rw (
+          true-is (isHeader (p .before) bs) header,
+          false-is (hasRightNumbering (latest (p .before)) (headerIn bs)) fails,
+        )
 
-    module _ (header : T (isHeader (p .before) bs)) (numbering : T (hasRightNumbering (p .before) (headerIn bs))) where
+    module _ (header : T (isHeader (p .before) bs))
+        (numbering : T (hasRightNumbering (latest (p .before)) (headerIn bs))) where
       at-events : step sizes base p bs ≡ fromEvents
       at-events =
-          at-header ∙ rw
-          (true-is (isHeader (p .before) bs) header, true-is (hasRightNumbering (p .before) (headerIn bs)) numbering)
+          at-header ∙ rw (
+            true-is (isHeader (p .before) bs) header,
+            true-is (hasRightNumbering (latest (p .before)) (headerIn bs)) numbering,
+          )
 
       pub step-24 : T (not (isEventLoop base (p .seen) bs)) → step sizes base p bs ≡ refused 24 (p .offset)
       step-24 fails = at-events ∙ rw (false-is (isEventLoop base (p .seen) bs) fails)
@@ -160,10 +165,10 @@ module _ (sizes : Sizes) (base : ℕ) where
 
     -- all sections pass, and the file ends early or is empty
     pub check-25 : AllPass sizes base atStart (splitFile file)
-        → T (not (isComplete (behindAll base atStart (splitFile file) .before)))
+        → T (not (isComplete (latest (behindAll base atStart (splitFile file) .before))))
         → checkFile sizes base file ≡ refusal 25 (length file)
     unfolding checkFile
     check-25 all early =
         rw (checkFile, le-leb base baseDayMax legal)
         (ap (atEnd (length file)) (walk-passes sizes base atStart (splitFile file) all)
-        ∙ rw (atEnd, false-is (isComplete (behindAll base atStart (splitFile file) .before)) early))
+        ∙ rw (atEnd, false-is (isComplete (latest (behindAll base atStart (splitFile file) .before))) early))

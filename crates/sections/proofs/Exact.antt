@@ -4,7 +4,7 @@ use mathlib.Core.Path.{_≡_, refl, sym, ap, ap₂, subst, _∙_}
 use mathlib.Core.Logic.{_↔_, ⊎-elim}
 use Prim.Native.Nat.{ℕ, _*_, _≤_}
 use native.Mathlib.Omega.{arith}
-use mathlib.Core.List.{List, [], _∷_, map, flatten}
+use mathlib.Core.List.{List, [], _∷_, map, flatten, reverse, append-nil}
 use lib.Dec.{T}
 use lib.ListN.{length}
 use Rattle.eit.specs.declared.Sizes.{Sizes}
@@ -18,56 +18,28 @@ use Rattle.eit.proofs.Test.{le-or-lt}
 use Rattle.eit.proofs.Fields.{bytes-append}
 use Rattle.eit.proofs.Records.{records-written}
 use Rattle.sections.specs.Every.{Every}
-use Rattle.sections.specs.Section.{Section, sectionEvents}
+use Rattle.sections.specs.Section.{Header, Section, headersOf, sectionEvents}
 use Rattle.sections.specs.Encode.{sectionBytes, fileBytes}
 use Rattle.sections.specs.Decode.{statedSectionSize, sectionIn, splitFile, sectionsIn}
-use Rattle.sections.specs.Rules.{SectionRules, Rules}
+use Rattle.sections.specs.Rules.{HeaderRules, SectionRules, Rules}
+use Rattle.sections.specs.HeaderTests.{latest}
 use Rattle.sections.specs.EventTests.{areNew}
 use Rattle.sections.specs.Walk.{atStart, behindAll}
-use Rattle.sections.specs.Read.{identityOf, Answer, success, checkFile, Reading, fileRecords, read, listOf}
+use Rattle.sections.specs.Read.{isComplete, identityOf, Answer, success, checkFile, Reading, fileRecords, read}
+use Rattle.sections.specs.Read.{listOf}
 use Rattle.sections.specs.Offsets.{recordsFrom}
-use Rattle.sections.specs.Exact.{FollowsRules, readingOf}
-use Rattle.sections.proofs.Split.{Stated, split-joined, split-back}
-use Rattle.sections.proofs.Order.{seen-length, order-new}
+use Rattle.sections.specs.Exact.{ZeroWhereAbsent, FollowsRules, readingOf}
+use Rattle.sections.proofs.Every.{every-map, every-reverse, reverse-every, every-headers, headers-every}
+use Rattle.sections.proofs.Split.{Stated, split-back}
+use Rattle.sections.proofs.Order.{order-new}
+use Rattle.sections.proofs.Identity.{identity-shown}
 use Rattle.sections.proofs.SectionBack.{Legal, section-bytes, section-back, section-stated}
 use Rattle.sections.proofs.Read.{successOf, check-succeeds, check-succeeded, read-short, read-succeeds}
 use Rattle.sections.proofs.Read.{read-agrees}
-use Rattle.sections.proofs.Forth.{shown-seen, shown-few, all-forth}
+use Rattle.sections.proofs.Forth.{shown-few, shown-headers, all-forth}
 use Rattle.sections.proofs.Back.{Accepts, all-back}
 use Rattle.sections.proofs.Offsets.{records-count}
-
--- ---- cutting and joining
-
-pub file-joined : (file : List ℕ) → flatten (splitFile file) ≡ file
-unfolding splitFile
-file-joined file = split-joined statedSectionSize (λ bs. omega arith) file
-
-pub sections-are : (base : ℕ) (file : List ℕ) → sectionsIn base file ≡ map (sectionIn base) (splitFile file)
-unfolding sectionsIn
-sections-are base file = refl
-
-bytes-are : (base : ℕ) (ss : List Section) → fileBytes base ss ≡ flatten (map (sectionBytes base) ss)
-unfolding fileBytes
-bytes-are base ss = refl
-
-pub records-are : (base : ℕ) (file : List ℕ) → fileRecords base file ≡ recordsFrom 0 (sectionsIn base file)
-unfolding fileRecords
-records-are base file = refl
-
--- the events that the walk has seen are those of the sections
-seen-count : (base : ℕ) (file : List ℕ)
-    → length (behindAll base atStart (splitFile file) .seen) ≡ length (fileRecords base file)
-seen-count base file =
-    let ss : List Section = map (sectionIn base) (splitFile file) in
-    ap length (shown-seen base atStart (splitFile file))
-    ∙ seen-length (sectionEvents ss) []
-    ∙ omega (
-      arith,
-      records-count 0 ss,
-      ap length (records-are base file),
-      ap (λ (ts : List Section). length (recordsFrom 0 ts))
-          (sections-are base file),
-    )
+use Rattle.sections.proofs.Joined.{file-joined, sections-are, bytes-are, records-are, seen-count}
 
 -- ---- forth
 
@@ -90,11 +62,12 @@ module _ (sizes : Sizes) (base : ℕ) (file : List ℕ) where
       ∙ records-count 0 (map (sectionIn base) (splitFile file)) in
       omega (arith, shown-few sizes base atStart (splitFile file) (omega arith) all)
 
-  -- the sections that the bytes show keep the rules, and their joined bytes are the file
-  pub accepted-rules : Bytes file → checkFile sizes base file .number ≡ 0
+  -- the sections that the bytes show keep the rules, absent tables have version 0, and the joined bytes are the file
+  pub accepted-parts : Bytes file → checkFile sizes base file .number ≡ 0
       → Rules sizes (checkFile sizes base file .identity) (sectionsIn base file)
+      × ZeroWhereAbsent (checkFile sizes base file .identity) (sectionsIn base file)
       × (fileBytes base (sectionsIn base file) ≡ file)
-  accepted-rules bytes zero =
+  accepted-parts bytes zero =
       let xs : List (List ℕ) = splitFile file in
       let ss : List Section = map (sectionIn base) xs in
       let (legal, all, complete) = check-succeeded sizes base file zero in
@@ -102,14 +75,25 @@ module _ (sizes : Sizes) (base : ℕ) (file : List ℕ) where
       check-succeeds sizes base file legal all complete in
       let same : checkFile sizes base file .identity ≡ identityOf (behindAll base atStart xs .before) =
       ap (λ (a : Answer). a .identity) is in
-      let (joined, rules) = all-forth sizes base xs (rw (file-joined file) bytes) all complete in
-      rw (same, sections-are base file) (rules, bytes-are base ss ∙ ap flatten joined ∙ file-joined file)
+      let (joined, rules, absent) = all-forth sizes base xs (rw (file-joined file) bytes) all complete in
+      rw (same, sections-are base file) (rules, absent, bytes-are base ss ∙ ap flatten joined ∙ file-joined file)
+
+  pub accepted-rules : Bytes file → checkFile sizes base file .number ≡ 0
+      → Rules sizes (checkFile sizes base file .identity) (sectionsIn base file)
+      × (fileBytes base (sectionsIn base file) ≡ file)
+  accepted-rules bytes zero = let (rules, absent, joined) = accepted-parts bytes zero in (rules, joined)
 
   pub accepted-follows : Bytes file → checkFile sizes base file .number ≡ 0
       → FollowsRules sizes base file (checkFile sizes base file .identity) (fileRecords base file)
   accepted-follows bytes zero =
-      let (rules, joined) = accepted-rules bytes zero in
-      record { sections = sectionsIn base file; rules = rules; bytes = joined; records = sym (records-are base file) }
+      let (rules, absent, joined) = accepted-parts bytes zero in
+      record {
+        sections = sectionsIn base file;
+        rules = rules;
+        absent = absent;
+        bytes = joined;
+        records = sym (records-are base file);
+      }
 
 -- ---- back
 
@@ -140,7 +124,7 @@ module _ (sizes : Sizes) (base : ℕ) (identity : Identity) (lastTableId : ℕ)
 module _ (sizes : Sizes) (base : ℕ) (lengthFits : sizes .«section_limit» ≤ 4_096) (legal : base ≤ baseDayMax)
     (identity : Identity) (ss : List Section) (rules : Rules sizes identity ss)
   where
-    legal-file : Legal sizes base identity (rules .lastTableId)
+    pub legal-file : Legal sizes base identity (rules .lastTableId)
     legal-file =
         record {
           lengthFits = lengthFits;
@@ -172,25 +156,58 @@ module _ (sizes : Sizes) (base : ℕ) (lengthFits : sizes .«section_limit» ≤
     pub follows-records : fileRecords base (fileBytes base ss) ≡ recordsFrom 0 ss
     follows-records = records-are base (fileBytes base ss) ∙ ap (recordsFrom 0) sections-in-back
 
-    pub follows-accepted : checkFile sizes base (fileBytes base ss) ≡ success identity (length (recordsFrom 0 ss))
-    follows-accepted =
+    -- the headers that the walk sees are theirs
+    seen-headers : behindAll base atStart (splitFile (fileBytes base ss)) .before ≡ reverse (headersOf ss)
+    seen-headers =
+        shown-headers base atStart (splitFile (fileBytes base ss))
+        ∙ append-nil _
+        ∙ ap (λ (ts : List Section). reverse (headersOf ts))
+        (sym (sections-are base (fileBytes base ss)) ∙ sections-in-back)
+
+    file-accepts : Accepts sizes base atStart (splitFile (fileBytes base ss))
+    file-accepts =
         let new : T (areNew [] (sectionEvents ss)) =
         order-new [] (sectionEvents ss) (record { rises = rules .rises; differ = rules .differ }) in
-        let accepts : Accepts sizes base identity atStart (splitFile (fileBytes base ss)) =
         rw split-file-back
         (all-back sizes base identity (rules .lastTableId) legal-file ss (rules .sections) (rules .ordered) new
-        (rules .few)) in
-        check-succeeds sizes base (fileBytes base ss) legal (accepts .all) (accepts .complete)
-        ∙ ap₂ success (accepts .same) (seen-count base (fileBytes base ss) ∙ ap length follows-records)
+        (rules .few))
 
-    pub follows-read : (buffer : List ℕ) → length (recordsFrom 0 ss) * recordSize ≤ length buffer
-        → read sizes base (fileBytes base ss) buffer ≡ readingOf buffer identity (recordsFrom 0 ss)
-    follows-read buffer fits =
-        let count : checkFile sizes base (fileBytes base ss) .count ≡ length (recordsFrom 0 ss) =
-        ap (λ (a : Answer). a .count) follows-accepted in
-        read-succeeds sizes base (fileBytes base ss) buffer (ap (λ (a : Answer). a .number) follows-accepted)
-        (omega arith)
-        ∙ (λ i. record { answer = follows-accepted i; buffer = overwrite buffer 0 (numbersOfAll (follows-records i)) })
+    -- check accepts them, with the identity that their headers show
+    pub follows-shown : checkFile sizes base (fileBytes base ss)
+        ≡ success (identityOf (reverse (headersOf ss))) (length (recordsFrom 0 ss))
+    follows-shown =
+        check-succeeds sizes base (fileBytes base ss) legal (file-accepts .all) (file-accepts .complete)
+        ∙ ap₂ success (ap identityOf seen-headers) (seen-count base (fileBytes base ss) ∙ ap length follows-records)
+
+    -- which is theirs, where absent tables have version 0
+    module _ (absent : ZeroWhereAbsent identity ss) where
+      identity-back : identityOf (reverse (headersOf ss)) ≡ identity
+      identity-back =
+          identity-shown identity (rules .lastTableId) (reverse (headersOf ss))
+          (subst (λ (hs : List Header). T (isComplete (latest hs))) seen-headers (file-accepts .complete))
+          (every-reverse (HeaderRules identity (rules .lastTableId)) (headersOf ss)
+          (every-headers (HeaderRules identity (rules .lastTableId)) ss
+          (every-map (λ s r. r .headerRules) ss (rules .sections))))
+          (rules .identityRules)
+          (λ table least nowhere. absent table least
+          (headers-every (λ (h : Header). h .tableId ≡ table → ⊥) ss
+          (reverse-every (λ (h : Header). h .tableId ≡ table → ⊥) (headersOf ss) nowhere)))
+
+      pub follows-accepted : checkFile sizes base (fileBytes base ss) ≡ success identity (length (recordsFrom 0 ss))
+      follows-accepted =
+          follows-shown ∙ ap (λ (i : Identity). success i (length (recordsFrom 0 ss))) identity-back
+
+      pub follows-read : (buffer : List ℕ) → length (recordsFrom 0 ss) * recordSize ≤ length buffer
+          → read sizes base (fileBytes base ss) buffer ≡ readingOf buffer identity (recordsFrom 0 ss)
+      follows-read buffer fits =
+          let count : checkFile sizes base (fileBytes base ss) .count ≡ length (recordsFrom 0 ss) =
+          ap (λ (a : Answer). a .count) follows-accepted in
+          read-succeeds sizes base (fileBytes base ss) buffer (ap (λ (a : Answer). a .number) follows-accepted)
+          (omega arith)
+          ∙ (λ i. record {
+            answer = follows-accepted i;
+            buffer = overwrite buffer 0 (numbersOfAll (follows-records i));
+          })
 
 -- ---- Read is exact
 
@@ -249,7 +266,8 @@ module _ (sizes : Sizes) (base : ℕ) (file buffer : List ℕ) where
         → read sizes base file buffer ≡ readingOf buffer identity rs
     follows-reads lengthFits legal f fits =
         rw (← f .bytes, ← f .records)
-        (follows-read sizes base lengthFits legal identity (f .sections) (f .rules) buffer (rw (f .records) fits))
+        (follows-read sizes base lengthFits legal identity (f .sections) (f .rules) (f .absent) buffer
+        (rw (f .records) fits))
 
     -- demand 2: for every legal base day, every file of bytes and every record buffer, Read succeeds with an identity
     -- and records exactly if the file follows the rules with these, and the records fit the buffer

@@ -10,13 +10,13 @@ use Rattle.sections.specs.Encode.{fileBytes}
 use Rattle.sections.specs.HeaderTests.{isFramed, hasRightCrc, isHeader, hasRightNumbering}
 use Rattle.sections.specs.EventTests.{isEvent, isEventLoop, isWithinLimit}
 use Rattle.sections.specs.Count.{sectionsCounted, eventsCounted}
-use Rattle.sections.specs.Read.{read}
+use Rattle.sections.specs.Read.{versionsIn, read}
 use Rattle.sections.specs.Examples.{Examples}
 use Rattle.sections.specs.Broken.{Broken}
 
 pub examples : Examples
 unfolding read isFramed hasRightCrc isHeader hasRightNumbering isEvent isEventLoop isWithinLimit crc32 isChain follows
-    fileBytes sectionsCounted eventsCounted
+    fileBytes sectionsCounted eventsCounted versionsIn
 examples =
     record {
       first-sections = (refl, refl, refl, refl, refl, refl);
@@ -50,6 +50,10 @@ broken =
       last-in-segment =
           λ keeps. ⊎-elim (λ same. omega (arith, same)) (λ later. omega (arith, later)) (keeps .whole);
       empty-before-other = λ keeps. omega (arith, keeps .alone refl .last);
+      versions-differ =
+          λ any keeps.
+          let (first, second) = keeps .sections in
+          omega (arith, first .headerRules .sameVersion, second .0 .headerRules .sameVersion);
       earlier-start = λ keeps. keeps .rises;
       one-second = λ keeps. keeps .rises;
       one-second-apart = λ keeps. keeps .rises;

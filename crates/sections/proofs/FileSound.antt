@@ -26,7 +26,8 @@ use Rattle.sections.specs.Offsets.{recordsFrom, filePools}
 use Rattle.sections.specs.Read.{checkFile, Reading, read, listOf}
 use Rattle.sections.specs.Exact.{readingOf}
 use Rattle.sections.proofs.Every.{every-map}
-use Rattle.sections.proofs.Exact.{records-are, accepted-rules, read-accepted}
+use Rattle.sections.proofs.Joined.{records-are}
+use Rattle.sections.proofs.Exact.{accepted-rules, read-accepted}
 use Rattle.sections.proofs.Offsets.{records-count, records-ids, records-events, records-valid}
 
 -- the laws of Offsets, for sections with nothing around them

@@ -1,6 +1,8 @@
 -- a property of every element of a list
 pub mod Every
--- the version that an identity has for a table
+-- functions of numbers in a row
+pub mod Each
+-- the version of a table's sections
 pub mod Version
 -- how long the bytes of events, sections and files are
 pub mod Lengths
@@ -14,7 +16,7 @@ pub mod EventBytes
 pub mod EventLoop
 -- a section's header and its bytes
 pub mod HeaderBytes
--- Read's test of triplet, version and last_table_id
+-- Read's test of triplet and last_table_id
 pub mod SameFile
 -- Read's tests of numbering and the rules
 pub mod Numbering
@@ -22,6 +24,8 @@ pub mod Numbering
 pub mod Order
 -- what it means that Read's walk passes
 pub mod Walk
+-- the identity that the headers of a file show
+pub mod Identity
 -- a section that passes is the bytes of one that keeps the rules
 pub mod SectionForth
 -- and one that keeps the rules passes
@@ -34,10 +38,14 @@ pub mod Answers
 pub mod Forth
 -- and a file that follows the rules is accepted
 pub mod Back
+-- a file is its sections joined
+pub mod Joined
 -- Read is exact
 pub mod Exact
 -- accepted files are those that follow the rules
 pub mod Accepted
+-- which tables a file has, and that only their versions matter
+pub mod Tables
 -- what Read leaves of the record buffer
 pub mod Frame
 -- how large an accepted file can be
@@ -56,3 +64,5 @@ pub mod SegmentBetween
 pub mod Only
 -- the examples, computed
 pub mod Examples
+-- versions by table, computed
+pub mod VersionExamples

@@ -3,7 +3,7 @@
 use mathlib.Core.Path.{_≡_}
 use mathlib.Core.Bool.{Bool, _&&_, _||_}
 use mathlib.Core.List.{[]}
-use mathlib.Core.Logic.{inl, inr, ⊎-elim}
+use mathlib.Core.Logic.{_⊎_, inl, inr, ⊎-elim}
 use mathlib.Core.Option.{none, some}
 use Prim.Native.Nat.{ℕ, _+_, _≤_, _<_}
 use native.Mathlib.Omega.{arith}
@@ -107,6 +107,21 @@ module _ (g h : Header) where
 
   next-in-tables : G ≤ S → L ≤ S → isNext (some g) h ≡ (eqb (h .tableId) (g .tableId + 1) && eqb (h .sectionNumber) 0)
   next-in-tables ends last = rw (isNext, le-ltb S G ends, le-ltb S L last)
+
+  -- in each of them the table stays or goes up by one
+  pub is-next-table : T (isNext (some g) h) → (h .tableId ≡ g .tableId) ⊎ (h .tableId ≡ g .tableId + 1)
+  is-next-table t =
+      ⊎-elim
+      (λ ends. ⊎-elim
+      (λ last. inr
+      (tests-eq (h .tableId) (g .tableId + 1) (h .sectionNumber) 0 (rw (next-in-tables ends last) at t) .0))
+      (λ inside. inl (is-at (firstOf S + 8) (rw (next-in-table ends inside) at t) .0 .table))
+      (le-or-lt L S))
+      (λ inside.
+      let here = and-parts (isAt (g .tableId) (S + 1) L h) (eqb (h .segmentLastSectionNumber) G)
+      (rw (next-in-segment inside) at t) .0 in
+      inl (is-at (S + 1) here .0 .table))
+      (le-or-lt G S)
 
   module _ (n : Numbered g) where
     pub next-is : Next g h → T (isNext (some g) h)

@@ -16,7 +16,7 @@ use Rattle.eit.specs.Records.{recordSize, numbersOfAll}
 use Rattle.eit.proofs.Test.{true-is, false-is, test-or, le-or-lt, eq-test}
 use Rattle.eit.specs.declared.Record.{Record}
 use Rattle.sections.specs.Decode.{headerIn, splitFile}
-use Rattle.sections.specs.HeaderTests.{isFramed, hasRightCrc, isHeader, hasRightNumbering}
+use Rattle.sections.specs.HeaderTests.{latest, isFramed, hasRightCrc, isHeader, hasRightNumbering}
 use Rattle.sections.specs.EventTests.{isEventLoop, isWithinLimit}
 use Rattle.sections.specs.Walk.{Progress, atStart, behindAll, Verdict, passed, refused, require, step, walk}
 use Rattle.sections.specs.Read.{isComplete, identityOf, Answer, success, refusal}
@@ -42,7 +42,8 @@ module _ (sizes : Sizes) (base : ℕ) where
       require-numbers (isFramed sizes bs) 20 (p .offset) _ (omega arith) (omega arith)
       (require-numbers (hasRightCrc bs) 21 (p .offset) _ (omega arith) (omega arith)
       (require-numbers (isHeader (p .before) bs) 22 (p .offset) _ (omega arith) (omega arith)
-      (require-numbers (hasRightNumbering (p .before) (headerIn bs)) 23 (p .offset) _ (omega arith) (omega arith)
+      (require-numbers (hasRightNumbering (latest (p .before)) (headerIn bs)) 23 (p .offset) _ (omega arith)
+      (omega arith)
       (require-numbers (isEventLoop base (p .seen) bs) 24 (p .offset) _ (omega arith) (omega arith)
       (require-numbers (isWithinLimit sizes (p .seen) bs) 26 (p .offset) _ (omega arith) (omega arith) tt)))))
 
@@ -58,23 +59,23 @@ module _ (sizes : Sizes) (base : ℕ) where
 
 -- ---- check
 
-end-complete : (size : ℕ) (p : Progress) → T (isComplete (p .before))
+end-complete : (size : ℕ) (p : Progress) → T (isComplete (latest (p .before)))
     → atEnd size (passed p) ≡ success (identityOf (p .before)) (length (p .seen))
-end-complete size p t = rw (atEnd, true-is (isComplete (p .before)) t)
+end-complete size p t = rw (atEnd, true-is (isComplete (latest (p .before))) t)
 
 end-succeeded : (size : ℕ) (v : Verdict) → Numbers v → atEnd size v .number ≡ 0
-    → (p : Progress) × (v ≡ passed p) × T (isComplete (p .before))
+    → (p : Progress) × (v ≡ passed p) × T (isComplete (latest (p .before)))
 end-succeeded size (refused number offset) numbers zero = absurd (omega arith)
 end-succeeded size (passed p) numbers zero =
     ⊎-elim (λ t. (p, refl, t))
-    (λ t. let never : _≡_ {A = ℕ} 25 0 = rw (atEnd, false-is (isComplete (p .before)) t) at zero in
+    (λ t. let never : _≡_ {A = ℕ} 25 0 = rw (atEnd, false-is (isComplete (latest (p .before))) t) at zero in
     absurd (omega arith))
-    (test-or (isComplete (p .before)))
+    (test-or (isComplete (latest (p .before))))
 
 module _ (sizes : Sizes) (base : ℕ) where
   -- the file is complete behind all of its sections
   abbrev pub Complete : List ℕ → Type 0
-  Complete file = T (isComplete (behindAll base atStart (splitFile file) .before))
+  Complete file = T (isComplete (latest (behindAll base atStart (splitFile file) .before)))
 
   -- what check returns of a file that it accepts
   abbrev pub successOf : List ℕ → Answer
@@ -110,9 +111,9 @@ module _ (sizes : Sizes) (base : ℕ) where
 end-numbers : (size : ℕ) (v : Verdict) → Numbers v → atEnd size v .number < 27
 end-numbers size (refused number offset) numbers = omega (arith, numbers .1)
 end-numbers size (passed p) numbers =
-    ⊎-elim (λ t. rw (atEnd, true-is (isComplete (p .before)) t) (omega arith))
-    (λ t. rw (atEnd, false-is (isComplete (p .before)) t) (omega arith))
-    (test-or (isComplete (p .before)))
+    ⊎-elim (λ t. rw (atEnd, true-is (isComplete (latest (p .before))) t) (omega arith))
+    (λ t. rw (atEnd, false-is (isComplete (latest (p .before))) t) (omega arith))
+    (test-or (isComplete (latest (p .before))))
 
 -- a call that reads a file without a record buffer never says 27
 pub check-below-27 : (sizes : Sizes) (base : ℕ) (file : List ℕ) → checkFile sizes base file .number < 27
@@ -123,6 +124,26 @@ check-below-27 sizes base file =
     (end-numbers (length file) (walk sizes base atStart (splitFile file))
     (walk-numbers sizes base atStart (splitFile file))))
     (λ above. rw (checkFile, lt-leb base baseDayMax above) (omega arith))
+    (le-or-lt base baseDayMax)
+
+-- and never 2, which is Build's
+end-not-2 : (size : ℕ) (v : Verdict) → Numbers v → atEnd size v .number ≡ 2 → ⊥
+end-not-2 size (refused number offset) numbers two = omega (arith, numbers .0)
+end-not-2 size (passed p) numbers two =
+    ⊎-elim
+    (λ t. let never : _≡_ {A = ℕ} 0 2 = rw (atEnd, true-is (isComplete (latest (p .before))) t) at two in omega arith)
+    (λ t. let never : _≡_ {A = ℕ} 25 2 = rw (atEnd, false-is (isComplete (latest (p .before))) t) at two in omega arith)
+    (test-or (isComplete (latest (p .before))))
+
+pub check-not-2 : (sizes : Sizes) (base : ℕ) (file : List ℕ) → checkFile sizes base file .number ≡ 2 → ⊥
+unfolding checkFile
+check-not-2 sizes base file two =
+    ⊎-elim
+    (λ legal.
+    end-not-2 (length file) (walk sizes base atStart (splitFile file))
+    (walk-numbers sizes base atStart (splitFile file))
+    (rw (checkFile, le-leb base baseDayMax legal) at two))
+    (λ above. let never : _≡_ {A = ℕ} 1 2 = rw (checkFile, lt-leb base baseDayMax above) at two in omega arith)
     (le-or-lt base baseDayMax)
 
 -- 1 before all

@@ -1,5 +1,5 @@
--- Read's test that a section has the triplet, version and last_table_id of the one before it says just that: field by
--- field. Assumes nothing.
+-- Read's test that a section has the triplet and last_table_id of the one before it says just that: field by field.
+-- Assumes nothing.
 use mathlib.Core.Path.{_≡_, ap}
 use mathlib.Core.Option.{some}
 use lib.Dec.{T, eqb, eqb→eq}
@@ -10,7 +10,6 @@ use Rattle.sections.specs.HeaderTests.{isSameFile}
 
 pub record SameFile (g h : Header) : Type 0 where
   pub triplet : h .triplet ≡ g .triplet
-  pub version : h .version ≡ g .version
   pub lastTable : h .lastTableId ≡ g .lastTableId
 
 pub same-file : (g h : Header) → T (isSameFile (some g) h) → SameFile g h
@@ -21,7 +20,6 @@ same-file g h t =
     record {
       triplet = λ i.
           record { «service_id» = service i; «transport_stream_id» = stream i; «original_network_id» = network i };
-      version = eqb→eq _ _ (search tests);
       lastTable = eqb→eq _ _ (search tests);
     }
 
@@ -33,6 +31,5 @@ file-same g h same =
     eq-test _ _ (ap (λ (t : Triplet). t .«transport_stream_id») (same .triplet)) in
     let network : T (eqb (h .triplet .«original_network_id») (g .triplet .«original_network_id»)) =
     eq-test _ _ (ap (λ (t : Triplet). t .«original_network_id») (same .triplet)) in
-    let version : T (eqb (h .version) (g .version)) = eq-test _ _ (same .version) in
     let last : T (eqb (h .lastTableId) (g .lastTableId)) = eq-test _ _ (same .lastTable) in
     search tests

@@ -2,7 +2,7 @@
 -- event loop and the four bytes of CRC_32 each by its own law. Assumes nothing.
 use mathlib.Core.Path.{_≡_, refl, sym, ap, subst, _∙_}
 use mathlib.Core.Bool.{_&&_}
-use mathlib.Core.Option.{Option, some}
+use mathlib.Core.Option.{Option}
 use Prim.Native.Nat.{ℕ, _+_, _-_, _≤_}
 use native.Mathlib.Omega.{arith}
 use mathlib.Core.List.{List, [], _∷_, _++_, map, reverse, append-assoc, append-nil}
@@ -28,7 +28,8 @@ use Rattle.sections.specs.Decode.{statedEventSize, eventIn, statedSectio
 use Rattle.sections.specs.Decode.{sectionIn}
 use Rattle.sections.specs.Rules.{Alone, IdentityRules, EventRules, SectionRules}
 use Rattle.sections.specs.HeaderTests.{isTable, isFramed, hasRightCrc, hasFixedBits}
-use Rattle.sections.specs.HeaderTests.{isSameFile, isHeader, isNumbered, isNext, hasRightNumbering}
+use Rattle.sections.specs.HeaderTests.{latest, isSameFile, isSameVersion, isHeader, isNumbered, isNext}
+use Rattle.sections.specs.HeaderTests.{hasRightNumbering}
 use Rattle.sections.specs.EventTests.{isFilledOrAlone, areEvents, areNew, isEventLoop, isWithinLimit}
 use Rattle.sections.specs.Walk.{Progress, behind}
 use Rattle.sections.proofs.Every.{every-map}
@@ -179,10 +180,11 @@ module _ (sizes : Sizes) (base : ℕ) (identity : Identity) (lastTableId : ℕ)
         (header-fixed (sectionSize s) (s .header) _ (omega arith) (omega (arith, legal .lengthFits, rules .size))
         (fits .version))
 
-    header-passes : (before : Option Header) → T (isSameFile before (s .header))
+    header-passes : (before : List Header) → T (isSameFile (latest before) (s .header))
+        → T (isSameVersion before (s .header))
         → T (isHeader before (sectionBytes base s))
     unfolding isHeader
-    header-passes before same =
+    header-passes before same version =
         let lastTable : T (isTable (s .header .lastTableId)) =
         and-both (leb tableFirst (s .header .lastTableId)) (leb (s .header .lastTableId) tableMax)
         (le→leb tableFirst (s .header .lastTableId)
@@ -190,8 +192,9 @@ module _ (sizes : Sizes) (base : ℕ) (identity : Identity) (lastTableId : ℕ)
         (le→leb (s .header .lastTableId) tableMax
         (omega (arith, legal .lastTable, rules .headerRules .sameLastTable))) in
         and-both (hasFixedBits (sectionBytes base s)) _ fixed
-        (subst (λ (h : Header). T (isTable (h .lastTableId) && isSameFile before h)) (sym section-header)
-        (and-both (isTable (s .header .lastTableId)) (isSameFile before (s .header)) lastTable same))
+        (subst
+        (λ (h : Header). T (isTable (h .lastTableId) && (isSameFile (latest before) h && isSameVersion before h)))
+        (sym section-header) (search tests))
 
     numbering-passes : (before : Option Header) → T (isNext before (s .header))
         → T (hasRightNumbering before (headerIn (sectionBytes base s)))
@@ -222,17 +225,18 @@ module _ (sizes : Sizes) (base : ℕ) (identity : Identity) (lastTableId : ℕ)
 
     -- it passes where it stands in its place in the file
     pub section-passes : (p : Progress)
-        → T (isSameFile (p .before) (s .header))
-        → T (isNext (p .before) (s .header))
+        → T (isSameFile (latest (p .before)) (s .header))
+        → T (isSameVersion (p .before) (s .header))
+        → T (isNext (latest (p .before)) (s .header))
         → T (areNew (p .seen) (s .events))
         → length (p .seen) + length (s .events) ≤ sizes .«event_limit»
         → Passes sizes base p (sectionBytes base s)
-    section-passes p same next new few =
+    section-passes p same version next new few =
         record {
           framed = framed;
           crc-right = crc-passes;
-          header = header-passes (p .before) same;
-          numbering = numbering-passes (p .before) next;
+          header = header-passes (p .before) same version;
+          numbering = numbering-passes (latest (p .before)) next;
           loop = loop-passes (p .seen) new;
           limit = limit-passes (p .seen) few;
         }
@@ -241,12 +245,12 @@ module _ (sizes : Sizes) (base : ℕ) (identity : Identity) (lastTableId : ℕ)
         → behind base p (sectionBytes base s)
         ≡ record {
           offset = p .offset + sectionSize s;
-          before = some (s .header);
+          before = s .header ∷ p .before;
           seen = reverse (s .events) ++ p .seen;
         }
     section-behind p =
         λ i. record {
           offset = p .offset + section-length base s i;
-          before = some (section-header i);
+          before = section-header i ∷ p .before;
           seen = reverse (events-shown i) ++ p .seen;
         }

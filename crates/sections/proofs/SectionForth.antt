@@ -1,6 +1,6 @@
 -- Bytes that pass Read's tests are those of the section that they show, and it keeps the rules: header, event loop and
 -- the four bytes of CRC_32 each by its own law. Assumes nothing.
-use mathlib.Core.Path.{_≡_, refl, sym, ap, _∙_}
+use mathlib.Core.Path.{_≡_, sym, ap, _∙_}
 use Prim.Native.Nat.{ℕ, _-_, _≤_}
 use native.Mathlib.Omega.{arith}
 use mathlib.Core.List.{List, [], _∷_, _++_, map, flatten, append-assoc}
@@ -12,34 +12,39 @@ use Rattle.eit.specs.declared.Sizes.{Sizes}
 use Rattle.eit.specs.Fields.{Bytes, bigEndian}
 use Rattle.eit.specs.Crc.{crc32}
 use Rattle.eit.specs.Events.{Event}
+use Rattle.eit.specs.declared.Identity.{Identity}
 use Rattle.eit.proofs.Test.{tests}
 use Rattle.eit.proofs.Fields.{bytes-append, bytes-take, bytes-drop, field-bytes}
 use Rattle.eit.proofs.Crc.{crc-right-only}
 use Rattle.sections.specs.Every.{Every}
 use Rattle.sections.specs.Segment.{tableFirst, tableMax}
-use Rattle.sections.specs.Section.{Header, headerIdentity, headerSize, sectionSize}
+use Rattle.sections.specs.Section.{Header, headerSize, sectionSize}
 use Rattle.sections.specs.Encode.{headerBytes, eventLoopBytes, coveredBytes, sectionBytes}
 use Rattle.sections.specs.Decode.{statedEventSize, eventIn, statedSectionSize, headerIn, eventLoop, splitEvents}
 use Rattle.sections.specs.Decode.{sectionIn}
-use Rattle.sections.specs.Rules.{Alone, IdentityRules, EventRules, SectionRules}
+use Rattle.sections.specs.Rules.{Numbered, Alone, EventRules, SectionRules}
 use Rattle.sections.specs.HeaderTests.{isFramed, hasRightCrc, hasFixedBits, isHeader, isNumbered}
 use Rattle.sections.specs.HeaderTests.{hasRightNumbering}
 use Rattle.sections.specs.EventTests.{isFilledOrAlone, areEvents, isEventLoop}
 use Rattle.sections.specs.Walk.{Progress}
-use Rattle.sections.proofs.Version.{version-shown}
 use Rattle.sections.proofs.Lengths.{loop-length}
 use Rattle.sections.proofs.Split.{split-joined}
 use Rattle.sections.proofs.EventLoop.{events-forth}
 use Rattle.sections.proofs.HeaderBytes.{HeaderFits, header-fits, header-forth}
 use Rattle.sections.proofs.Numbering.{is-numbered, is-alone}
 use Rattle.sections.proofs.Walk.{Passes}
+use Rattle.sections.proofs.Identity.{HasIdentity}
 
 -- what Read knows of a section that passes: its bytes are those of the section that it shows, which keeps the rules
+-- with every identity and last_table_id that its header has
 pub record Shown (sizes : Sizes) (base : ℕ) (bs : List ℕ) : Type 0 where
   pub bytes : sectionBytes base (sectionIn base bs) ≡ bs
-  pub identityRules : IdentityRules (headerIdentity (headerIn bs))
+  pub fits : HeaderFits (headerIn bs)
+  pub numbered : Numbered (headerIn bs)
+  pub least : tableFirst ≤ headerIn bs .tableId
   pub lastTable : headerIn bs .lastTableId ≤ tableMax
-  pub rules : SectionRules sizes (headerIdentity (headerIn bs)) (headerIn bs .lastTableId) (sectionIn base bs)
+  pub rules : (identity : Identity) (lastTableId : ℕ) → HasIdentity identity lastTableId (headerIn bs)
+      → SectionRules sizes identity lastTableId (sectionIn base bs)
 
 alone-forth : (base : ℕ) (h : Header) (xs : List (List ℕ)) → T (isFilledOrAlone h xs) → map (eventIn base) xs ≡ []
     → Alone h
@@ -138,20 +143,23 @@ module _ (sizes : Sizes) (base : ℕ) (p : Progress) (bs : List ℕ) (bytes : By
   unfolding sectionIn
   section-forth =
       let fits : HeaderFits (headerIn bs) = header-fits bs bytes enough in
+      let numbered : Numbered (headerIn bs) = is-numbered (headerIn bs) (numbering-parts .0) in
       record {
         bytes = bytes-forth;
-        identityRules = record { tripletRules = fits .tripletRules; version = fits .version };
+        fits = fits;
+        numbered = numbered;
+        least = framed-parts .3;
         lastTable = header-parts .1;
-        rules =
+        rules = λ identity lastTableId has.
             record {
               headerRules =
                   record {
-                    sameTriplet = refl;
-                    sameVersion = version-shown (headerIn bs) (headerIn bs .tableId);
-                    sameLastTable = refl;
+                    sameTriplet = has .sameTriplet;
+                    sameVersion = has .sameVersion;
+                    sameLastTable = has .sameLastTable;
                     least = framed-parts .3;
-                    most = numbering-parts .1;
-                    numbered = is-numbered (headerIn bs) (numbering-parts .0);
+                    most = omega (arith, numbering-parts .1, has .sameLastTable);
+                    numbered = numbered;
                     byte = fits .last;
                   };
               eventRules = loop-forth .1;

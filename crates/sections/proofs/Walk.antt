@@ -10,7 +10,7 @@ use lib.Dec.{T}
 use Rattle.eit.specs.declared.Sizes.{Sizes}
 use Rattle.eit.proofs.Test.{true-is}
 use Rattle.sections.specs.Decode.{headerIn}
-use Rattle.sections.specs.HeaderTests.{isFramed, hasRightCrc, isHeader, hasRightNumbering}
+use Rattle.sections.specs.HeaderTests.{latest, isFramed, hasRightCrc, isHeader, hasRightNumbering}
 use Rattle.sections.specs.EventTests.{isEventLoop, isWithinLimit}
 use Rattle.sections.specs.Walk.{Progress, behind, behindAll, Verdict, passed, refused, require, step, walk}
 
@@ -19,7 +19,7 @@ pub record Passes (sizes : Sizes) (base : ℕ) (p : Progress) (bs : List ℕ) : 
   pub framed : T (isFramed sizes bs)
   pub crc-right : T (hasRightCrc bs)
   pub header : T (isHeader (p .before) bs)
-  pub numbering : T (hasRightNumbering (p .before) (headerIn bs))
+  pub numbering : T (hasRightNumbering (latest (p .before)) (headerIn bs))
   pub loop : T (isEventLoop base (p .seen) bs)
   pub limit : T (isWithinLimit sizes (p .seen) bs)
 
@@ -40,7 +40,7 @@ module _ (sizes : Sizes) (base : ℕ) where
         true-is (isFramed sizes bs) (t .framed),
         true-is (hasRightCrc bs) (t .crc-right),
         true-is (isHeader (p .before) bs) (t .header),
-        true-is (hasRightNumbering (p .before) (headerIn bs)) (t .numbering),
+        true-is (hasRightNumbering (latest (p .before)) (headerIn bs)) (t .numbering),
         true-is (isEventLoop base (p .seen) bs) (t .loop),
         true-is (isWithinLimit sizes (p .seen) bs) (t .limit),
       )
@@ -52,7 +52,8 @@ module _ (sizes : Sizes) (base : ℕ) where
       let (framed, e20) = require-passed (isFramed sizes bs) 20 (p .offset) _ q e in
       let (crc-right, e21) = require-passed (hasRightCrc bs) 21 (p .offset) _ q e20 in
       let (header, e22) = require-passed (isHeader (p .before) bs) 22 (p .offset) _ q e21 in
-      let (numbering, e23) = require-passed (hasRightNumbering (p .before) (headerIn bs)) 23 (p .offset) _ q e22 in
+      let (numbering, e23) =
+      require-passed (hasRightNumbering (latest (p .before)) (headerIn bs)) 23 (p .offset) _ q e22 in
       let (loop, e24) = require-passed (isEventLoop base (p .seen) bs) 24 (p .offset) _ q e23 in
       let (limit, e26) = require-passed (isWithinLimit sizes (p .seen) bs) 26 (p .offset) _ q e24 in (
         record {

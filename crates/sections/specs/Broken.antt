@@ -5,13 +5,14 @@ use mathlib.Core.Bool.{false}
 use mathlib.Core.List.{List, [], _∷_}
 use Rattle.eit.specs.Sizes.{broadcast}
 use Rattle.eit.specs.Events.{Event}
+use Rattle.eit.specs.declared.Identity.{Identity}
 use Rattle.sections.specs.Section.{Header, Section}
 use Rattle.sections.specs.Rules.{Numbered, SectionRules, Rules}
 use Rattle.sections.specs.Examples.{identity}
 
--- the header of a section of a file of one table: S, G and L
-abbrev pub numbered : ℕ → ℕ → ℕ → Header
-numbered S G L =
+-- the header of a section of a file of one table: its version, S, G and L; and under version 0
+abbrev pub underVersion : ℕ → ℕ → ℕ → ℕ → Header
+underVersion version S G L =
     record {
       tableId = 0x50;
       sectionNumber = S;
@@ -19,8 +20,18 @@ numbered S G L =
       segmentLastSectionNumber = G;
       lastTableId = 0x50;
       triplet = identity .triplet;
-      version = identity .version;
+      version = version;
     }
+
+abbrev pub numbered : ℕ → ℕ → ℕ → Header
+numbered S G L = underVersion 0 S G L
+
+-- two segments without events, with these versions
+abbrev pub underVersions : ℕ → ℕ → List Section
+underVersions first second =
+    record { header = underVersion first 0 0 8; events = [] }
+    ∷ record { header = underVersion second 8 8 8; events = [] }
+    ∷ []
 
 -- an event without descriptors: id, start, duration; and one of a second
 abbrev pub lasting : ℕ → ℕ → ℕ → Event
@@ -47,6 +58,8 @@ pub record Broken : Type 0 where
   pub ninth-section : Numbered (numbered 0 8 8) → ⊥
   pub last-in-segment : Numbered (numbered 0 0 7) → ⊥
   pub empty-before-other : SectionRules broadcast identity 0x50 (record { header = numbered 0 1 1; events = [] }) → ⊥
+  -- 02, W-208: two versions within a table, under whatever identity
+  pub versions-differ : (any : Identity) → Rules broadcast any (underVersions 1 2) → ⊥
   -- an event that starts before the one before it; one that starts a second before that one ends; an id twice; one
   -- event too many
   pub earlier-start : Rules broadcast identity (together (plainEvent 1 10) (plainEvent 2 9)) → ⊥

@@ -2,7 +2,7 @@
 -- returns the identity and events that the file's bytes carry"). The theorems are `read-exact` of proofs/Exact.antt and
 -- `accepted-exactly` of proofs/Accepted.antt. Assumes nothing.
 use mathlib.Core.Path.{_≡_}
-use Prim.Native.Nat.{ℕ}
+use Prim.Native.Nat.{ℕ, _≤_}
 use mathlib.Core.List.{List}
 use lib.ListN.{length}
 use Rattle.eit.specs.declared.Sizes.{Sizes}
@@ -10,7 +10,9 @@ use Rattle.eit.specs.Overwrite.{overwrite}
 use Rattle.eit.specs.Records.{numbersOfAll}
 use Rattle.eit.specs.declared.Identity.{Identity}
 use Rattle.eit.specs.declared.Record.{Record}
-use Rattle.sections.specs.Section.{Section}
+use Rattle.sections.specs.Every.{Every}
+use Rattle.sections.specs.Segment.{tableFirst}
+use Rattle.sections.specs.Section.{versionOf, Section}
 use Rattle.sections.specs.Encode.{fileBytes}
 use Rattle.sections.specs.Rules.{Rules}
 use Rattle.sections.specs.Offsets.{recordsFrom}
@@ -29,12 +31,25 @@ RecordBuffer buffer = length buffer ≡ acceptedNumbers
 abbrev pub Accepted : Sizes → ℕ → List ℕ → Type 0
 Accepted sizes base file = (buffer : List ℕ) → RecordBuffer buffer → read sizes base file buffer .answer .number ≡ 0
 
--- the file is the joined bytes of some sections that keep the rules, and the records are their events at their offsets
--- in it
+-- 02, W-208: "Read gives 0 for absent tables": those of which some sections have none
+abbrev pub ZeroWhereAbsent : Identity → List Section → Type 0
+ZeroWhereAbsent identity ss =
+    (table : ℕ) → tableFirst ≤ table → Every (λ (s : Section). s .header .tableId ≡ table → ⊥) ss
+    → versionOf identity table ≡ 0
+
+-- 02, W-208: "versions of present tables only": two identities with the same triplet and the same versions of the
+-- tables up to last_table_id
+pub record SameUpTo (lastTableId : ℕ) (i j : Identity) : Type 0 where
+  pub triplet : i .triplet ≡ j .triplet
+  pub versions : (table : ℕ) → tableFirst ≤ table → table ≤ lastTableId → versionOf i table ≡ versionOf j table
+
+-- the file is the joined bytes of some sections that keep the rules, the identity is theirs, with version 0 for absent
+-- tables, and the records are their events at their offsets in it
 pub record FollowsRules (sizes : Sizes) (base : ℕ) (file : List ℕ) (identity : Identity) (rs : List Record) : Type
     0 where
   pub sections : List Section
   pub rules : Rules sizes identity sections
+  pub absent : ZeroWhereAbsent identity sections
   pub bytes : fileBytes base sections ≡ file
   pub records : recordsFrom 0 sections ≡ rs
 

@@ -5,6 +5,7 @@ use Prim.Native.Nat.{ℕ}
 use mathlib.Core.Path.{_≡_}
 use mathlib.Core.Bool.{Bool, true, false}
 use mathlib.Core.List.{List, [], _∷_, _++_}
+use lib.ListN.{replicate}
 use Rattle.eit.specs.Sizes.{broadcast}
 use Rattle.eit.specs.Events.{Event}
 use Rattle.eit.specs.declared.Identity.{Identity}
@@ -22,7 +23,10 @@ tableAndSection start = (tableOf (segmentIndex start), firstSection (segmentInde
 
 abbrev pub identity : Identity
 identity =
-    record { triplet = record { «service_id» = 1; «transport_stream_id» = 2; «original_network_id» = 3 }; version = 0 }
+    record {
+      triplet = record { «service_id» = 1; «transport_stream_id» = 2; «original_network_id» = 3 };
+      versions = replicate 16 0;
+    }
 
 -- an event with one descriptor, off air or not, and with free_CA_mode or not; and its bytes, but for the one that
 -- says so
@@ -94,7 +98,7 @@ pub record Examples : Type 0 where
         identity =
             record {
               triplet = record { «service_id» = 1; «transport_stream_id» = 2; «original_network_id» = 3 };
-              version = 31;
+              versions = replicate 16 31;
             };
         count = 9;
       }

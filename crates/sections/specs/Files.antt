@@ -2,9 +2,9 @@
 -- what is asked of them is in specs/FileAnswers.antt.
 -- Where nothing else is said, service, stream and network are 1, 2 and 3, the version is 0, and the base day is 49,273
 -- (0xC079). Assumes nothing.
-use Prim.Native.Nat.{ℕ, zero, suc, _+_}
+use Prim.Native.Nat.{ℕ, suc, _+_}
 use mathlib.Core.List.{List, [], _∷_, _++_}
-use lib.ListN.{length}
+use lib.ListN.{length, replicate}
 use Rattle.eit.specs.Fields.{bigEndian}
 use Rattle.eit.specs.Crc.{crc32}
 
@@ -96,10 +96,11 @@ sixHours seconds =
     ++ section 0x50 8 16 8 0x50 []
     ++ section 0x50 16 16 16 0x50 (eventAt 2 0x06 0x00)
 
--- empty tables, n of them from `table` on, with last_table_id 0x5F and version 31
-abbrev pub emptyTables : ℕ → ℕ → List ℕ
-emptyTables table zero = []
-emptyTables table (suc n) = sectionWithVersion 0xFF table 0 0 0 0x5F [] ++ emptyTables (suc table) n
+-- empty tables from `table` on, with these version bytes and last_table_id 0x5F
+abbrev pub emptyTables : ℕ → List ℕ → List ℕ
+emptyTables table [] = []
+emptyTables table (version ∷ versions) =
+    sectionWithVersion version table 0 0 0 0x5F [] ++ emptyTables (suc table) versions
 
 -- a segment of eight sections, and all sixteen tables; the last has an event of 99:59:59 at its start, sixty days after
 -- the base day, which ends past the last segment
@@ -113,6 +114,6 @@ full =
     ++ sectionWithVersion 0xFF 0x50 5 7 7 0x5F (eventAt 6 0x00 0x50)
     ++ sectionWithVersion 0xFF 0x50 6 7 7 0x5F (eventAt 7 0x01 0x00)
     ++ sectionWithVersion 0xFF 0x50 7 7 7 0x5F (eventAt 8 0x02 0x59)
-    ++ emptyTables 0x51 14
+    ++ emptyTables 0x51 (replicate 14 0xFF)
     ++ sectionWithVersion 0xFF 0x5F 0 0 0 0x5F
     (0x00 ∷ 0x09 ∷ 0xC0 ∷ 0xB5 ∷ 0x00 ∷ 0x00 ∷ 0x00 ∷ 0x99 ∷ 0x59 ∷ 0x59 ∷ 0x00 ∷ 0x00 ∷ [])

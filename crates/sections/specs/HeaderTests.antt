@@ -1,9 +1,9 @@
 -- What Read asks of a section before its events: a test for each of the refusals 20 to 23, on the section's bytes and
--- on the header before it (01, "When a call says no"). Laws: proofs/HeaderBytes.antt, proofs/SameFile.antt,
--- proofs/Numbering.antt. Assumes nothing.
+-- on the headers before it (01, "When a call says no"). Laws: proofs/HeaderBytes.antt, proofs/SameFile.antt,
+-- proofs/Version.antt, proofs/Numbering.antt. Assumes nothing.
 use Prim.Native.Nat.{ℕ, _+_, _/_, _%_}
 use mathlib.Core.Bool.{Bool, true, false, _&&_, _||_}
-use mathlib.Core.List.{List}
+use mathlib.Core.List.{List, [], _∷_}
 use mathlib.Core.Option.{Option, none, some}
 use lib.Dec.{eqb, leb, ltb}
 use lib.ListN.{length}
@@ -42,15 +42,32 @@ isTriplet triplet t =
     && (eqb (t .«transport_stream_id») (triplet .«transport_stream_id»)
     && eqb (t .«original_network_id») (triplet .«original_network_id»))
 
--- triplet, version and last_table_id are those of the section before
+-- the header before, of those so far, the latest first
+abbrev pub latest : List Header → Option Header
+latest [] = none
+latest (h ∷ hs) = some h
+
+-- triplet and last_table_id are those of the section before
 abbrev pub isSameFile : Option Header → Header → Bool
 isSameFile none h = true
-isSameFile (some g) h =
-    isTriplet (g .triplet) (h .triplet) && (eqb (h .version) (g .version) && eqb (h .lastTableId) (g .lastTableId))
+isSameFile (some g) h = isTriplet (g .triplet) (h .triplet) && eqb (h .lastTableId) (g .lastTableId)
+
+-- the version of the latest section of a table, if one has come
+abbrev pub versionIn : List Header → ℕ → Option ℕ
+versionIn [] table = none
+versionIn (h ∷ hs) table = elim (eqb (h .tableId) table) [ true ↦ some (h .version) | false ↦ versionIn hs table ]
+
+-- 02, W-208: "Number 22 refuses a version that differs within a table only": it is that of an earlier section of the
+-- table, wherever that stood
+unfoldable pub isSameVersion : List Header → Header → Bool
+isSameVersion before h = elim (versionIn before (h .tableId)) [ none ↦ true | some version ↦ eqb (h .version) version ]
 
 -- 22: fixed bits, identity, last_table_id (0x50 to 0x5F)
-unfoldable pub isHeader : Option Header → List ℕ → Bool
-isHeader before bs = hasFixedBits bs && (isTable (headerIn bs .lastTableId) && isSameFile before (headerIn bs))
+unfoldable pub isHeader : List Header → List ℕ → Bool
+unfolding isSameVersion
+isHeader before bs =
+    let h = headerIn bs in
+    hasFixedBits bs && (isTable (h .lastTableId) && (isSameFile (latest before) h && isSameVersion before h))
 
 -- s0 ≤ S ≤ G ≤ L, G ≤ s0 + 7, and G = L or L ≥ s0 + 8
 abbrev pub isNumbered : Header → Bool

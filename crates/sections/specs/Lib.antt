@@ -1,4 +1,5 @@
 -- Definitions, in the order of document 01.
+pub mod Each  -- functions of numbers in a row
 pub mod Segment  -- segments, and the tables and section numbers that they have
 pub mod Section  -- a section as data
 pub mod Encode  -- its bytes, field by field
@@ -16,4 +17,5 @@ pub mod Exact  -- what "Read is exact" speaks of
 pub mod Files  -- short files in raw bytes
 pub mod FileAnswers  -- and what is asked of them
 pub mod Examples  -- sections and files computed
+pub mod VersionExamples  -- versions by table computed
 pub mod Broken  -- sections that break one of the rules

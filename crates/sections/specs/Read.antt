@@ -2,20 +2,23 @@
 -- Read", "When a call says no"). Laws: proofs/Read.antt, proofs/Exact.antt. Assumes nothing.
 use Prim.Native.Nat.{ℕ, _*_}
 use mathlib.Core.Bool.{Bool, true, false, _&&_}
-use mathlib.Core.List.{List}
+use mathlib.Core.List.{List, [], _∷_}
 use mathlib.Core.Option.{Option, none, some}
 use lib.Dec.{eqb, leb}
 use lib.ListN.{length}
 use Rattle.eit.specs.declared.Sizes.{Sizes}
 use Rattle.eit.specs.Limits.{baseDayMax}
-use Rattle.eit.specs.Identity.{zeroIdentity}
+use Rattle.eit.specs.Identity.{tables, zeroIdentity}
 use Rattle.eit.specs.Overwrite.{overwrite}
 use Rattle.eit.specs.Records.{EventList, recordSize, numbersOfAll}
 use Rattle.eit.specs.declared.Identity.{Identity}
 use Rattle.eit.specs.declared.Record.{Record}
-use Rattle.sections.specs.Section.{Header, headerIdentity}
+use Rattle.sections.specs.Each.{each}
+use Rattle.sections.specs.Segment.{tableFirst}
+use Rattle.sections.specs.Section.{Header}
 use Rattle.sections.specs.Decode.{splitFile, sectionsIn}
 use Rattle.sections.specs.Offsets.{recordsFrom}
+use Rattle.sections.specs.HeaderTests.{latest, versionIn}
 use Rattle.sections.specs.Walk.{atStart, Verdict, passed, refused, walk}
 
 -- the file ends after last_table_id
@@ -23,10 +26,20 @@ abbrev pub isComplete : Option Header → Bool
 isComplete none = false
 isComplete (some h) = eqb (h .sectionNumber) (h .lastSectionNumber) && eqb (h .tableId) (h .lastTableId)
 
--- the identity of the file, which every header has: that of the last
-abbrev pub identityOf : Option Header → Identity
-identityOf none = zeroIdentity
-identityOf (some h) = headerIdentity h
+-- the version of a table's sections; 02, W-208: "Read gives 0 for absent tables"
+abbrev pub versionOrZero : Option ℕ → ℕ
+versionOrZero none = 0
+versionOrZero (some version) = version
+
+-- the versions of all tables, by the headers of a file's sections
+unfoldable pub versionsIn : List Header → List ℕ
+unfolding each
+versionsIn hs = each (λ (table : ℕ). versionOrZero (versionIn hs table)) tableFirst tables
+
+-- the identity of the file, by the headers of its sections: the triplet of the last, which all have, and the versions
+abbrev pub identityOf : List Header → Identity
+identityOf [] = zeroIdentity
+identityOf (h ∷ hs) = record { triplet = h .triplet; versions = versionsIn (h ∷ hs) }
 
 -- what is returned: number and value of the answer, the identity and the number of events. A refusal has identity 0 and
 -- count 0
@@ -48,7 +61,7 @@ success identity count = record { number = 0; value = count; identity = identity
 abbrev pub atEnd : ℕ → Verdict → Answer
 atEnd size (refused number offset) = refusal number offset
 atEnd size (passed p) =
-    elim (isComplete (p .before)) [
+    elim (isComplete (latest (p .before))) [
       | true ↦ success (identityOf (p .before)) (length (p .seen))
       | false ↦ refusal 25
           size

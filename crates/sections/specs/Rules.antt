@@ -14,6 +14,7 @@ use Rattle.eit.specs.Fields.{Bytes}
 use Rattle.eit.specs.Among.{allDiffer}
 use Rattle.eit.specs.Chain.{isChain}
 use Rattle.eit.specs.Events.{Event, rising}
+use Rattle.eit.specs.Identity.{tables}
 use Rattle.eit.specs.declared.Triplet.{Triplet}
 use Rattle.eit.specs.declared.Identity.{Identity}
 use Rattle.sections.specs.Every.{Every}
@@ -76,13 +77,14 @@ pub record TripletRules (triplet : Triplet) : Type 0 where
   pub stream : triplet .«transport_stream_id» < 256 ^ 2
   pub network : triplet .«original_network_id» < 256 ^ 2
 
--- .. and version 5 bits
+-- .. and each of the sixteen versions 5 bits
 pub record IdentityRules (identity : Identity) : Type 0 where
   pub tripletRules : TripletRules (identity .triplet)
-  pub version : identity .version ≤ versionMax
+  pub sixteen : length (identity .versions) ≡ tables
+  pub versionRules : Every (λ (version : ℕ). version ≤ versionMax) (identity .versions)
 
--- identity and last_table_id are the same in every section; no table is past last_table_id; the numbers have a byte
--- each
+-- triplet and last_table_id are the same in every section; 02, W-208: the version in every section of a table; no table
+-- is past last_table_id; the numbers have a byte each
 pub record HeaderRules (identity : Identity) (lastTableId : ℕ) (h : Header) : Type 0 where
   pub sameTriplet : h .triplet ≡ identity .triplet
   pub sameVersion : h .version ≡ versionOf identity (h .tableId)

@@ -1,12 +1,13 @@
 -- A section as data, and how many bytes it has (01, "The file of sections"). Laws: proofs/Version.antt,
 -- proofs/Lengths.antt. Assumes nothing.
-use Prim.Native.Nat.{ℕ, _+_}
+use Prim.Native.Nat.{ℕ, _+_, _-_}
 use mathlib.Core.List.{List, [], _∷_, map, flatten}
-use lib.ListN.{length}
+use lib.ListN.{length, getD}
 use Rattle.eit.specs.Sizes.{sectionOverhead}
 use Rattle.eit.specs.Events.{Event}
 use Rattle.eit.specs.declared.Triplet.{Triplet}
 use Rattle.eit.specs.declared.Identity.{Identity}
+use Rattle.sections.specs.Segment.{tableFirst}
 
 -- what stands before a section's events, but for section_length and the fixed bits
 pub record Header : Type 0 where
@@ -18,14 +19,13 @@ pub record Header : Type 0 where
   pub triplet : Triplet
   pub version : ℕ
 
--- the version that sections of a table have in a file with this identity: the same in every section, so the table does
--- not matter
-unfoldable pub versionOf : Identity → ℕ → ℕ
-versionOf identity table = identity .version
+-- a table's version among those of all tables, of which the first is that of table 0x50
+abbrev pub tableVersion : List ℕ → ℕ → ℕ
+tableVersion versions table = getD versions (table - tableFirst) 0
 
--- the identity of a file as one of its headers shows it
-abbrev pub headerIdentity : Header → Identity
-headerIdentity h = record { triplet = h .triplet; version = h .version }
+-- the version that sections of a table have in a file with this identity (02, W-208)
+unfoldable pub versionOf : Identity → ℕ → ℕ
+versionOf identity table = tableVersion (identity .versions) table
 
 -- a section: its header and its events
 pub record Section : Type 0 where

@@ -3,31 +3,30 @@
 use Prim.Native.Nat.{ℕ, _+_}
 use mathlib.Core.Bool.{Bool, true, false}
 use mathlib.Core.List.{List, [], _∷_, _++_, map, reverse}
-use mathlib.Core.Option.{Option, none, some}
 use lib.ListN.{length}
 use Rattle.eit.specs.declared.Sizes.{Sizes}
 use Rattle.eit.specs.Events.{Event}
 use Rattle.sections.specs.Section.{Header}
 use Rattle.sections.specs.Decode.{eventIn, headerIn, splitEvents}
-use Rattle.sections.specs.HeaderTests.{isFramed, hasRightCrc, isHeader, hasRightNumbering}
+use Rattle.sections.specs.HeaderTests.{latest, isFramed, hasRightCrc, isHeader, hasRightNumbering}
 use Rattle.sections.specs.EventTests.{isEventLoop, isWithinLimit}
 
--- what is known before a section: its offset, the header before it, and the events so far, the latest first
+-- what is known before a section: its offset, and the headers and the events so far, the latest first
 pub record Progress : Type 0 where
   pub offset : ℕ
-  pub before : Option Header
+  pub before : List Header
   pub seen : List Event
 
 -- before the first section
 abbrev pub atStart : Progress
-atStart = record { offset = 0; before = none; seen = [] }
+atStart = record { offset = 0; before = []; seen = [] }
 
 -- behind a section
 abbrev pub behind : ℕ → Progress → List ℕ → Progress
 behind base p bs =
     record {
       offset = p .offset + length bs;
-      before = some (headerIn bs);
+      before = headerIn bs ∷ p .before;
       seen = reverse (map (eventIn base) (splitEvents bs)) ++ p .seen;
     }
 
@@ -52,7 +51,7 @@ step sizes base p bs =
     require (isFramed sizes bs) 20 (p .offset)
     (require (hasRightCrc bs) 21 (p .offset)
     (require (isHeader (p .before) bs) 22 (p .offset)
-    (require (hasRightNumbering (p .before) (headerIn bs)) 23 (p .offset)
+    (require (hasRightNumbering (latest (p .before)) (headerIn bs)) 23 (p .offset)
     (require (isEventLoop base (p .seen) bs) 24 (p .offset)
     (require (isWithinLimit sizes (p .seen) bs) 26 (p .offset) (passed (behind base p bs)))))))
 

@@ -10,9 +10,9 @@ use native.Mathlib.Omega.{arith}
 use lib.Dec.{T}
 use lib.ListN.{length, getD}
 use Rattle.eit.proofs.Test.{test-or, true-is, false-is, le-or-lt}
 use Rattle.sections.specs.Every.{Every}
 use Rattle.sections.proofs.Every.{every-append}
-use Rattle.schedule.specs.Each.{each, lowest}
+use Rattle.sections.specs.Each.{each, lowest}
 
 module _ {A : Type 0} where
   pub each-length : (f : ℕ → A) (least n : ℕ) → length (each f least n) ≡ n
@@ -25,6 +25,11 @@ module _ {A : Type 0} where
   each-at f d least zero k few = absurd (omega arith)
   each-at f d least (suc n) zero few = ap f (omega arith)
   each-at f d least (suc n) (suc k) few = each-at f d (suc least) n k (omega arith) ∙ ap f (omega arith)
+
+  pub each-every : (P : A → Type 0) (f : ℕ → A) (least n : ℕ) → ((k : ℕ) → P (f k)) → Every P (each f least n)
+  unfolding each
+  each-every P f least zero all = tt
+  each-every P f least (suc n) all = (all least, each-every P f (suc least) n all)
 
   -- the same function, value by value
   pub each-same : (f g : ℕ → A) (least n : ℕ) → ((k : ℕ) → f k ≡ g k) → each f least n ≡ each g least n
