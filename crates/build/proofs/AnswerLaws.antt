@@ -9,7 +9,7 @@ use native.Mathlib.Omega.{arith}
 use lib.Dec.{T}
 use lib.ListN.{length}
 use Rattle.eit.specs.declared.Sizes.{Sizes}
-use Rattle.eit.specs.Limits.{baseDayMax, versionMax, windowSeconds}
+use Rattle.eit.specs.Limits.{baseDayMax, windowSeconds}
 use Rattle.eit.specs.Fields.{Bytes}
 use Rattle.eit.specs.Overwrite.{overwrite}
 use Rattle.eit.specs.Pools.{Pools}
@@ -21,10 +21,10 @@ use Rattle.sections.specs.Every.{Every}
 use Rattle.sections.specs.Section.{sectionSizes}
 use Rattle.sections.specs.Encode.{fileBytes}
 use Rattle.sections.proofs.Every.{every-map}
-use Rattle.schedule.specs.Each.{each}
+use Rattle.sections.specs.Each.{each}
 use Rattle.schedule.specs.SectionsOf.{isUnpackable, lowestUnpackable, sectionsOf}
 use Rattle.schedule.specs.Plan.{sectionCount, plan}
-use Rattle.schedule.specs.Build.{Built, written, buildEvents, build}
+use Rattle.schedule.specs.Build.{Built, written, buildEvents, areVersions, build}
 use Rattle.schedule.proofs.SoundEvents.{EventFacts, SoundEvents, sound-events}
 use Rattle.schedule.proofs.Packable.{packable-or}
 use Rattle.schedule.proofs.Plan.{plan-sound}
@@ -42,13 +42,13 @@ index-found : (o : Option ℕ) {n : ℕ} → n ≡ indexOr512 o → n < 512 → 
 index-found none is few = absurd (omega arith)
 index-found (some index) is few = ap some (sym is)
 
--- a call with a legal base day and version, and what it counted of the list
+-- a call with a legal base day and legal versions, and what it counted of the list
 pub record Asked (sizes : Sizes) (pools : Pools) (numbers : List ℕ) (count base : ℕ) (identity : Identity)
     (output : List ℕ) (counted : Counted)
     : Type 0 where
   pub is-counted : counted ≡ countedOf sizes pools (lentList numbers count)
   pub legal-base : base ≤ baseDayMax
-  pub legal-version : identity .version ≤ versionMax
+  pub legal-versions : T (areVersions (identity .versions))
 
 module _ {sizes : Sizes} {pools : Pools} {numbers : List ℕ} {count base : ℕ} {identity : Identity} {output : List ℕ}
     {counted : Counted} (asked : Asked sizes pools numbers count base identity output counted) where
@@ -62,7 +62,7 @@ module _ {sizes : Sizes} {pools : Pools} {numbers : List ℕ} {count base : ℕ}
   answer-unsound fails =
       let unsound : sound sizes pools list ≡ false =
       sym (counted-sound sizes pools list) ∙ sym (ap (λ (c : Counted). c .«is_sound») (asked .is-counted)) ∙ fails in
-      build-unsound sizes pools list base identity output (asked .legal-base) (asked .legal-version)
+      build-unsound sizes pools list base identity output (asked .legal-base) (asked .legal-versions)
       (subst (λ (b : Bool). T (not b)) (sym unsound) tt)
 
   module _ (is : counted .«is_sound» ≡ true) where
@@ -86,7 +86,7 @@ module _ {sizes : Sizes} {pools : Pools} {numbers : List ℕ} {count base : ℕ}
     need-found = ap (λ (c : Counted). c .need) found ∙ sym (need-is sizes es identity)
 
     built-events : answer ≡ buildEvents sizes base identity es output
-    built-events = build-sound sizes pools list base identity output (asked .legal-base) (asked .legal-version) holds
+    built-events = build-sound sizes pools list base identity output (asked .legal-base) (asked .legal-versions) holds
 
     pub answer-unpackable : counted .lowest < 512
         → answer ≡ record { number = 10; value = counted .lowest; output = output }

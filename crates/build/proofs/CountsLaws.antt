@@ -16,7 +16,7 @@ use Rattle.eit.proofs.Test.{test-or}
 use Rattle.schedule.specs.Extent.{lastTable, lastSegment, isInside}
 use Rattle.schedule.specs.SectionsOf.{packedSegment, tableLast}
 use Rattle.schedule.specs.Plan.{sectionCount}
-use Rattle.schedule.proofs.Each.{each-length, each-at}
+use Rattle.sections.proofs.Each.{each-length, each-at}
 use Rattle.schedule.proofs.Extent.{segment-in-table, is-inside, inside-is}
 use Rattle.schedule.proofs.Numbers.{segment-last-is, table-last-is}
 use Rattle.schedule.proofs.Parts.{parts-some, parts-few}

@@ -23,10 +23,10 @@ use Rattle.codec_section.specs.HeaderRead.{heldHeader}
 use Rattle.codec_section.specs.declared.header.SectionHeader.{SectionHeader}
 use Rattle.build_counts.specs.Between.{eventsBetween, leading}
 use Rattle.build_counts.proofs.WalkLaws.{SegmentWalk, heldEvents, walk-start, walk-past, walk-events, walk-on}
-use Rattle.schedule.specs.Each.{each}
+use Rattle.sections.specs.Each.{each}
 use Rattle.schedule.specs.Extent.{lastTable, lastTableIdOf, lastSegment, isInside}
 use Rattle.schedule.specs.SectionsOf.{packedSegment, tableLast, headerOf, sectionsOf}
-use Rattle.schedule.proofs.Each.{joined-more, joined-none}
+use Rattle.sections.proofs.Each.{joined-more, joined-none}
 use Rattle.schedule.proofs.Extent.{tables-few, is-inside, inside-is}
 use Rattle.schedule.proofs.ByIndex.{insidePart, part-inside, part-outside, file-by-index}
 use Rattle.build.specs.Sections.{firstHeader, sectionsFrom}

@@ -13,5 +13,7 @@ pub mod CountsLaws
 pub mod FileLaws
 -- Plan's tables, of their counts joined
 pub mod PlanLaws
+-- versions looked at one after the other
+pub mod VersionsLaws
 -- what Build answers, by what it has found out of the list
 pub mod AnswerLaws

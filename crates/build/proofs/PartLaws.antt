@@ -12,7 +12,6 @@ use Rattle.packing.specs.Greedy.{fit, greedy}
 use Rattle.sections.specs.Segment.{tableOf, firstSection}
 use Rattle.sections.specs.Section.{Header, versionOf, Section, eventSize}
 use Rattle.sections.specs.Count.{segmentEvents}
-use Rattle.sections.proofs.Version.{version-of}
 use Rattle.codec_section.specs.HeaderRead.{heldHeader}
 use Rattle.schedule.specs.Extent.{lastTableIdOf}
 use Rattle.schedule.specs.SectionsOf.{packed, packedSegment, segmentLast, tableLast, headerOf, numberedFrom}
@@ -30,8 +29,8 @@ module _ (sizes : Sizes) (identity : Identity) (es : List Event) (index : ℕ) w
       → heldHeader (firstHeader index sections last lastId identity)
       ≡ headerOf sizes identity es index (firstSection index)
   header-is {sections} {last} {lastId} counted is-last is-id =
-      let held : ℕ → ℕ → ℕ → ℕ → Header =
-      λ v G L i.
+      let held : ℕ → ℕ → ℕ → Header =
+      λ G L i.
       record {
         tableId = tableOf index;
         sectionNumber = firstSection index;
@@ -39,14 +38,11 @@ module _ (sizes : Sizes) (identity : Identity) (es : List Event) (index : ℕ) w
         segmentLastSectionNumber = G;
         lastTableId = i;
         triplet = identity .triplet;
-        version = v;
+        version = versionOf identity (tableOf index);
       } in
-      let version : ℕ = versionOf identity (tableOf index) in
       let is-number : firstSection index + (sections - 1) ≡ segmentLast sizes es index =
       ap (λ (n : ℕ). firstSection index + (n - 1)) counted ∙ sym (segment-last-is sizes es index) in
-      let is-version : identity .version ≡ version = sym (version-of identity (tableOf index)) in
-      ap₂ (λ (v G : ℕ). held v G last lastId) is-version is-number
-      ∙ ap₂ (held version (segmentLast sizes es index)) is-last is-id
+      ap (λ (G : ℕ). held G last lastId) is-number ∙ ap₂ (held (segmentLast sizes es index)) is-last is-id
 
   -- ---- the sections
 

@@ -8,7 +8,7 @@ use Rattle.eit.specs.Events.{Event}
 use Rattle.eit.specs.declared.Identity.{Identity}
 use Rattle.packing.specs.Greedy.{fit}
 use Rattle.sections.specs.Segment.{tableOf, firstSection}
-use Rattle.sections.specs.Section.{Header, Section, eventSize, eventSizes}
+use Rattle.sections.specs.Section.{Header, versionOf, Section, eventSize, eventSizes}
 use Rattle.codec_section.specs.HeaderRead.{heldHeader}
 use Rattle.codec_section.specs.declared.header.SectionHeader.{SectionHeader}
 
@@ -29,7 +29,7 @@ firstHeader index sections last lastTable identity =
       «segment_last_section_number» = firstSection index + (sections - 1);
       «last_table_id» = lastTable;
       triplet = identity .triplet;
-      version = identity .version;
+      version = versionOf identity (tableOf index);
     }
 
 -- the header of the next section of a segment

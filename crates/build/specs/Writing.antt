@@ -11,7 +11,7 @@ use Rattle.eit.specs.Events.{Event, rising}
 use Rattle.eit.specs.declared.Identity.{Identity}
 use Rattle.sections.specs.Every.{Every}
 use Rattle.sections.specs.Section.{sectionSizes}
-use Rattle.schedule.specs.Each.{each}
+use Rattle.sections.specs.Each.{each}
 use Rattle.schedule.specs.SectionsOf.{isUnpackable, sectionsOf}
 use Rattle.schedule.specs.Plan.{sectionCount}
 

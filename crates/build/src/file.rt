@@ -119,6 +119,7 @@ fn first_header(
 {
     let number = first_section(index) as u8;
     let triplet = identity.triplet;
+    let versions = identity.versions;
     SectionHeader {
         table_id: table_of(index) as u8,
         section_number: number,
@@ -126,7 +127,7 @@ fn first_header(
         segment_last_section_number: number + (sections - 1),
         last_table_id,
         triplet,
-        version: identity.version,
+        version: versions[index / TABLE_SEGMENTS],
     }
 }
 

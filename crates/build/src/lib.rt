@@ -14,7 +14,7 @@ ghost use Rattle.eit.specs.Sizes.{sizesOf};
 ghost use Rattle.eit.specs.Pools.{lentPools};
 ghost use Rattle.eit.specs.Records.{lentList};
 ghost use Rattle.schedule.specs.Plan.{plan};
-ghost use Rattle.schedule.specs.Build.{build};
+ghost use Rattle.schedule.specs.Build.{areVersions, build};
 ghost use Rattle.build_answer.specs.Outcome.{outcomeOf};
 
 mod file;
@@ -52,6 +52,20 @@ pub fn plan<'a>(
     plan_within(list, count, day, series, Sizes::of(caller))
 }
 
+// Whether every version is at most 31.
+fn are_versions(versions: &[u8]) -> bool
+    ensures { λ r. ⌜ r ≡ areVersions (now (versions .entry)) ⌝ }
+{
+    let mut i = 0;
+    while i < versions.len() {
+        if VERSION_MAX < versions[i] {
+            return false;
+        }
+        i += 1;
+    }
+    true
+}
+
 // Build under any sizes. Its refusals in their order, 1, 2, 12, 10, 11, come before anything is written.
 fn build_within<'a>(
     list: &[u32],
@@ -71,7 +85,8 @@ fn build_within<'a>(
     if BASE_DAY_MAX < base_day {
         return BuildAnswer::BaseDay;
     }
-    if VERSION_MAX < identity.version {
+    let versions = identity.versions;
+    if !are_versions(&versions) {
         return BuildAnswer::Version;
     }
     let counted = count::count_sections(list, count, day, series, sizes);

@@ -7,7 +7,7 @@ pub enum BuildAnswer {
     Done(usize),
     // 1: the base day is above 65,472.
     BaseDay,
-    // 2: the version is above 31.
+    // 2: a version is above 31.
     Version,
     // 12: the list is unsound.
     Unsound,

@@ -21,10 +21,10 @@ use Rattle.eit.proofs.Test.{true-is, false-is, test-or}
 use Rattle.sections.specs.Every.{Every}
 use Rattle.sections.specs.Section.{sectionSizes}
 use Rattle.sections.proofs.Every.{every-map}
-use Rattle.schedule.specs.Each.{each, lowest}
+use Rattle.sections.specs.Each.{each, lowest}
 use Rattle.schedule.specs.SectionsOf.{isUnpackable, lowestUnpackable}
 use Rattle.schedule.specs.Plan.{sectionCount, plan}
-use Rattle.schedule.proofs.Each.{each-length, each-at}
+use Rattle.sections.proofs.Each.{each-length, each-at}
 use Rattle.schedule.proofs.SoundEvents.{EventFacts, SoundEvents, sound-events}
 use Rattle.schedule.proofs.Plan.{plan-sound, plan-unsound}
 use Rattle.schedule.proofs.ByIndex.{flat-plan, file-by-index, lowest-by-index}

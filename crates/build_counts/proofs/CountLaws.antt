@@ -19,11 +19,11 @@ use Rattle.packing.proofs.Greedy.{greedy-count, greedy-fits}
 use Rattle.sections.specs.Section.{Section, eventSize, sectionSizes}
 use Rattle.sections.specs.Count.{segmentEvents}
 use Rattle.sections.proofs.Lengths.{sizes-append}
-use Rattle.schedule.specs.Each.{each}
+use Rattle.sections.specs.Each.{each}
 use Rattle.schedule.specs.Extent.{isInside}
 use Rattle.schedule.specs.SectionsOf.{isUnpackable, packed, sectionsOfSegment}
 use Rattle.schedule.specs.Plan.{sectionCount}
-use Rattle.schedule.proofs.Each.{joined-more}
+use Rattle.sections.proofs.Each.{joined-more}
 use Rattle.schedule.proofs.Parts.{sizes-same, parts-few}
 use Rattle.schedule.proofs.Packable.{test-is}
 use Rattle.schedule.proofs.Best.{part-parts, parts-are}

@@ -18,7 +18,7 @@ use Rattle.eit.specs.Pools.{Pools}
 use Rattle.eit.specs.Events.{Event, rising}
 use Rattle.eit.proofs.Test.{true-is, false-is, le-or-lt, eq-or-not}
 use Rattle.sections.specs.Count.{segmentEvents}
-use Rattle.schedule.specs.Each.{lowest}
+use Rattle.sections.specs.Each.{lowest}
 use Rattle.schedule.specs.Extent.{isInside}
 use Rattle.schedule.specs.SectionsOf.{isUnpackable}
 use Rattle.schedule.specs.Plan.{sectionCount}

@@ -15,7 +15,7 @@ use Rattle.sections.specs.Split.{splitBy}
 use Rattle.sections.specs.Every.{Every}
 use Rattle.sections.specs.Offsets.{recordsFrom}
 use Rattle.sections.specs.Read.{fileRecords}
-use Rattle.sections.proofs.Exact.{sections-are, records-are}
+use Rattle.sections.proofs.Joined.{sections-are, records-are}
 use Rattle.codec.proofs.LeftLaws.{Left, left-all, left-fits, left-more, left-end}
 use Rattle.read_walk.specs.SectionAt.{sectionAt, sectionEnd}
 use Rattle.read_walk.proofs.SectionAtLaws.{walk-end, walk-next, end-inside, end-is}

@@ -19,7 +19,7 @@ use Rattle.sections.proofs.Lengths.{section-length}
 use Rattle.sections.proofs.Walk.{Passes, AllPass}
 use Rattle.sections.proofs.SectionForth.{section-forth}
 use Rattle.sections.proofs.Read.{check-succeeded}
-use Rattle.sections.proofs.Exact.{file-joined}
+use Rattle.sections.proofs.Joined.{file-joined}
 use Rattle.sections.proofs.FileSize.{accepted-size}
 use Rattle.read.specs.Fillable.{Fillable}
 

@@ -1,24 +1,26 @@
 -- The checks of one section in code, in their order, are the step of Read's definition: each test that fails is its
 -- refusal, and all together are the way on. By the laws of each refusal (`step-20` to `step-26` of sections).
 -- Assumes nothing.
-use mathlib.Core.Path.{_≡_, refl, sym, ap, ap₂, subst, _∙_}
+use mathlib.Core.Path.{_≡_, sym, ap, ap₂, subst, _∙_}
 use mathlib.Core.Logic.{⊎-elim}
-use mathlib.Core.Bool.{Bool, true, false, not}
+use mathlib.Core.Bool.{Bool, true, false, not, _&&_}
 use mathlib.Core.List.{List, map, reverse, _++_}
 use mathlib.Core.Option.{Option, none, some}
 use Prim.Native.Nat.{ℕ, _+_, _≤_, _<_}
 use native.Mathlib.Omega.{arith}
-use lib.Dec.{T, le→leb}
+use lib.Dec.{T, leb→le, le→leb}
 use borrow.Author.Tests.{lt-leb}
 use lib.ListN.{length, length-map}
 use Rattle.eit.specs.declared.Sizes.{Sizes}
 use Rattle.eit.specs.Fields.{Bytes}
 use Rattle.eit.specs.Events.{Event}
-use Rattle.eit.proofs.Test.{true-is, false-is, test-or}
+use Rattle.eit.proofs.Test.{tests, true-is, false-is, test-or}
+use Rattle.sections.specs.Segment.{tableFirst, tableMax}
 use Rattle.sections.specs.Section.{Header}
 use Rattle.sections.specs.Decode.{statedEventSize, eventIn, headerIn, eventLoop, splitEvents}
 use Rattle.sections.specs.Split.{splitBy}
-use Rattle.sections.specs.HeaderTests.{isFramed, hasRightCrc, isHeader, hasRightNumbering}
+use Rattle.sections.specs.HeaderTests.{isTable, hasFixedBits, latest, isSameFile, isFramed, hasRightCrc, isHeader}
+use Rattle.sections.specs.HeaderTests.{isNext, hasRightNumbering}
 use Rattle.sections.specs.EventTests.{isEventLoop, isWithinLimit}
 use Rattle.sections.specs.Walk.{Progress, behind, refused, step}
 use Rattle.sections.proofs.Walk.{step-passes}
@@ -26,9 +28,10 @@ use Rattle.sections.proofs.Answers.{step-20, step-21, step-22, step-23, step-24
 use Rattle.sections.proofs.Order.{seen-length}
 use Rattle.codec_crc.specs.CrcTables.{crcTables}
 use Rattle.codec_section.specs.HeaderRead.{heldHeader}
+use Rattle.codec_section.specs.Versions.{withVersion}
 use Rattle.codec_section.specs.declared.header.SectionHeader.{SectionHeader}
 use Rattle.read_checks.specs.RightCrc.{hasRightCrcBy}
-use Rattle.read_checks.specs.HeaderBefore.{headerBefore, passedHeader, checkedHeader}
+use Rattle.read_checks.specs.HeaderBefore.{headerBefore, passedHeader, isHeaderBy, checkedHeader}
 use Rattle.read_events.specs.EventPass.{EventPass, checkedEvents, passOf}
 use Rattle.read_events.specs.EventsSoFar.{EventsSoFar}
 use Rattle.read_checks.specs.declared.header.HeaderBefore.the-variants.{Header as Behind}
@@ -38,6 +41,7 @@ use Rattle.read_checks.proofs.RightCrcLaws.{right-crc-by-tables}
 use Rattle.read_events.proofs.EventsSoFarLaws.{loop-checked, loop-so-far}
 use Rattle.read_check.specs.Tracks.{Tracks, SameVerdict}
 use Rattle.read_check.specs.declared.section.WalkState.{WalkState}
+use Rattle.read_check.proofs.VersionLaws.{tables-come, versions-noted, same-test}
 use Rattle.read_check.specs.declared.section.SectionVerdict.the-variants.{Passed}
 
 -- a test that was made, and its outcome
@@ -48,30 +52,35 @@ fails : {a b : Bool} → a ≡ b → a ≡ false → T (not b)
 fails made is = subst (λ (t : Bool). T (not t)) (sym is ∙ made) tt
 
 -- what 22 keeps of a section
-module _ (before : Option Header) (bs : List ℕ) where
-  kept-only : {h : Header} → some h ≡ checkedHeader before bs → T (isHeader before bs) × (h ≡ headerIn bs)
+module _ (before : Option Header) (versions bs : List ℕ) where
+  kept-only : {h : Header} → some h ≡ checkedHeader before versions bs
+      → T (isHeaderBy before versions bs) × (h ≡ headerIn bs)
   kept-only {h} kept =
       ⊎-elim
-      (λ (t : T (isHeader before bs)).
-      let shown : checkedHeader before bs ≡ some (headerIn bs) = rw (checkedHeader, true-is (isHeader before bs) t) in
+      (λ (t : T (isHeaderBy before versions bs)).
+      let shown : checkedHeader before versions bs ≡ some (headerIn bs) =
+      rw (checkedHeader, true-is (isHeaderBy before versions bs) t) in
       (t, cc))
-      (λ (f : T (not (isHeader before bs))).
-      let shown : checkedHeader before bs ≡ none = rw (checkedHeader, false-is (isHeader before bs) f) in
+      (λ (f : T (not (isHeaderBy before versions bs))).
+      let shown : checkedHeader before versions bs ≡ none =
+      rw (checkedHeader, false-is (isHeaderBy before versions bs) f) in
       let z : _≡_ {A = ℕ} 0 1 = cc in
       absurd (omega arith))
-      (test-or (isHeader before bs))
+      (test-or (isHeaderBy before versions bs))
 
-  nothing-only : none ≡ checkedHeader before bs → T (not (isHeader before bs))
+  nothing-only : none ≡ checkedHeader before versions bs → T (not (isHeaderBy before versions bs))
   nothing-only kept =
       ⊎-elim
-      (λ (t : T (isHeader before bs)).
-      let shown : checkedHeader before bs ≡ some (headerIn bs) = rw (checkedHeader, true-is (isHeader before bs) t) in
+      (λ (t : T (isHeaderBy before versions bs)).
+      let shown : checkedHeader before versions bs ≡ some (headerIn bs) =
+      rw (checkedHeader, true-is (isHeaderBy before versions bs) t) in
       let z : _≡_ {A = ℕ} 0 1 = cc in
       absurd (omega arith))
-      (λ (f : T (not (isHeader before bs))). f)
-      (test-or (isHeader before bs))
+      (λ (f : T (not (isHeaderBy before versions bs))). f)
+      (test-or (isHeaderBy before versions bs))
 
-module _ {offset : ℕ} {state : WalkState} {words : List ℕ} {p : Progress} (tracks : Tracks offset state words p)
+module _ {offset : ℕ} {state : WalkState} {versions words : List ℕ} {p : Progress}
+    (tracks : Tracks offset state versions words p)
     (sizes : Sizes)
     (base : ℕ) (bs : List ℕ) where
   -- the section's offset
@@ -99,21 +108,36 @@ module _ {offset : ℕ} {state : WalkState} {words : List ℕ} {p : Progress} (t
       has-right-crc : T (hasRightCrc bs)
       has-right-crc = holds (crc ∙ same-crc) crc-holds
 
-      pub refuses-22 : passedHeader Refusing ≡ checkedHeader (headerBefore (state .before)) bs
+      -- a framed section's table is in range
+      in-range : (tableFirst ≤ headerIn bs .tableId) × (headerIn bs .tableId ≤ tableMax)
+      unfolding isFramed
+      in-range = let t = is-framed in (leb→le _ _ (search tests), leb→le _ _ (search tests))
+
+      -- 22 of the definition is that of the code
+      same-header : isHeaderBy (headerBefore (state .before)) versions bs ≡ isHeader (p .before) bs
+      unfolding isHeader
+      same-header =
+          let g : Header = headerIn bs in
+          rw (← tracks .before-is, ← tracks .versions-are)
+          (ap (λ (b : Bool). hasFixedBits bs && (isTable (g .lastTableId) && (isSameFile (latest (p .before)) g && b)))
+          (sym (same-test g (in-range .0) (in-range .1) (p .before) (tracks .come))))
+
+      pub refuses-22 : passedHeader Refusing ≡ checkedHeader (headerBefore (state .before)) versions bs
           → step sizes base p bs ≡ refused 22 offset
       refuses-22 kept =
           at-offset (step-22 sizes base p bs is-framed has-right-crc
-          (nothing-only (p .before) bs
-          (kept ∙ ap (λ (o : Option Header). checkedHeader o bs) (sym (tracks .before-is)))))
+          (subst (λ (b : Bool). T (not b)) same-header
+          (nothing-only (headerBefore (state .before)) versions bs kept)))
 
       module _ {h : SectionHeader}
-          (kept : passedHeader (Passing h) ≡ checkedHeader (headerBefore (state .before)) bs) where
+          (kept : passedHeader (Passing h) ≡ checkedHeader (headerBefore (state .before)) versions bs) where
         shown : T (isHeader (p .before) bs) × (heldHeader h ≡ headerIn bs)
-        shown = kept-only (p .before) bs
-            (kept ∙ ap (λ (o : Option Header). checkedHeader o bs) (sym (tracks .before-is)))
+        shown =
+            let (passes, is) = kept-only (headerBefore (state .before)) versions bs kept in
+            (subst T same-header passes, is)
 
         same-numbering : hasRightNumbering (headerBefore (state .before)) (heldHeader h)
-            ≡ hasRightNumbering (p .before) (headerIn bs)
+            ≡ hasRightNumbering (latest (p .before)) (headerIn bs)
         same-numbering = ap₂ hasRightNumbering (sym (tracks .before-is)) (shown .1)
 
         pub refuses-23 : {numbered : Bool} → numbered ≡ hasRightNumbering (headerBefore (state .before)) (heldHeader h)
@@ -128,7 +152,7 @@ module _ {offset : ℕ} {state : WalkState} {words : List ℕ} {p : Progress} (t
             {check : EventCheck} {words′ : List ℕ}
             (checked : passOf check words′
             ≡ checkedEvents base (heldHeader h) (state .least) words (splitBy statedEventSize (eventLoop bs))) where
-          has-right-numbering : T (hasRightNumbering (p .before) (headerIn bs))
+          has-right-numbering : T (hasRightNumbering (latest (p .before)) (headerIn bs))
           has-right-numbering = holds (numbering ∙ same-numbering) numbering-holds
 
           passes : passOf check words′
@@ -184,10 +208,14 @@ module _ {offset : ℕ} {state : WalkState} {words : List ℕ} {p : Progress} (t
                 at-offset (step-26 sizes base p bs is-framed has-right-crc (shown .0) has-right-numbering is-loop
                 (above many))
 
+            next : T (isNext (latest (p .before)) (headerIn bs))
+            unfolding hasRightNumbering
+            next = let t = has-right-numbering in search tests
+
             pub goes-on : check .events + state .count ≤ sizes .«event_limit»
                 → SameVerdict (offset + length bs)
                 (Passed (record { before = Behind h; least = check .least; count = state .count + check .events }))
-                words′
+                versions words′
                 (step sizes base p bs)
             goes-on few = (
               behind base p bs,
@@ -203,6 +231,11 @@ module _ {offset : ℕ} {state : WalkState} {words : List ℕ} {p : Progress} (t
               record {
                 offset-is = ap (λ (n : ℕ). n + length bs) (tracks .offset-is);
                 before-is = ap some (sym (shown .1));
+                come = tables-come (p .before) (headerIn bs) (tracks .come) next;
+                versions-are =
+                    versions-noted (p .before) (headerIn bs) (in-range .0) (in-range .1)
+                    ∙ ap₂ (λ (vs : List ℕ) (g : Header). withVersion vs (g .tableId) (g .version))
+                    (tracks .versions-are) (sym (shown .1));
                 kept = kept-events .1;
                 count-is = omega (arith, seen-length events (p .seen), events-count, kept-events .0, tracks .count-is);
               },

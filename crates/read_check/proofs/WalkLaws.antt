@@ -8,16 +8,17 @@ use native.Mathlib.Omega.{arith}
 use lib.ListN.{length, drop, replicate}
 use Rattle.eit.specs.declared.Sizes.{Sizes}
 use Rattle.eit.specs.Limits.{baseDayMax}
-use Rattle.eit.specs.Identity.{zeroIdentity}
+use Rattle.eit.specs.Identity.{tables, zeroIdentity}
 use Rattle.sections.specs.Decode.{splitFile}
 use Rattle.sections.specs.Walk.{Progress, atStart, passed, refused, step, walk}
-use Rattle.sections.specs.Read.{atEnd, checkFile}
+use Rattle.sections.specs.Read.{versionsIn, atEnd, checkFile}
+use Rattle.sections.proofs.Version.{versions-length}
 use Rattle.read_walk.specs.SectionAt.{sectionAt, sectionEnd}
 use Rattle.read_walk.proofs.SectionAtLaws.{walk-end, walk-next, end-inside, end-is}
 use Rattle.read_checks.specs.declared.header.HeaderBefore.the-variants.{Nothing}
 use Rattle.read_events.proofs.EventsSoFarLaws.{so-far-start}
 use Rattle.read_answer.specs.Outcome.{answerNumber, answerValue, outcomeOf}
-use Rattle.read_check.specs.Tracks.{Tracks, SameVerdict}
+use Rattle.read_check.specs.Tracks.{Tracks, noted, SameVerdict}
 use Rattle.read_answer.specs.declared.ReadAnswer.{ReadAnswer}
 use Rattle.read_answer.specs.declared.ReadResult.{ReadResult}
 use Rattle.read_check.specs.declared.section.WalkState.{WalkState}
@@ -47,28 +48,42 @@ check-legal : (sizes : Sizes) (base : ℕ) (file : List ℕ) → base ≤ baseDa
 unfolding checkFile
 check-legal sizes base file legal = rw (checkFile, le-leb base baseDayMax legal)
 
+no-versions : versionsIn [] ≡ replicate tables 0
+unfolding versionsIn
+no-versions = refl
+
 -- ---- before a turn
 
-pub record WalkSoFar (sizes : Sizes) (base : ℕ) (file words : List ℕ) (state : WalkState) (offset : ℕ) : Type 0 where
+pub record WalkSoFar (sizes : Sizes) (base : ℕ) (file versions words : List ℕ) (state : WalkState) (offset : ℕ) : Type
+    0 where
   pub progress : Progress
-  pub tracks : Tracks offset state words progress
+  pub tracks : Tracks offset state versions words progress
   pub walked : walk sizes base atStart (splitFile file) ≡ walk sizes base progress (splitFile (drop offset file))
   pub inside : offset ≤ length file
 
 pub walk-start : (sizes : Sizes) (base : ℕ) (file : List ℕ)
-    → WalkSoFar sizes base file (replicate 1024 0) (record { before = Nothing; least = 0; count = 0 }) 0
+    → WalkSoFar sizes base file (replicate tables 0) (replicate 1024 0)
+    (record { before = Nothing; least = 0; count = 0 }) 0
 walk-start sizes base file = record {
   progress = atStart;
-  tracks = record { offset-is = refl; before-is = refl; kept = so-far-start; count-is = refl };
+  tracks =
+      record {
+        offset-is = refl;
+        before-is = refl;
+        come = tt;
+        versions-are = no-versions;
+        kept = so-far-start;
+        count-is = refl;
+      };
   walked = refl;
   inside = omega arith;
 }
 
-module _ {sizes : Sizes} {base : ℕ} {file words : List ℕ} {state : WalkState} {offset : ℕ}
-    (so-far : WalkSoFar sizes base file words state offset) where
+module _ {sizes : Sizes} {base : ℕ} {file versions words : List ℕ} {state : WalkState} {offset : ℕ}
+    (so-far : WalkSoFar sizes base file versions words state offset) where
   module _ (here : offset < length file) {section : List ℕ} (is : section ≡ sectionAt file offset)
       (verdict : SectionVerdict) (words′ : List ℕ)
-      (verdict-is : SameVerdict (offset + length section) verdict words′
+      (verdict-is : SameVerdict (offset + length section) verdict versions words′
       (step sizes base (so-far .progress) section)) where
     -- the section is the next piece
     next-piece : {end : ℕ} → end ≡ sectionEnd file offset
@@ -76,10 +91,10 @@ module _ {sizes : Sizes} {base : ℕ} {file words : List ℕ} {state : WalkState
     next-piece ends = walk-next file offset ends is here
 
     same-verdict : {v : SectionVerdict} → verdict ≡ v
-        → SameVerdict (offset + length section) v words′ (step sizes base (so-far .progress) section)
+        → SameVerdict (offset + length section) v versions words′ (step sizes base (so-far .progress) section)
     same-verdict e =
         subst
-        (λ (v : SectionVerdict). SameVerdict (offset + length section) v words′
+        (λ (v : SectionVerdict). SameVerdict (offset + length section) v versions words′
         (step sizes base (so-far .progress) section))
         e verdict-is
 
@@ -98,19 +113,26 @@ module _ {sizes : Sizes} {base : ℕ} {file words : List ℕ} {state : WalkState
         (sym none)
 
     -- the walk goes on at the offset behind the section
-    pub walk-more : {next : WalkState} {end : ℕ} → verdict ≡ Passed next → end ≡ sectionEnd file offset
-        → WalkSoFar sizes base file words′ next end
-    walk-more {next} passes ends =
+    pub walk-more : {next : WalkState} {end : ℕ} {versions′ : List ℕ} → verdict ≡ Passed next
+        → versions′ ≡ noted versions (next .before)
+        → end ≡ sectionEnd file offset
+        → WalkSoFar sizes base file versions′ words′ next end
+    walk-more {next} passes notes ends =
         let (q, stepped, tracks) = same-verdict passes in
         record {
           progress = q;
-          tracks = subst (λ (at : ℕ). Tracks at next words′ q) (sym (end-is file offset ends is)) tracks;
+          tracks =
+              rw (notes, end-is file offset ends is) tracks;
           walked =
               so-far .walked
               ∙ ap (walk sizes base (so-far .progress)) (next-piece ends)
               ∙ walk-passed sizes base (so-far .progress) section _ stepped;
           inside = end-inside file offset ends here;
         }
+
+  -- the versions of all tables are as many as there are tables
+  pub walk-versions : length versions ≡ tables
+  walk-versions = sym (ap length (so-far .tracks .versions-are)) ∙ versions-length (so-far .progress .before)
 
   pub walk-done : length file ≤ offset → base ≤ baseDayMax → (r : ReadResult)
       → atEnd (length file) (passed (so-far .progress)) ≡ outcomeOf r → checkFile sizes base file ≡ outcomeOf r

@@ -7,6 +7,7 @@ use eit::Identity;
 use eit::Sizes;
 use eit::limits::BASE_DAY_MAX;
 use eit::limits::ID_WORDS;
+use eit::limits::TABLES;
 use read_answer::ReadAnswer;
 use read_answer::ReadResult;
 use read_checks::header::HeaderBefore;
@@ -22,9 +23,9 @@ ghost use Rattle.read_check.specs.Tracks.{Tracks};
 mod section;
 
 // At the end of a file of `size` bytes: it ends after last_table_id, or early (25).
-fn at_end(state: WalkState, size: usize) -> ReadResult
+fn at_end(state: WalkState, versions: [u8; TABLES], size: usize) -> ReadResult
     ensures { λ r. ⌜
-        ((p : Progress) (offset : ℕ) (words : List ℕ) → Tracks offset state words p
+        ((p : Progress) (offset : ℕ) (words : List ℕ) → Tracks offset state versions words p
         → atEnd size (passed p) ≡ outcomeOf r) ⌝ }
 {
     let before = state.before;
@@ -35,10 +36,7 @@ fn at_end(state: WalkState, size: usize) -> ReadResult
         return read_answer::refused(ReadAnswer::EarlyEnd(size));
     }
     let triplet = last.triplet;
-    let identity = Identity {
-        triplet,
-        version: last.version,
-    };
+    let identity = Identity { triplet, versions };
     ReadResult {
         answer: ReadAnswer::Done(state.count),
         identity,
@@ -53,6 +51,7 @@ fn check_within(file: &[u8], base_day: u32, sizes: Sizes) -> ReadResult
         return read_answer::refused(ReadAnswer::BaseDay);
     }
     let crc_tables = codec_crc::tables();
+    let mut versions = [0u8; TABLES];
     let mut seen = [0u64; ID_WORDS];
     let mut state = WalkState {
         before: HeaderBefore::Nothing,
@@ -69,14 +68,17 @@ fn check_within(file: &[u8], base_day: u32, sizes: Sizes) -> ReadResult
             base_day,
             sizes,
             &crc_tables,
+            &versions,
             &mut seen,
         ) {
             SectionVerdict::Refused(answer) => return read_answer::refused(answer),
             SectionVerdict::Passed(next) => state = next,
         }
+        let before = state.before;
+        section::note_version(&mut versions, before);
         offset = read_walk::next_offset(file, offset);
     }
-    at_end(state, file.len())
+    at_end(state, versions, file.len())
 }
 
 // Answer, identity and number of events are those of the definition. It never says 27.

@@ -19,7 +19,7 @@ use Rattle.sections.specs.HeaderTests.{isFramed, hasRightCrc, isHeader, hasRigh
 use Rattle.sections.specs.EventTests.{isEvent, isEventLoop, isWithinLimit}
 use Rattle.sections.specs.Decode.{splitEvents, splitFile}
 use Rattle.sections.specs.Walk.{Progress, atStart, behindAll, passed, walk}
-use Rattle.sections.specs.Read.{atEnd, checkFile, read}
+use Rattle.sections.specs.Read.{versionsIn, atEnd, checkFile, read}
 use Rattle.sections.specs.FileAnswers.{acceptedWith, refusedWith}
 use Rattle.sections.proofs.Walk.{walk-passed}
 use Rattle.sections.proofs.Answers.{walk-append}
@@ -49,7 +49,7 @@ check-last file last split =
 
 file-256 : checkFile cable 49_273 (withEvents 16 0xBA65_4154) ≡ acceptedWith 256
 unfolding walk splitFile isFramed hasRightCrc isHeader hasRightNumbering isEvent isEventLoop isWithinLimit follows
-    isChain crc32 splitEvents behindFour
+    isChain crc32 splitEvents versionsIn behindFour
 file-256 = check-last (withEvents 16 0xBA65_4154) (fifth 16 0xBA65_4154) refl
 
 file-257 : checkFile cable 49_273 (withEvents 17 0x1908_4C13) ≡ refusedWith 26 2_952
@@ -59,7 +59,7 @@ file-257 = check-last (withEvents 17 0x1908_4C13) (fifth 17 0x1908_4C13) refl
 
 pub cable-rows : Cable
 unfolding edit formOf unstruckIn build plan read isFramed hasRightCrc isHeader hasRightNumbering isEvent isEventLoop
-    isWithinLimit sound eventsOf recordsOf follows overlap choose isChain crc32 versionOf chainOf row
+    isWithinLimit sound eventsOf recordsOf follows overlap choose isChain crc32 versionOf versionsIn chainOf row
 cable-rows =
     record {
       chain-994 = refl;

@@ -12,14 +12,14 @@ use Rattle.script.specs.Edit.{edit}
 use Rattle.sections.specs.Section.{versionOf}
 use Rattle.sections.specs.HeaderTests.{isFramed, hasRightCrc, isHeader, hasRightNumbering}
 use Rattle.sections.specs.EventTests.{isEvent, isEventLoop, isWithinLimit}
-use Rattle.sections.specs.Read.{read}
+use Rattle.sections.specs.Read.{versionsIn, read}
 use Rattle.schedule.specs.Plan.{plan}
 use Rattle.schedule.specs.Build.{build}
 use Rattle.samples_proved.specs.ForbiddenTag.{ForbiddenTag}
 
 pub forbidden-tag : ForbiddenTag
 unfolding edit formOf unstruckIn build plan read isFramed hasRightCrc isHeader hasRightNumbering isEvent isEventLoop
-    isWithinLimit sound eventsOf recordsOf overlap choose isChain crc32 versionOf
+    isWithinLimit sound eventsOf recordsOf overlap choose isChain crc32 versionOf versionsIn
 forbidden-tag =
     record {
       put-refused = refl;

@@ -11,3 +11,5 @@ pub mod Overlapping
 pub mod Cable
 -- what the demands speak of is there
 pub mod Carried
+-- Rebuild at the callers' sizes, computed
+pub mod VersionRows

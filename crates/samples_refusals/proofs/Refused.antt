@@ -5,10 +5,11 @@ use Rattle.eit.specs.Chain.{isChain}
 use Rattle.eit.specs.Events.{follows}
 use Rattle.sections.specs.HeaderTests.{isFramed, hasRightCrc, isHeader, hasRightNumbering}
 use Rattle.sections.specs.EventTests.{isEvent, isEventLoop, isWithinLimit}
-use Rattle.sections.specs.Read.{read}
+use Rattle.sections.specs.Read.{versionsIn, read}
 use Rattle.samples_refusals.specs.Refusals.{Refusals}
 use Rattle.samples_refusals.specs.EventRefusals.{EventRefusals}
 use Rattle.samples_refusals.specs.OverlapRefusals.{OverlapRefusals}
+use Rattle.samples_refusals.specs.VersionRefusals.{VersionRefusals}
 
 pub refusals : Refusals
 unfolding read isFramed hasRightCrc isHeader hasRightNumbering isEvent isEventLoop isWithinLimit crc32 isChain follows
@@ -91,6 +92,7 @@ event-refusals =
 
 pub overlap-refusals : OverlapRefusals
 unfolding read isFramed hasRightCrc isHeader hasRightNumbering isEvent isEventLoop isWithinLimit crc32 isChain follows
+    versionsIn
 overlap-refusals =
     record {
       section-touching = refl;
@@ -103,4 +105,24 @@ overlap-refusals =
       tables-overlap = refl;
       inside-touching = refl;
       inside-overlap = refl;
+    }
+
+pub version-refusals : VersionRefusals
+unfolding read isFramed hasRightCrc isHeader hasRightNumbering isEvent isEventLoop isWithinLimit crc32 isChain follows
+    versionsIn
+version-refusals =
+    record {
+      sixteen-versions = refl;
+      segment-same = refl;
+      segment-differs = refl;
+      segments-same = refl;
+      later-table-new = refl;
+      second-back-same = refl;
+      second-back-as-before = refl;
+      again-same = refl;
+      again-differs = refl;
+      next-table = refl;
+      past-last-table = refl;
+      crc-first = refl;
+      number-alone = refl;
     }

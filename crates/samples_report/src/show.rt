@@ -28,7 +28,7 @@ pub fn identity() -> Identity {
     };
     Identity {
         triplet,
-        version: 0,
+        versions: [0; TABLES],
     }
 }
 

@@ -1,5 +1,8 @@
 -- `build_within` meets its contract: each test excludes a refusal in the paper's order, and what is left is written.
 -- Assumes nothing.
+use mathlib.Core.Path.{sym, subst, _∙_}
+use mathlib.Core.Bool.{Bool, not}
+use lib.Dec.{T}
 use borrow.Author.Needs.{needs}
 use borrow.Author.Tests.{not-true, not-false}
 use denote.Ref.{now}
@@ -7,6 +10,7 @@ use Rattle.eit.specs.Fields.{Bytes}
 use Rattle.eit.specs.Pools.{Pools, lentPools}
 use Rattle.eit.specs.Records.{EventList, lentList}
 use Rattle.eit.proofs.Fields.{bytes-all}
+use Rattle.schedule.specs.Build.{areVersions}
 use Rattle.schedule.proofs.Build.{build-base, build-version}
 use Rattle.build.proofs.AnswerLaws.{Asked, answer-unsound, answer-unpackable, answer-short, answer-writable}
 use Rattle.build.proofs.AnswerLaws.{answer-done}
@@ -18,7 +22,7 @@ abbrev counted : tie.Else4 → tie.After-count-sections
 counted c = c .before .before .before .before
 
 abbrev legal : tie.After-count-sections → tie.Else1
-legal c = c .before .before .before
+legal c = c .before .before .before .before .before
 
 abbrev call : tie.After-slice-known → tie.Start
 call c = c .before .before .before .before
@@ -29,6 +33,16 @@ poolsOf c = lentPools (now (c .args .day)) (now (c .args .series))
 
 abbrev listOf : tie.Start → EventList
 listOf c = lentList (now (c .args .list)) (c .args .count)
+
+slice-aggregate-are-versions : tie.Need-slice-aggregate-are-versions
+slice-aggregate-are-versions c = search needs
+
+are-versions-requires : tie.Need-are-versions-requires
+are-versions-requires c κs = search needs
+
+versions-legal : (c : tie.Else2)
+    → T (areVersions (call (c .before .before .before .before .before) .args .identity .versions))
+versions-legal c = subst T (sym (not-false _ (c .if2 .left)) ∙ c .before .are-versions .ensures) tt
 
 -- what it asks, where the list is counted
 module _ (c : tie.After-count-sections) where
@@ -48,7 +62,7 @@ module _ (c : tie.After-count-sections) where
       record {
         is-counted = c .count-sections .ensures;
         legal-base = legal c .if1 .left;
-        legal-version = c .before .if2 .left;
+        legal-versions = versions-legal (c .before);
       }
 
 returns : tie.Need-returns
@@ -59,11 +73,12 @@ returns c =
 
 returns-2 : tie.Need-returns-2
 returns-2 c =
-    let legal = c .before .before in
+    let legal = c .before .before .before .before in
     let start = call (legal .before) in
     let a = start .args in
     build-version (a .sizes) (poolsOf start) (listOf start) (a .base-day) (a .identity) (now (a .out))
-    (legal .if1 .left) (c .if2 .taken)
+    (legal .if1 .left)
+    (subst (λ (b : Bool). T (not b)) (sym (not-true _ (c .if2 .taken)) ∙ c .before .are-versions .ensures) tt)
 
 count-sections-requires : tie.Need-count-sections-requires
 count-sections-requires c κs = search needs
@@ -111,6 +126,8 @@ build-within-spec =
     tie.close
     (tie.spec
     returns
+    slice-aggregate-are-versions
+    are-versions-requires
     returns-2
     count-sections-requires
     returns-3

@@ -6,28 +6,32 @@ use lib.ListN.{length}
 use Rattle.sections.proofs.Read.{check-base}
 use Rattle.read_answer.specs.Outcome.{outcomeOf}
 use Rattle.read_walk.proofs.SectionAtLaws.{end-past}
-use Rattle.read_check.proofs.WalkLaws.{WalkSoFar, walk-start, walk-stops, walk-more, walk-done}
+use Rattle.read_check.proofs.WalkLaws.{WalkSoFar, walk-start, walk-stops, walk-more, walk-versions, walk-done}
 use native.Mathlib.Omega.{arith}
 use borrow.Author.Needs.{needs}
 use Rattle.read_check.proofs.check_within.Statement.{statement}
 use Rattle.read_check.proofs.check_within.Tie as tie
 
 abbrev Inv-loop : tie.InvT-loop
-Inv-loop file base-day sizes crc-tables seen₀ state₀ offset₀ seen state offset =
-    WalkSoFar sizes base-day file seen state offset
+Inv-loop file base-day sizes crc-tables versions₀ seen₀ state₀ offset₀ versions seen state offset =
+    WalkSoFar sizes base-day file versions seen state offset
 
 abbrev μ-loop : tie.MeasureT-loop
-μ-loop file base-day sizes crc-tables seen₀ state₀ offset₀ seen state offset = length file - offset
+μ-loop file base-day sizes crc-tables versions₀ seen₀ state₀ offset₀ versions seen state offset = length file - offset
 
--- back from the way on to the check of the section, to the section read, and to the turn's beginning
-abbrev going : tie.After-next-offset Inv-loop μ-loop → tie.After-next Inv-loop μ-loop
-going c = c .before .before
+-- back from the way on to the version noted, to the check of the section, to the section read, and to the turn's
+-- beginning
+abbrev noted : tie.After-next-offset Inv-loop μ-loop → tie.After-note-version Inv-loop μ-loop
+noted c = c .before .before
+
+abbrev going : tie.After-note-version Inv-loop μ-loop → tie.After-next Inv-loop μ-loop
+going c = c .before .before .before
 
 abbrev checked : tie.After-next Inv-loop μ-loop → tie.After-check-section Inv-loop μ-loop
 checked c = c .before .before .before
 
 abbrev walked : tie.After-check-section Inv-loop μ-loop → tie.After-read-section Inv-loop μ-loop
-walked c = c .before .before .before
+walked c = c .before .before .before .before
 
 abbrev turn : tie.After-read-section Inv-loop μ-loop → tie.At-loop Inv-loop μ-loop
 turn c = c .before .before
@@ -48,7 +52,10 @@ read-section-requires : tie.Need-read-section-requires Inv-loop μ-loop
 read-section-requires c κs = search needs
 
 slice-aggregate-check-section : tie.Need-slice-aggregate-check-section Inv-loop μ-loop
-slice-aggregate-check-section c = search needs
+slice-aggregate-check-section c = sym (walk-versions (turn (c .before .before) .loop .inv))
+
+slice-aggregate-check-section-2 : tie.Need-slice-aggregate-check-section-2 Inv-loop μ-loop
+slice-aggregate-check-section-2 c = search needs
 
 check-section-requires : tie.Need-check-section-requires Inv-loop μ-loop
 check-section-requires c κs = search needs
@@ -73,22 +80,30 @@ returns-2 c =
 enum-known-next : tie.Need-enum-known-next Inv-loop μ-loop
 enum-known-next c = search needs
 
+slice-aggregate-note-version : tie.Need-slice-aggregate-note-version Inv-loop μ-loop
+slice-aggregate-note-version c =
+    sym (walk-versions (turn (walked (checked (c .before .before))) .loop .inv))
+
+note-version-requires : tie.Need-note-version-requires Inv-loop μ-loop
+note-version-requires c κs = search needs
+
 next-offset-requires : tie.Need-next-offset-requires Inv-loop μ-loop
 next-offset-requires c κs = search needs
 
 loop-less : tie.Need-loop-less Inv-loop μ-loop
 loop-less c =
-    let section = walked (checked (going c)) in
+    let section = walked (checked (going (noted c))) in
     let here = section .before .loop-test .taken in
     omega (arith, here, end-past _ (turn section .loop .offset) (c .next-offset .ensures) here)
 
 loop-again : tie.Need-loop-again Inv-loop μ-loop
 loop-again c =
-    let verdict = checked (going c) in
+    let verdict = checked (going (noted c)) in
     let section = walked verdict in
     let inv = turn section .loop .inv in
     walk-more inv (section .before .loop-test .taken) (section .read-section .ensures) _ _
-    (verdict .check-section .ensures _ (inv .tracks)) (going c .next .given .1) (c .next-offset .ensures)
+    (verdict .check-section .ensures _ (inv .tracks)) (going (noted c) .next .given .1) (noted c .note-version .ensures)
+    (c .next-offset .ensures)
 
 at-end-requires : tie.Need-at-end-requires Inv-loop μ-loop
 at-end-requires c κs = search needs
@@ -111,11 +126,14 @@ check-within-spec =
     loop-holds
     read-section-requires
     slice-aggregate-check-section
+    slice-aggregate-check-section-2
     check-section-requires
     enum-known-answer
     refused-requires-2
     returns-2
     enum-known-next
+    slice-aggregate-note-version
+    note-version-requires
     next-offset-requires
     loop-less
     loop-again

@@ -44,7 +44,7 @@ abbrev framed : tie.After-has-right-crc → tie.After-is-framed
 framed c = c .before .before
 
 abbrev start : tie.After-is-framed → tie.Start
-start c = c .before .before .before
+start c = c .before .before .before .before
 
 -- and from the room for all events to the test of their number
 abbrev inside : tie.Else6 → tie.Else5
@@ -55,7 +55,8 @@ is-framed-requires c κs = search needs
 
 module _ (c : tie.After-is-framed) where
   section-bytes : Bytes (now (start c .args .section))
-  section-bytes = bytes-all (now (start c .args .section)) (λ k. c .before .before .shared-slice-known .given k .fits)
+  section-bytes =
+      bytes-all (now (start c .args .section)) (λ k. c .before .before .before .shared-slice-known .given k .fits)
 
   lent-tables : now (start c .args .crc-tables) ≡ crcTables
   lent-tables = start c .pre
@@ -77,7 +78,8 @@ module _ (c : tie.After-has-right-numbering) where
   entry = start (framed (summed (headed (shown c))))
 
   header-passes : passedHeader (Passing (shown c .shown .given .0 .0))
-      ≡ checkedHeader (headerBefore (entry .args .state .before)) (now (entry .args .section))
+      ≡ checkedHeader (headerBefore (entry .args .state .before)) (now (entry .args .versions))
+      (now (entry .args .section))
   header-passes = sym (ap passedHeader (shown c .shown .given .1)) ∙ headed (shown c) .check-header .ensures
 
 -- and whose numbers are right, and events were looked at
@@ -200,8 +202,8 @@ returns-6 c p tracks =
       refl,
     )
 
-add-t28 : tie.Need-add-t28
-add-t28 c =
+add-t29 : tie.Need-add-t29
+add-t29 c =
     let room = c .before in
     let limit = inside room in
     let events = looked (limit .before .before .before) in
@@ -257,6 +259,6 @@ check-section-spec =
     returns-5
     same-length-2
     returns-6
-    add-t28
+    add-t29
     same-length-3
     returns-7)

@@ -7,12 +7,12 @@ use denote.Ref.{now}
 use borrow.Author.Needs.{needs}
 use borrow.Author.Tests.{not-true, not-false}
 use Rattle.sections.specs.Decode.{headerIn}
-use Rattle.sections.specs.HeaderTests.{isTable, hasFixedBits}
+use Rattle.sections.specs.HeaderTests.{isTable, hasFixedBits, isSameFile}
 use Rattle.codec_section.specs.HeaderRead.{heldHeader, headerOrNone}
 use Rattle.codec_section.proofs.HeaderLaws.{header-only, short-only}
 use Rattle.read_checks.specs.HeaderBefore.{headerBefore}
 use Rattle.read_checks.proofs.HeaderCheckLaws.{header-short, header-unfixed, header-no-table, header-other}
-use Rattle.read_checks.proofs.HeaderCheckLaws.{header-passes}
+use Rattle.read_checks.proofs.HeaderCheckLaws.{header-version, header-passes}
 use Rattle.read_checks.proofs.header.check_header.Statement.{statement}
 use Rattle.read_checks.proofs.header.check_header.Tie as tie
 
@@ -24,7 +24,7 @@ abbrev shown : tie.Else1 → tie.After-shown
 shown c = c .before .before .before
 
 abbrev start : tie.After-shown → tie.Start
-start c = c .before .before .before .before
+start c = c .before .before .before .before .before
 
 read-header-requires : tie.Need-read-header-requires
 read-header-requires c κs = search needs
@@ -38,10 +38,10 @@ enum-told c = search needs
 returns : tie.Need-returns
 returns c =
     let read = c .before .before in
-    let a = read .before .before .args in
+    let a = read .before .before .before .args in
     let bs = now (a .section) in
     sym
-    (header-short (headerBefore (a .before)) bs
+    (header-short (headerBefore (a .before)) (now (a .versions)) bs
     (short-only bs (ap headerOrNone (sym (c .enum-told .given .1)) ∙ read .read-header .ensures)))
 
 has-fixed-bits-requires : tie.Need-has-fixed-bits-requires
@@ -69,9 +69,10 @@ returns-2 c =
     let bits = sym (c .before .has-fixed-bits .ensures) in
     sym
     (⊎-elim
-    (λ w. header-unfixed (headerBefore (a .before)) bs (bits ∙ not-true _ (w .taken)))
+    (λ w. header-unfixed (headerBefore (a .before)) (now (a .versions)) bs (bits ∙ not-true _ (w .taken)))
     (λ w.
-    header-no-table (headerBefore (a .before)) bs (bits ∙ not-false _ (w .0 .left)) (shown-is header)
+    header-no-table (headerBefore (a .before)) (now (a .versions)) bs (bits ∙ not-false _ (w .0 .left))
+    (shown-is header)
     (sym (w .2 .ensures) ∙ not-true _ (w .3 .taken)))
     (c .if1 .came))
 
@@ -91,17 +92,38 @@ returns-3 c =
     let bits = fixed tabled in
     let a = start (shown bits) .args in
     let other = sym (c .before .is-same-file .ensures) ∙ not-true _ (c .if3 .taken) in
-    sym (header-other (headerBefore (a .before)) (now (a .section)) (fixed-is bits) (shown-is (shown bits))
-    (table-is tabled) other)
+    sym (header-other (headerBefore (a .before)) (now (a .versions)) (now (a .section)) (fixed-is bits)
+    (shown-is (shown bits)) (table-is tabled) other)
+
+is-table-version-requires : tie.Need-is-table-version-requires
+is-table-version-requires c κs = search needs
+
+-- behind the test of the triplet, too
+same-is : (c : tie.Else3)
+    → isSameFile (headerBefore (start (shown (fixed (c .before .before))) .args .before))
+    (heldHeader (shown (fixed (c .before .before)) .shown .given .0 .0))
+    ≡ true
+same-is c = sym (c .before .is-same-file .ensures) ∙ not-false _ (c .if3 .left)
 
 returns-4 : tie.Need-returns-4
 returns-4 c =
-    let tabled = c .before .before in
+    let same = c .before .before in
+    let tabled = same .before .before in
     let bits = fixed tabled in
     let a = start (shown bits) .args in
-    let same = sym (c .before .is-same-file .ensures) ∙ not-false _ (c .if3 .left) in
-    sym (header-passes (headerBefore (a .before)) (now (a .section)) (fixed-is bits) (shown-is (shown bits))
-    (table-is tabled) same)
+    let other = sym (c .before .is-table-version .ensures) ∙ not-true _ (c .if4 .taken) in
+    sym (header-version (headerBefore (a .before)) (now (a .versions)) (now (a .section)) (fixed-is bits)
+    (shown-is (shown bits)) (table-is tabled) (same-is same) other)
+
+returns-5 : tie.Need-returns-5
+returns-5 c =
+    let same = c .before .before in
+    let tabled = same .before .before in
+    let bits = fixed tabled in
+    let a = start (shown bits) .args in
+    let version = sym (c .before .is-table-version .ensures) ∙ not-false _ (c .if4 .left) in
+    sym (header-passes (headerBefore (a .before)) (now (a .versions)) (now (a .section)) (fixed-is bits)
+    (shown-is (shown bits)) (table-is tabled) (same-is same) version)
 
 pub check-header-spec : {M : Type 1} → statement M
 check-header-spec =
@@ -117,4 +139,6 @@ check-header-spec =
     returns-2
     is-same-file-requires
     returns-3
-    returns-4)
+    is-table-version-requires
+    returns-4
+    returns-5)
