@@ -21,11 +21,11 @@ use Rattle.chirdaluko.specs.declared.EitReading.{EitReading}
 abbrev pub callerOf : ℕ → Caller
 callerOf number = elim (eqb number 0) [ true ↦ Broadcast | false ↦ Cable ]
 
-abbrev pub givenIdentity : ℕ → ℕ → ℕ → ℕ → Identity
-givenIdentity service stream network version =
+abbrev pub givenIdentity : ℕ → ℕ → ℕ → List ℕ → Identity
+givenIdentity service stream network versions =
     record {
       triplet = record { «service_id» = service; «transport_stream_id» = stream; «original_network_id» = network };
-      version = version;
+      versions = versions;
     }
 
 abbrev pub editedOf : EitEdited → List ℕ → Edited
@@ -42,7 +42,7 @@ answerOf r =
     record {
       number = r .number;
       value = r .value;
-      identity = givenIdentity (r .«service_id») (r .«transport_stream_id») (r .«original_network_id») (r .version);
+      identity = givenIdentity (r .«service_id») (r .«transport_stream_id») (r .«original_network_id») (r .versions);
       count = r .count;
     }
 

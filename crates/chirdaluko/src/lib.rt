@@ -4,6 +4,7 @@ use eit::Caller;
 use eit::Identity;
 use eit::Triplet;
 use eit::limits::SEGMENTS;
+use eit::limits::TABLES;
 use list_records::place;
 use read_answer::ReadResult;
 ghost use mathlib.Core.Path.{_≡_};
@@ -17,6 +18,7 @@ ghost use Rattle.script.specs.Edit.{edit};
 ghost use Rattle.sections.specs.Read.{checkFile, read};
 ghost use Rattle.schedule.specs.Plan.{plan};
 ghost use Rattle.schedule.specs.Build.{build};
+ghost use Rattle.schedule.specs.Rebuild.{rebuild};
 ghost use Rattle.read_answer.specs.Outcome.{outcomeOf};
 ghost use Rattle.chirdaluko.specs.Face.{callerOf, editedOf, placedOf, builtOf, givenIdentity, answerOf};
 ghost use Rattle.chirdaluko.specs.Face.{readingOf};
@@ -36,7 +38,7 @@ pub struct EitPlace {
     pub looked: usize,
 }
 
-// What Build returns: document 01's number and value.
+// What Build and Rebuild return: document 01's number and value.
 #[repr(C)]
 pub struct EitBuilt {
     pub number: u32,
@@ -53,7 +55,8 @@ pub struct EitReading {
     pub service_id: u16,
     pub transport_stream_id: u16,
     pub original_network_id: u16,
-    pub version: u8,
+    // That of table 0x50 first; 0 for a table that the file does not have (02, W-208).
+    pub versions: [u8; TABLES],
 }
 
 // Whom a number names: 0 broadcast, any other cable.
@@ -116,13 +119,14 @@ pub extern "C" fn eit_build<'a>(
     service_id: u16,
     transport_stream_id: u16,
     original_network_id: u16,
-    version: u8,
+    versions: &[u8; TABLES],
     out: &mut [u8],
 ) -> EitBuilt
     ensures { λ r. ⌜
         build (sizesOf (callerOf caller)) (lentPools (now (day .entry)) (now (series .entry)))
         (lentList (now (list .entry)) count) «base_day»
-        (givenIdentity «service_id» «transport_stream_id» «original_network_id» version) (now (out .entry))
+        (givenIdentity «service_id» «transport_stream_id» «original_network_id» (now (versions .entry)))
+        (now (out .entry))
         ≡ builtOf r (now (out .exit)) ⌝ }
 {
     let triplet = Triplet {
@@ -130,7 +134,10 @@ pub extern "C" fn eit_build<'a>(
         transport_stream_id,
         original_network_id,
     };
-    let identity = Identity { triplet, version };
+    let identity = Identity {
+        triplet,
+        versions: *versions,
+    };
     let answer = build::build(
         caller_of(caller),
         list,
@@ -144,6 +151,42 @@ pub extern "C" fn eit_build<'a>(
     EitBuilt {
         number: build_answer::number_of(answer),
         value: build_answer::value_of(answer),
+    }
+}
+
+// Rebuild: number, value and every byte of the output are those of the definition (02, W-208).
+#[no_mangle]
+pub extern "C" fn eit_rebuild<'a>(
+    caller: u8,
+    previous: &[u8],
+    previous_base_day: u32,
+    list: &[u32],
+    count: usize,
+    day: &'a [u8],
+    series: &'a [u8],
+    base_day: u32,
+    out: &mut [u8],
+) -> EitBuilt
+    ensures { λ r. ⌜
+        rebuild (sizesOf (callerOf caller)) (now (previous .entry)) «previous_base_day»
+        (lentPools (now (day .entry)) (now (series .entry))) (lentList (now (list .entry)) count) «base_day»
+        (now (out .entry))
+        ≡ builtOf r (now (out .exit)) ⌝ }
+{
+    let answer = rebuild::rebuild(
+        caller_of(caller),
+        previous,
+        previous_base_day,
+        list,
+        count,
+        day,
+        series,
+        base_day,
+        out,
+    );
+    EitBuilt {
+        number: rebuild::number_of(answer),
+        value: rebuild::value_of(answer),
     }
 }
 
@@ -172,6 +215,7 @@ fn reading_of(checked: ReadResult) -> EitReading
     let answer = checked.answer;
     let identity = checked.identity;
     let triplet = identity.triplet;
+    let versions = identity.versions;
     EitReading {
         number: read_answer::number_of(answer),
         value: read_answer::value_of(answer),
@@ -179,7 +223,7 @@ fn reading_of(checked: ReadResult) -> EitReading
         service_id: triplet.service_id,
         transport_stream_id: triplet.transport_stream_id,
         original_network_id: triplet.original_network_id,
-        version: identity.version,
+        versions,
     }
 }
 

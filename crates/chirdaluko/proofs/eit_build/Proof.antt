@@ -14,7 +14,7 @@ use Rattle.chirdaluko.proofs.eit_build.Tie as tie
 
 -- the call, before what is known of the slices
 abbrev call : tie.After-caller-of → tie.Start
-call c = c .before .before .before .before .before
+call c = c .before .before .before .before .before .before
 
 caller-of-requires : tie.Need-caller-of-requires
 caller-of-requires c κs = search needs
@@ -40,7 +40,8 @@ returns c =
     (λ (caller : Caller).
     build (sizesOf caller) (lentPools (now (a .day)) (now (a .series))) (lentList (now (a .list)) (a .count))
     (a .base-day)
-    (givenIdentity (a .service-id) (a .transport-stream-id) (a .original-network-id) (a .version)) (now (a .out)))
+    (givenIdentity (a .service-id) (a .transport-stream-id) (a .original-network-id) (now (a .versions)))
+    (now (a .out)))
     (sym (named .caller-of .ensures))
     ∙ builds .build .ensures
     ∙ (λ i.

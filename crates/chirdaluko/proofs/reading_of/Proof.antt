@@ -18,7 +18,7 @@ returns c =
     λ i. record {
       number = valued .before .number-of .ensures i;
       value = valued .value-of .ensures i;
-      identity = valued .before .before .before .before .args .checked .identity;
+      identity = valued .before .before .before .before .before .args .checked .identity;
       count = c .count-of .ensures i;
     }
 
