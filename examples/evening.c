@@ -1,6 +1,7 @@
 /* An evening of one service, in C: edits an event list, plans it, builds its file, checks the file, reads it back,
- * prints where its sections stand, and writes the file to the path that is its argument. It is C11 and C++17.
- * README.md, "How to link", has the commands; evening.cuts is what it prints. */
+ * prints where its sections stand, and writes the file to the path that is its argument. Then a title changes, and it
+ * rebuilds the file. It is C11 and C++17. README.md, "How to link", has the commands; evening.cuts is what it
+ * prints. */
 #include "chirdaluko.h"
 
 #include <stdio.h>
@@ -9,7 +10,9 @@
 /* Whom every call serves. */
 enum { CALLER = EIT_BROADCAST };
 /* 1993-10-13. Starts count from its midnight UTC: a local time has to be turned into UTC first. */
-enum { BASE_DAY = 49273, SERVICE = 1, STREAM = 2, NETWORK = 3, VERSION = 0 };
+enum { BASE_DAY = 49273, SERVICE = 1, STREAM = 2, NETWORK = 3 };
+/* Those of the first file; later ones follow from the file before. */
+static const uint8_t VERSIONS[EIT_TABLES] = {0};
 
 /* A script, or a pool of descriptors. */
 typedef struct Bytes {
@@ -76,6 +79,14 @@ static void write_script(Bytes *script, Bytes *day, Bytes *series) {
     append(script, EIT_UNDO, 1);
 }
 
+/* The late film has another title: its programme is withdrawn, and put again. */
+static void write_change(Bytes *script, Bytes *day) {
+    script->length = 0;
+    append(script, EIT_WITHDRAW, 1);
+    append(script, 8, 2);
+    put(script, day, 8, seconds(23, 0), seconds(1, 0), 0, "The Last Tram");
+}
+
 /* Says what a call answered, and whether it went well. What the value of a refusal means stands at each call. */
 static int succeeded(const char *call, uint32_t number, size_t value) {
     if (number == EIT_SUCCESS) {
@@ -136,7 +147,7 @@ int main(int argument_count, char **arguments) {
     static uint32_t list[EIT_NUMBERS_MAX];
     static uint32_t records[EIT_NUMBERS_MAX];
     static uint8_t plan[EIT_SEGMENTS];
-    static uint8_t file[65536];
+    static uint8_t file[65536], changed[65536];
     static Bytes script, day, series;
 
     write_script(&script, &day, &series);
@@ -151,7 +162,7 @@ int main(int argument_count, char **arguments) {
 
     EitBuilt built =
         eit_build(CALLER, list, EIT_NUMBERS_MAX, edited.count, day.bytes, day.length, series.bytes, series.length,
-                  BASE_DAY, SERVICE, STREAM, NETWORK, VERSION, file, sizeof file);
+                  BASE_DAY, SERVICE, STREAM, NETWORK, VERSIONS, file, sizeof file);
     if (!succeeded("build", built.number, built.value)) {
         return 1;
     }
@@ -165,11 +176,30 @@ int main(int argument_count, char **arguments) {
         return 1;
     }
     printf("service %u stream %u network %u version %u\n", reading.service_id, reading.transport_stream_id,
-           reading.original_network_id, reading.version);
+           reading.original_network_id, reading.versions[0]);
     print_cuts(file, built.value, records, reading.count);
     if (argument_count != 2 || !written(arguments[1], file, built.value)) {
         fprintf(stderr, "evening: the argument is the path of a file that can be written\n");
         return 1;
     }
+
+    write_change(&script, &day);
+    edited = eit_edit(CALLER, list, EIT_NUMBERS_MAX, edited.count, day.bytes, day.length, series.bytes, series.length,
+                      script.bytes, script.length);
+    if (!succeeded("edit", edited.number, edited.value)) {
+        return 1;
+    }
+    /* The file on air is the previous one, and cannot be the output. The table has changed, and so has its version. */
+    EitBuilt rebuilt =
+        eit_rebuild(CALLER, file, built.value, BASE_DAY, list, EIT_NUMBERS_MAX, edited.count, day.bytes, day.length,
+                    series.bytes, series.length, BASE_DAY, changed, sizeof changed);
+    if (!succeeded("rebuild", rebuilt.number, rebuilt.value)) {
+        return 1;
+    }
+    checked = eit_check(CALLER, changed, rebuilt.value, BASE_DAY);
+    if (!succeeded("check", checked.number, checked.value)) {
+        return 1;
+    }
+    printf("version %u\n", checked.versions[0]);
     return 0;
 }

@@ -1,20 +1,22 @@
 //! An evening of one service, in Rust: edits an event list, plans it, builds its file, checks the file, reads it back,
-//! prints where its sections stand, and writes the file to the path that is its argument. README.md, "How to link", has
-//! the commands; evening.cuts is what it prints.
+//! prints where its sections stand, and writes the file to the path that is its argument. Then a title changes, and it
+//! rebuilds the file. README.md, "How to link", has the commands; evening.cuts is what it prints.
 
 // A part of it is needed here.
 #[allow(dead_code)]
 #[path = "../bindings/rust/src/lib.rs"]
 mod chirdaluko;
 
-use chirdaluko::{Caller, Identity, Planned, Pools, Record, NUMBERS_MAX, RECORD, SEGMENTS};
+use chirdaluko::{Caller, Identity, Planned, Pools, Previous, Record, NUMBERS_MAX, RECORD, SEGMENTS, TABLES};
 use std::error::Error;
 
 /// Whom every call serves.
 const CALLER: Caller = Caller::Broadcast;
 /// 1993-10-13. Starts count from its midnight UTC: a local time has to be turned into UTC first.
 const BASE_DAY: u32 = 49_273;
-const IDENTITY: Identity = Identity { service_id: 1, transport_stream_id: 2, original_network_id: 3, version: 0 };
+/// That of the first file; the versions of later ones follow from the file before.
+const IDENTITY: Identity =
+    Identity { service_id: 1, transport_stream_id: 2, original_network_id: 3, versions: [0; TABLES] };
 
 /// A short_event_descriptor (EN 300 468, 6.2): language, the name's length, the name, and no text.
 fn short_event(name: &str) -> Vec<u8> {
@@ -64,6 +66,11 @@ fn script(day: &mut Vec<u8>, series: &mut Vec<u8>) -> Vec<u8> {
     .concat()
 }
 
+/// The late film has another title: its programme is withdrawn, and put again.
+fn change(day: &mut Vec<u8>) -> Vec<u8> {
+    [vec![0x02, 0, 8], put(day, 8, seconds(23, 0), seconds(1, 0), 0, "The Last Tram")].concat()
+}
+
 /// A line for each section of a file that check accepted. A record's descriptors stand with their event, even if there
 /// are none.
 fn print_cuts(file: &[u8], records: &[u32]) {
@@ -102,10 +109,24 @@ fn main() -> Result<(), Box<dyn Error>> {
     println!("check {}", chirdaluko::check(CALLER, file, BASE_DAY)?.count);
     let mut records = [0; NUMBERS_MAX];
     let reading = chirdaluko::read(CALLER, file, BASE_DAY, &mut records)?;
-    let Identity { service_id, transport_stream_id, original_network_id, version } = reading.identity;
+    let Identity { service_id, transport_stream_id, original_network_id, versions } = reading.identity;
     println!("read {}", reading.count);
-    println!("service {service_id} stream {transport_stream_id} network {original_network_id} version {version}");
+    print!("service {service_id} stream {transport_stream_id} network {original_network_id} ");
+    println!("version {}", versions[0]);
     print_cuts(file, &records[..RECORD * reading.count]);
     std::fs::write(std::env::args().nth(1).ok_or("the argument is the path of the file")?, file)?;
+
+    let script = change(&mut day);
+    let pools = Pools { day: &day, series: &series };
+    let count = chirdaluko::edit(CALLER, &mut list, count, pools, &script)?;
+    println!("edit {count}");
+    // The file on air is the previous one. The table has changed, and so has its version.
+    let previous = Previous { file, base_day: BASE_DAY };
+    let mut changed = [0; 65_536];
+    let length = chirdaluko::rebuild(CALLER, previous, &list, count, pools, BASE_DAY, &mut changed)?;
+    println!("rebuild {length}");
+    let reading = chirdaluko::check(CALLER, &changed[..length], BASE_DAY)?;
+    println!("check {}", reading.count);
+    println!("version {}", reading.identity.versions[0]);
     Ok(())
 }

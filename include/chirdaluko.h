@@ -1,6 +1,7 @@
 /* Chirdaluko: DVB EIT schedules of one service. Edit makes an event list, Build turns the list into a file of EIT
- * schedule sections (ETSI EN 300 468, 5.2.4, tables 0x50 to 0x5F), Read turns a file back into a list. docs/MANUAL.md
- * shows every call at work.
+ * schedule sections (ETSI EN 300 468, 5.2.4, tables 0x50 to 0x5F), Read turns a file back into a list. When the list
+ * changes, rebuild writes its file anew and gives a new version to the tables that changed. docs/MANUAL.md shows every
+ * call at work.
  *
  * A call serves one of two callers, broadcast or cable, which differ in their sizes alone: how many events a list or
  * file has at most, and how many bytes a section. Serve one caller with all calls that belong together, in the standby
@@ -15,8 +16,8 @@
  * - A pointer to uint32_t is aligned to four bytes.
  * - What a call writes overlaps nothing else that it is lent. What it only reads may overlap.
  *
- * Nothing else is asked: callers, counts, base days, lists and files may be any at all, and a refusal says what is
- * wrong.
+ * Nothing else is asked: callers, counts, base days, versions, lists and files may be any at all, and a refusal says
+ * what is wrong.
  *
  * No call allocates, keeps a pointer, has a state or prints, so calls that write to different buffers may run at the
  * same time. Each runs on the thread's stack, Edit with some 230 KB of it: docs/MANUAL.md, "Stack", has the figures.
@@ -28,12 +29,13 @@
 #include <stdint.h>
 
 /* The version of this face, by semantic versioning of its names, values and calls; the Rust wrapper has the same. Link
- * a library of the same major version, or of version 4, whose calls do the same; one before 4 lets events overlap, and
- * one before 3 has calls of the same names that take other arguments. */
-#define CHIRDALUKO_VERSION_MAJOR 5
+ * a library of the same major version. One before 6 has no eit_rebuild; its eit_build takes one version where this one
+ * takes a pointer to sixteen, and its EitReading is shorter. So compile anew what was compiled for a version before 6:
+ * it still links, but what it does then is undefined. docs/MANUAL.md, "From version 5 to 6", says what to write. */
+#define CHIRDALUKO_VERSION_MAJOR 6
 #define CHIRDALUKO_VERSION_MINOR 0
 #define CHIRDALUKO_VERSION_PATCH 0
-#define CHIRDALUKO_VERSION "5.0.0"
+#define CHIRDALUKO_VERSION "6.0.0"
 
 #ifdef __cplusplus
 extern "C" {
@@ -93,7 +95,7 @@ static inline const char *eit_cause(uint32_t number) {
     case EIT_REFUSED_BASE_DAY:
         return "the base day is above 65,472";
     case EIT_REFUSED_VERSION:
-        return "the version is above 31";
+        return "a version is above 31";
     case EIT_REFUSED_BROKEN_SCRIPT:
         return "the script has an unknown command, or ends within a command's operands";
     case EIT_REFUSED_NOTHING_TO_UNDO:
@@ -117,7 +119,8 @@ static inline const char *eit_cause(uint32_t number) {
     case EIT_REFUSED_CRC:
         return "a section's CRC_32 is wrong";
     case EIT_REFUSED_HEADER:
-        return "a fixed bit is wrong, last_table_id is out of range, or it or the identity is not the one before";
+        return "a fixed bit is wrong, last_table_id is out of range, it or the service, stream or network is not the "
+               "one before, or the version differs within its table";
     case EIT_REFUSED_NUMBERING:
         return "a section is missing, doubled or out of order, or its table is past last_table_id";
     case EIT_REFUSED_EVENT_LOOP:
@@ -145,6 +148,7 @@ enum {
     EIT_FORBIDDEN_TAG = 0xFF,     /* no descriptor's tag: NorDig Rules of Operation, Table 1, forbid it */
     EIT_BASE_DAY_MAX = 65472,     /* a Modified Julian Date: all 64 days then fit its 16 bits */
     EIT_VERSION_MAX = 31,         /* version_number has 5 bits */
+    EIT_TABLES = 16,              /* tables, 0x50 to 0x5F, each with a version of its own */
     EIT_SEGMENT_SECONDS = 10800,  /* seconds in a segment: three hours */
     EIT_TABLE_SEGMENTS = 32,      /* segments in a table: four days */
     EIT_SEGMENTS = 512,           /* segments in the sixteen tables */
@@ -235,10 +239,11 @@ typedef struct EitPlace {
  * There is no refusal. */
 EitPlace eit_place(const uint32_t *list, size_t list_length, size_t count, uint32_t start);
 
-/* What Build returns. */
+/* What Build and rebuild return. */
 typedef struct EitBuilt {
     uint32_t number; /* EIT_SUCCESS, or the refusal */
-    size_t value;    /* success: the file's length; 10: the lowest such segment index; 11: the bytes needed; else 0 */
+    size_t value;    /* success: the file's length; 10: the lowest such segment index; 11: the bytes needed; for the
+                      * previous file, 20 to 24, 26: the section's offset, 25: the file's length; else 0 */
 } EitBuilt;
 
 /* Writes the file of sections of an event list to the front of `out`. The file depends on the caller, the events, the
@@ -248,8 +253,10 @@ typedef struct EitBuilt {
  *   caller                 whom to serve
  *   list .. series_length  the list and its pools, as for eit_edit; only read
  *   base_day               the day whose midnight UTC starts count from, a Modified Julian Date
- *   service_id, transport_stream_id, original_network_id, version
- *                          the identity, the same in every section
+ *   service_id, transport_stream_id, original_network_id
+ *                          the same in every section
+ *   versions               sixteen versions, versions[k] in every section of table 0x50 + k; only read. All sixteen are
+ *                          looked at, those of tables that the file does not have, too
  *   out, out_length        the output; EIT_FILE_MAX bytes, for cable EIT_CABLE_FILE_MAX, are always enough, and an
  *                          out_length of 0 asks for the need
  *
@@ -258,8 +265,34 @@ typedef struct EitBuilt {
  * Left: after a refusal all of `out` is as it was; after success the bytes behind the file are. */
 EitBuilt eit_build(uint8_t caller, const uint32_t *list, size_t list_length, size_t count, const uint8_t *day,
                    size_t day_length, const uint8_t *series, size_t series_length, uint32_t base_day,
-                   uint16_t service_id, uint16_t transport_stream_id, uint16_t original_network_id, uint8_t version,
-                   uint8_t *out, size_t out_length);
+                   uint16_t service_id, uint16_t transport_stream_id, uint16_t original_network_id,
+                   const uint8_t versions[EIT_TABLES], uint8_t *out, size_t out_length);
+
+/* Build after a change: writes the file of a new list to the front of `out`, under service_id, transport_stream_id and
+ * original_network_id of the previous file, and with versions that follow from that file. A table of which all bytes
+ * but version and CRC_32 are those of the previous file, in all its sections, keeps its version; another one has the
+ * old version plus 1, after 31 it is 0; a table that the previous file lacks has version 0. last_table_id is among the
+ * bytes: where it changes, every table has a new version. All else is as eit_build writes it.
+ *
+ *   caller                     whom to serve; the previous file is read for the same caller
+ *   previous, previous_length  the previous file, whoever made it; only read. It cannot be the output
+ *   previous_base_day          the base day that it was made with
+ *   list .. series_length      the new list and its pools, as for eit_edit; only read. A pool may be the previous file
+ *   base_day                   the base day of the new list, which may be another one
+ *   out, out_length            the output, as for eit_build
+ *
+ * The previous file is read first, as eit_check reads it. So EIT_REFUSED_BASE_DAY is about previous_base_day if that is
+ * above EIT_BASE_DAY_MAX, and otherwise about base_day. docs/MANUAL.md, "Versions", says what to do if the previous
+ * file is refused. EIT_REFUSED_VERSION and EIT_REFUSED_RECORDS_SHORT never come.
+ *
+ * Refusals: EIT_REFUSED_BASE_DAY for previous_base_day; section by section of the previous file EIT_REFUSED_FRAME,
+ * EIT_REFUSED_CRC, EIT_REFUSED_HEADER, EIT_REFUSED_NUMBERING, EIT_REFUSED_EVENT_LOOP, EIT_REFUSED_EVENT_LIMIT; at its
+ * end EIT_REFUSED_EARLY_END; then EIT_REFUSED_BASE_DAY for base_day, EIT_REFUSED_UNSOUND, EIT_REFUSED_UNPACKABLE,
+ * EIT_REFUSED_OUTPUT_SHORT.
+ * Left: after a refusal all of `out` is as it was; after success the bytes behind the file are. */
+EitBuilt eit_rebuild(uint8_t caller, const uint8_t *previous, size_t previous_length, uint32_t previous_base_day,
+                     const uint32_t *list, size_t list_length, size_t count, const uint8_t *day, size_t day_length,
+                     const uint8_t *series, size_t series_length, uint32_t base_day, uint8_t *out, size_t out_length);
 
 /* Counts of Plan that are no number of sections. */
 enum {
@@ -278,7 +311,7 @@ enum {
 void eit_plan(uint8_t caller, const uint32_t *list, size_t list_length, size_t count, const uint8_t *day,
               size_t day_length, const uint8_t *series, size_t series_length, uint8_t plan[EIT_SEGMENTS]);
 
-/* What Read and check return. After a refusal count and identity are 0. */
+/* What Read and check return. After a refusal count, ids and versions are 0. */
 typedef struct EitReading {
     uint32_t number; /* EIT_SUCCESS, or the refusal */
     size_t value;    /* success, 27: the events; 20 to 24, 26: the section's offset; 25: the file's length; 1: 0 */
@@ -286,7 +319,7 @@ typedef struct EitReading {
     uint16_t service_id;
     uint16_t transport_stream_id;
     uint16_t original_network_id;
-    uint8_t version;
+    uint8_t versions[EIT_TABLES]; /* versions[k] is that of table 0x50 + k, 0 if the file does not have the table */
 } EitReading;
 
 /* Reads a file of sections, whoever made it, into records: the whole file is looked at first, and records are written
@@ -299,7 +332,9 @@ typedef struct EitReading {
  *
  * The records are a list that is sound for the caller, with the file as day pool: offsets are into the file, no marks
  * have EIT_SERIES_POOL. So an event that begins before the one before it ends, in whatever section that stands, is
- * EIT_REFUSED_EVENT_LOOP at its own section.
+ * EIT_REFUSED_EVENT_LOOP at its own section. The sections of a table have one version, and tables may have different
+ * ones: EIT_REFUSED_HEADER if a section's version differs from that of an earlier section of its table, wherever that
+ * stood.
  *
  * Refusals: EIT_REFUSED_BASE_DAY; section by section EIT_REFUSED_FRAME, EIT_REFUSED_CRC, EIT_REFUSED_HEADER,
  * EIT_REFUSED_NUMBERING, EIT_REFUSED_EVENT_LOOP, EIT_REFUSED_EVENT_LIMIT; at the end EIT_REFUSED_EARLY_END,

@@ -10,7 +10,7 @@ static uint8_t pool[CHAIN];
 /* One event with so many bytes of descriptors, in a section of its own. */
 static EitBuilt build_large(uint8_t caller, uint8_t out[SECTION]) {
     static const uint32_t list[EIT_RECORD] = {1, 0, 3600, 0, 0, CHAIN};
-    return eit_build(caller, list, EIT_RECORD, 1, pool, CHAIN, pool, 0, BASE_DAY, 1, 2, 3, 0, out, SECTION);
+    return eit_build(caller, list, EIT_RECORD, 1, pool, CHAIN, pool, 0, BASE_DAY, 1, 2, 3, no_versions, out, SECTION);
 }
 
 /* Events of segment 0 without descriptors, of a second each, one after the other. */
@@ -65,7 +65,7 @@ static void build(uint8_t caller, int is_cable) {
 /* The file that Build makes of it for broadcast. */
 static void read_file(uint8_t caller, int is_cable) {
     static const uint32_t read_back[EIT_RECORD] = {1, 0, 3600, 0, 26, CHAIN};
-    EitReading wanted = is_cable ? (EitReading){.number = 20} : (EitReading){0, 1, 1, 1, 2, 3, 0};
+    EitReading wanted = is_cable ? (EitReading){.number = 20} : (EitReading){0, 1, 1, 1, 2, 3, {0}};
     uint8_t file[SECTION];
     expect("the answer to Build for broadcast", build_large(EIT_BROADCAST, file).number, 0);
 
@@ -77,6 +77,19 @@ static void read_file(uint8_t caller, int is_cable) {
         expect("a number of the records", records[place], is_cable ? 0xA5A5A5A5 : read_back[place]);
     }
     expect_reading("what check answers", eit_check(caller, file, SECTION, BASE_DAY), wanted);
+}
+
+/* The same file as the previous one, and the empty list, which both callers build. */
+static void rebuild(uint8_t caller, int is_cable) {
+    static const uint32_t no_list[1] = {0};
+    uint8_t file[SECTION], out[18];
+    expect("the answer to Build for broadcast", build_large(EIT_BROADCAST, file).number, 0);
+    memset(out, 0xA5, sizeof out);
+    EitBuilt got =
+        eit_rebuild(caller, file, SECTION, BASE_DAY, no_list, 0, 0, pool, 0, pool, 0, BASE_DAY, out, sizeof out);
+    expect("the answer to a previous section of 1,025 bytes", got.number, is_cable ? 20 : 0);
+    expect("its value", got.value, is_cable ? 0 : sizeof out);
+    expect("the version's byte", out[5], is_cable ? 0xA5 : 0xC3);
 }
 
 int main(void) {
@@ -92,6 +105,7 @@ int main(void) {
         plan(caller, is_cable);
         build(caller, is_cable);
         read_file(caller, is_cable);
+        rebuild(caller, is_cable);
         if (wrong) {
             printf("face: this is for caller %u\n", caller);
             return 1;

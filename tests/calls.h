@@ -19,6 +19,7 @@ static uint8_t pool[POOL];
 static uint8_t script[7 * MOVES];
 static uint8_t file[EIT_FILE_MAX];
 static size_t file_length;
+static uint8_t rebuilt[EIT_FILE_MAX];
 static uint8_t plan[EIT_SEGMENTS];
 
 static void expect(const char *what, uint32_t number) {
@@ -64,10 +65,18 @@ static void plan_list(void) {
 }
 
 static void build(void) {
-    EitBuilt answer =
-        eit_build(caller, list, EIT_NUMBERS_MAX, count, pool, POOL, pool, 0, BASE_DAY, 1, 2, 3, 0, file, sizeof file);
+    static const uint8_t versions[EIT_TABLES] = {0};
+    EitBuilt answer = eit_build(caller, list, EIT_NUMBERS_MAX, count, pool, POOL, pool, 0, BASE_DAY, 1, 2, 3, versions,
+                                file, sizeof file);
     expect("Build", answer.number);
     file_length = answer.value;
+}
+
+/* Without the last event, so that the last table of the two files differs. */
+static void rebuild(void) {
+    EitBuilt answer = eit_rebuild(caller, file, file_length, BASE_DAY, list, EIT_NUMBERS_MAX, count - 1, pool, POOL,
+                                  pool, 0, BASE_DAY, rebuilt, sizeof rebuilt);
+    expect("rebuild", answer.number);
 }
 
 static void check(void) {
@@ -87,8 +96,8 @@ static const struct {
     const char *name;
     void (*make)(void);
 } calls[] = {
-    {"Edit", edit},   {"place", find_place}, {"Plan", plan_list}, {"Build", build},
-    {"check", check}, {"Read", read_file},   {"CRC_32", crc},
+    {"Edit", edit},       {"place", find_place}, {"Plan", plan_list}, {"Build", build},
+    {"rebuild", rebuild}, {"check", check},      {"Read", read_file}, {"CRC_32", crc},
 };
 
 enum { CALLERS = sizeof callers / sizeof *callers, CALLS = sizeof calls / sizeof *calls };

@@ -1,4 +1,5 @@
-/* What a call answers, compared with what face.c, callers.c, place.c and overlap.c of this folder want of it. */
+/* What a call answers, compared with what face.c, callers.c, place.c, overlap.c and versions.c of this folder want of
+ * it. */
 #include "chirdaluko.h"
 
 #include <stdio.h>
@@ -13,6 +14,9 @@ static void expect(const char *what, unsigned long long got, unsigned long long 
     }
 }
 
+/* Sixteen times 0. */
+static const uint8_t no_versions[EIT_TABLES] = {0};
+
 static inline void expect_reading(const char *what, EitReading got, EitReading wanted) {
     expect(what, got.number, wanted.number);
     expect("its value", got.value, wanted.value);
@@ -20,5 +24,7 @@ static inline void expect_reading(const char *what, EitReading got, EitReading w
     expect("its service_id", got.service_id, wanted.service_id);
     expect("its transport_stream_id", got.transport_stream_id, wanted.transport_stream_id);
     expect("its original_network_id", got.original_network_id, wanted.original_network_id);
-    expect("its version", got.version, wanted.version);
+    for (size_t table = 0; table < EIT_TABLES; table++) {
+        expect("a version of it", got.versions[table], wanted.versions[table]);
+    }
 }

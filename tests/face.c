@@ -15,8 +15,8 @@ _Static_assert(EIT_REFUSED_FRAME == 20 && EIT_REFUSED_CRC == 21 && EIT_REFUSED_H
                "refusals of Read");
 _Static_assert(EIT_RECORD == 6 && EIT_NUMBERS_MAX == 12288 && EIT_ID_MAX == 65535
                    && EIT_WINDOW_SECONDS == 64 * 86400 && EIT_DURATION_MAX == 359999 && EIT_BASE_DAY_MAX == 65472
-                   && EIT_FORBIDDEN_TAG == 0xFF && EIT_VERSION_MAX == 31,
-               "limits of a list, a base day and a version");
+                   && EIT_FORBIDDEN_TAG == 0xFF && EIT_VERSION_MAX == 31 && EIT_TABLES == 16,
+               "limits of a list, a base day and versions");
 _Static_assert(EIT_SEGMENT_SECONDS == 10800 && EIT_TABLE_SEGMENTS == 32 && EIT_SEGMENTS == 16 * 32
                    && EIT_SEGMENT_SECTIONS_MAX == 8,
                "limits of a file");
@@ -50,17 +50,19 @@ static void edit(const char *script_name, uint8_t tag, const uint8_t *script, si
     expect("the number behind the list", list[12], 77);
 }
 
-/* Builds the empty list into 20 bytes, of which those that the file does not reach stay. */
+/* Builds the empty list into 20 bytes, of which those that the file does not reach stay. The version is that of the
+ * last table, which the file does not have. */
 static void build(const char *what, uint32_t base_day, uint8_t version, size_t out_length, EitBuilt wanted) {
     /* The 18 bytes of 01's sample: ids 1, 2, 3, version 0. */
     static const uint8_t file[18] = {0x50, 0xF0, 0x0F, 0x00, 0x01, 0xC1, 0x00, 0x00, 0x00,
                                      0x02, 0x00, 0x03, 0x00, 0x50, 0x78, 0xAE, 0x5B, 0xF0};
     static const uint32_t list[1] = {7};
     static const uint8_t pool[1] = {0xFF};
+    const uint8_t versions[EIT_TABLES] = {[EIT_TABLES - 1] = version};
     uint8_t out[20];
     memset(out, 0xA5, sizeof out);
     EitBuilt got =
-        eit_build(EIT_BROADCAST, list, 1, 0, pool, 1, pool, 0, base_day, 1, 2, 3, version, out, out_length);
+        eit_build(EIT_BROADCAST, list, 1, 0, pool, 1, pool, 0, base_day, 1, 2, 3, versions, out, out_length);
     expect(what, got.number, wanted.number);
     expect("its value", got.value, wanted.value);
     for (size_t place = 0; place < sizeof out; place++) {
@@ -91,9 +93,11 @@ static void read_built(const char *what, uint32_t base_day, size_t file_length, 
     static const uint8_t day[6] = {0xFF, 0x4D, 0x00, 0x54, 0x00, 0xFF};
     /* The chain stands behind the section's 14 bytes and the event's 12. */
     static const uint32_t read_back[6] = {258, 9000, 3600, 5, 26, 4};
+    /* The second is of a table that the file does not have. */
+    static const uint8_t versions[EIT_TABLES] = {31, 30};
     uint8_t file[35] = {0};
-    EitBuilt built = eit_build(EIT_BROADCAST, list, 6, 1, day, sizeof day, day, 0, 49273, 1, 0x203, 0xFFFE, 31, file,
-                               sizeof file);
+    EitBuilt built = eit_build(EIT_BROADCAST, list, 6, 1, day, sizeof day, day, 0, 49273, 1, 0x203, 0xFFFE, versions,
+                               file, sizeof file);
     expect("the answer to one event", built.number, 0);
     expect("its file's length", built.value, 34);
 
@@ -106,7 +110,7 @@ static void read_built(const char *what, uint32_t base_day, size_t file_length, 
         expect("a number of the records", records[place], is_read ? read_back[place] : 0xA5A5A5A5);
     }
     /* Without a record buffer there is no 27. */
-    EitReading accepted = {0, 1, 1, 1, 0x203, 0xFFFE, 31};
+    EitReading accepted = {0, 1, 1, 1, 0x203, 0xFFFE, {31}};
     EitReading checked = eit_check(EIT_BROADCAST, file, file_length, base_day);
     expect_reading("what check answers", checked, wanted.number == 27 ? accepted : wanted);
 }
@@ -143,7 +147,7 @@ int main(void) {
     plan("a count of no events", 0, 1, 0);
     plan("a count of an unsound list", 1, 254, 254);
 
-    EitReading accepted = {0, 1, 1, 1, 0x203, 0xFFFE, 31};
+    EitReading accepted = {0, 1, 1, 1, 0x203, 0xFFFE, {31}};
     read_built("the answer to a built file", 49273, 34, 7, accepted);
     read_built("the answer to just enough records", 49273, 34, 6, accepted);
     read_built("the answer to a short record buffer", 49273, 34, 5, (EitReading){.number = 27, .value = 1});

@@ -39,7 +39,8 @@ static void soundness(const Event events[3], int is_sound) {
     uint8_t out[2048], untouched[2048], plan[EIT_SEGMENTS];
     memset(out, 0xA5, sizeof out);
     memset(untouched, 0xA5, sizeof untouched);
-    EitBuilt built = eit_build(caller, list, NUMBERS, 3, pool, 0, pool, 0, BASE_DAY, 1, 2, 3, 0, out, sizeof out);
+    EitBuilt built =
+        eit_build(caller, list, NUMBERS, 3, pool, 0, pool, 0, BASE_DAY, 1, 2, 3, no_versions, out, sizeof out);
     expect("the answer to Build", built.number, is_sound ? 0 : 12);
     expect("whether the output stays", memcmp(out, untouched, sizeof out) == 0, !is_sound);
     eit_plan(caller, list, NUMBERS, 3, pool, 0, pool, 0, plan);
@@ -99,7 +100,8 @@ static void append_put(Script *script, Event event, uint32_t chain_length) {
     append(script, event.id, 2);
     append(script, event.start, 4);
     append(script, event.duration, 4);
-    append(script, 0, 5);
+    append(script, 0, 1);
+    append(script, 0, 4);
     append(script, chain_length, 2);
 }
 
@@ -217,11 +219,11 @@ static void file(const Event events[2], uint32_t chain_length, size_t offset, si
     static uint8_t out[2 * EIT_SECTION_MAX];
     uint32_t list[NUMBERS], records[NUMBERS];
     fill(list, events, 2, chain_length);
-    EitBuilt built =
-        eit_build(caller, list, NUMBERS, 2, pool, chain_length, pool, 0, BASE_DAY, 1, 2, 3, 0, out, sizeof out);
+    EitBuilt built = eit_build(caller, list, NUMBERS, 2, pool, chain_length, pool, 0, BASE_DAY, 1, 2, 3, no_versions,
+                               out, sizeof out);
     expect("the answer to Build of events that touch", built.number, 0);
     EitReading got = eit_read(caller, out, built.value, BASE_DAY, records, NUMBERS);
-    expect_reading("the answer to a file of events that touch", got, (EitReading){0, 2, 2, 1, 2, 3, 0});
+    expect_reading("the answer to a file of events that touch", got, (EitReading){0, 2, 2, 1, 2, 3, {0}});
     for (size_t place = 0; place < 2; place++) {
         expect("a start that is read", records[EIT_RECORD * place + 1], events[place].start);
         expect("a duration that is read", records[EIT_RECORD * place + 2], events[place].duration);

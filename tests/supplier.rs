@@ -1,7 +1,8 @@
 //! A program of a package that depends on the wrapper's: it edits a list, asks where an earlier programme would
-//! stand, builds the list's file and reads the file back.
+//! stand, builds the list's file, reads the file back, and rebuilds it without the programme.
 
-use chirdaluko::{build, crc32, edit, place, read, Caller, Identity, Place, Pools, Record, RECORD};
+use chirdaluko::{build, check, crc32, edit, place, read, rebuild};
+use chirdaluko::{Caller, Identity, Place, Pools, Previous, Record, RECORD};
 
 const CALLER: Caller = Caller::Cable;
 
@@ -14,10 +15,14 @@ fn main() {
     let Place { place, looked } = place(&list, count, 0);
     let mut out = [0; 102];
     let built = build(CALLER, &list, count, pools, 49_273, Identity::default(), &mut out);
-    let length = built.expect("a list that can be packed");
+    let file = &out[..built.expect("a list that can be packed")];
     let mut records = [0; RECORD];
-    let reading = read(CALLER, &out[..length], 49_273, &mut records).expect("a file that is accepted");
+    let reading = read(CALLER, file, 49_273, &mut records).expect("a file that is accepted");
     let record = Record::from(records);
-    let crc = crc32(&out[72..length]);
-    println!("{place} {looked} {} {} {} {crc:08X}", reading.count, record.start, record.duration);
+    let crc = crc32(&file[72..]);
+    let mut empty = [0; 18];
+    let previous = Previous { file, base_day: 49_273 };
+    rebuild(CALLER, previous, &list, 0, pools, 49_273, &mut empty).expect("an empty list and a file that is accepted");
+    let version = check(CALLER, &empty, 49_273).expect("a file that is accepted").identity.versions[0];
+    println!("{place} {looked} {} {} {} {crc:08X} {version}", reading.count, record.start, record.duration);
 }

@@ -1,17 +1,18 @@
 //! Build's refusals, and what Plan says in their place.
 
-use crate::chirdaluko::{build, plan, BuildRefusal, Caller, Identity, Planned, Pools, Record};
+use crate::chirdaluko::{build, plan, BuildRefusal, Caller, Identity, Planned, Pools, Record, TABLES};
 use crate::inputs::{chain, event, events_in_section, numbers, row, tagged, TAGGED};
+use crate::rebuilds;
 use crate::{Rows, ALL, NEED, SEGMENT, ZERO};
 
 const SEGMENT_SECONDS: u32 = 10_800;
+const LEGAL: [u8; TABLES] = [31; TABLES];
 
 pub fn run(rows: &mut Rows) {
     let (one, twice) = ([event(1, 100)], [event(1, 100), event(1, 200)]);
-    refused(rows, &twice, 65_473, 32, BuildRefusal::BaseDay, ZERO);
-    refused(rows, &twice, 65_472, 32, BuildRefusal::Version, ZERO);
-    refused(rows, &twice, 65_472, 31, BuildRefusal::Unsound, ZERO);
-    refused(rows, &one, 65_472, 31, BuildRefusal::OutputShort { needed: 30 }, NEED);
+    versions(rows, &twice);
+    refused(rows, &twice, 65_472, LEGAL, BuildRefusal::Unsound, ZERO);
+    refused(rows, &one, 65_472, LEGAL, BuildRefusal::OutputShort { needed: 30 }, NEED);
     planned(rows.caller, &one, [1, 0, 0, 0, 0]);
     planned(rows.caller, &twice, [254; 5]);
     overlap(rows);
@@ -20,14 +21,26 @@ pub fn run(rows: &mut Rows) {
     forbidden_tag(rows);
 }
 
+/// Each of the sixteen versions above the most, where the list has events of table 0x50 alone.
+fn versions(rows: &mut Rows, twice: &[Record]) {
+    for table in 0..TABLES {
+        for version in [32, 255] {
+            let mut versions = LEGAL;
+            versions[table] = version;
+            refused(rows, twice, 65_473, versions, BuildRefusal::BaseDay, ZERO);
+            refused(rows, twice, 65_472, versions, BuildRefusal::Version, ZERO);
+        }
+    }
+}
+
 /// Two events that touch; then a second more of the first, and of the second.
 fn overlap(rows: &mut Rows) {
     let (touching, earlier) = ([event(1, 100), event(2, 160)], [event(1, 100), event(2, 159)]);
     let longer = [Record { duration: 61, ..touching[0] }, touching[1]];
-    refused(rows, &touching, 65_472, 31, BuildRefusal::OutputShort { needed: 42 }, NEED);
+    refused(rows, &touching, 65_472, LEGAL, BuildRefusal::OutputShort { needed: 42 }, NEED);
     planned(rows.caller, &touching, [1, 0, 0, 0, 0]);
     for overlapping in [earlier, longer] {
-        refused(rows, &overlapping, 65_472, 31, BuildRefusal::Unsound, ZERO);
+        refused(rows, &overlapping, 65_472, LEGAL, BuildRefusal::Unsound, ZERO);
         planned(rows.caller, &overlapping, [254; 5]);
     }
 }
@@ -39,9 +52,9 @@ fn event_limit(rows: &mut Rows) {
     let records = row(most + 1);
     let sections = most.div_ceil(events_in_section(caller));
     let needed = 18 * sections + 12 * most;
-    refused(rows, &records[..most], 65_472, 31, BuildRefusal::OutputShort { needed }, NEED);
+    refused(rows, &records[..most], 65_472, LEGAL, BuildRefusal::OutputShort { needed }, NEED);
     planned(caller, &records[..most], [sections as u8, 0, 0, 0, 0]);
-    refused(rows, &records, 65_472, 31, BuildRefusal::Unsound, ZERO);
+    refused(rows, &records, 65_472, LEGAL, BuildRefusal::Unsound, ZERO);
     planned(caller, &records, [254; 5]);
 }
 
@@ -56,10 +69,10 @@ fn unpackable(rows: &mut Rows) {
     let mut records = vec![held(1, at(1)), large(2, at(2))];
     records.extend((0..9).map(|place| held(10 + place, at(3) + 60 * place)));
     records.push(large(3, at(4)));
-    refused(rows, &records, 65_472, 31, BuildRefusal::Unpackable { segment: 2 }, SEGMENT);
+    refused(rows, &records, 65_472, LEGAL, BuildRefusal::Unpackable { segment: 2 }, SEGMENT);
     planned(caller, &records, [1, 1, 255, 255, 255]);
     records.remove(1);
-    refused(rows, &records, 65_472, 31, BuildRefusal::Unpackable { segment: 3 }, SEGMENT);
+    refused(rows, &records, 65_472, LEGAL, BuildRefusal::Unpackable { segment: 3 }, SEGMENT);
     planned(caller, &records, [1, 1, 1, 255, 255]);
     records.remove(1);
     planned(caller, &records, [1, 1, 1, 8, 255]);
@@ -71,9 +84,9 @@ fn forbidden_tag(rows: &mut Rows) {
     let behind = caller.chain_max() as u32 + 1;
     let part = |offset| Record { offset, chain_length: TAGGED, ..event(1, 100) };
     let (legal, forbidden) = ([part(behind)], [part(behind + TAGGED)]);
-    refused(rows, &legal, 65_472, 31, BuildRefusal::OutputShort { needed: 37 }, NEED);
+    refused(rows, &legal, 65_472, LEGAL, BuildRefusal::OutputShort { needed: 37 }, NEED);
     planned(caller, &legal, [1, 0, 0, 0, 0]);
-    refused(rows, &forbidden, 65_472, 31, BuildRefusal::Unsound, ZERO);
+    refused(rows, &forbidden, 65_472, LEGAL, BuildRefusal::Unsound, ZERO);
     planned(caller, &forbidden, [254; 5]);
 }
 
@@ -84,24 +97,27 @@ fn with_pools<T>(caller: Caller, records: &[Record], call: impl FnOnce(&[u32], P
     call(&numbers(records), Pools { day: &day, series: &chain(caller.chain_max()) })
 }
 
-/// The output has 29 bytes, and each stays.
+/// The output has 29 bytes, and each stays. Rebuild, which takes no versions, says the same, 2 aside.
 fn refused(
     rows: &mut Rows,
     records: &[Record],
     base_day: u32,
-    version: u8,
+    versions: [u8; TABLES],
     refusal: BuildRefusal,
     returned: &'static str,
 ) {
     let caller = rows.caller;
-    let identity = Identity { service_id: 1, transport_stream_id: 2, original_network_id: 3, version };
+    let identity = Identity { service_id: 1, transport_stream_id: 2, original_network_id: 3, versions };
     let mut out = [0xA5; 29];
-    let said = with_pools(caller, records, |list, pools| {
-        build(caller, list, records.len(), pools, base_day, identity, &mut out)
+    with_pools(caller, records, |list, pools| {
+        let said = build(caller, list, records.len(), pools, base_day, identity, &mut out);
+        assert_eq!(said, Err(refusal));
+        assert_eq!(out, [0xA5; 29]);
+        rows.add("Build", refusal.number(), returned, ALL);
+        if refusal != BuildRefusal::Version {
+            rebuilds::refused(rows, list, pools, base_day, refusal, returned);
+        }
     });
-    assert_eq!(said, Err(refusal));
-    assert_eq!(out, [0xA5; 29]);
-    rows.add("Build", refusal.number(), returned, ALL);
 }
 
 /// The counts of table 0x50's first segments; behind them there is nothing, or the list is unsound.

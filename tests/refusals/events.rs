@@ -1,8 +1,8 @@
 //! Read's and check's refusals of events: 24, and 26.
 
-use crate::chirdaluko::{check, read, ReadRefusal, Reading, Record};
+use crate::chirdaluko::{check, read, ReadRefusal, Record};
 use crate::inputs::{chain, event, events_in_section, row, tagged, TAGGED};
-use crate::reads::{built, changed, refused, seal, three, BASE_DAY, IDENTITY, SECOND, THIRD};
+use crate::reads::{accepted, built, changed, refused, seal, three, BASE_DAY, SECOND, THIRD};
 use crate::{Rows, SECTION};
 
 pub fn run(rows: &mut Rows) {
@@ -53,16 +53,16 @@ fn overlap(rows: &mut Rows) {
     let day = chain(caller.chain_max());
     let full = day.len() as u32;
     // In a section; in two sections of a segment; in two segments; with one between them; in two tables.
-    for (start, duration, chain_length, first, second) in [
-        (0, 60, 0, 0..42, 0),
-        (0, 60, full, 0..caller.section_max(), caller.section_max()),
-        (10_740, 60, 0, 0..30, 30),
-        (0, 21_600, 0, 0..30, 30 + 18),
-        (345_540, 60, 0, 31 * 18..31 * 18 + 30, 31 * 18 + 30),
+    for (start, duration, chain_length, first, second, tables) in [
+        (0, 60, 0, 0..42, 0, 1),
+        (0, 60, full, 0..caller.section_max(), caller.section_max(), 1),
+        (10_740, 60, 0, 0..30, 30, 1),
+        (0, 21_600, 0, 0..30, 30 + 18, 1),
+        (345_540, 60, 0, 31 * 18..31 * 18 + 30, 31 * 18 + 30, 2),
     ] {
         let with = |id, start| Record { duration, chain_length, ..event(id, start) };
         let file = built(caller, &[with(1, start), with(2, start + duration)], &day);
-        assert_eq!(check(caller, &file, BASE_DAY), Ok(Reading { count: 2, identity: IDENTITY }));
+        assert_eq!(check(caller, &file, BASE_DAY), accepted(2, tables));
         // The last byte of the first event's duration: no second.
         let longer = changed(&file, first, |section| section[23] = 0x01);
         refused(rows, &longer, BASE_DAY, ReadRefusal::EventLoop { offset: second }, SECTION);
@@ -75,9 +75,8 @@ fn forbidden_tag(rows: &mut Rows) {
     let records = [event(1, 100), Record { chain_length: TAGGED, ..event(2, 345_600) }];
     let file = built(caller, &records, &tagged(0xFE));
     let section = SECOND.start..file.len();
-    let accepted = Ok(Reading { count: 2, identity: IDENTITY });
-    assert_eq!(read(caller, &file, BASE_DAY, &mut [77; 12]), accepted);
-    assert_eq!(check(caller, &file, BASE_DAY), accepted);
+    assert_eq!(read(caller, &file, BASE_DAY, &mut [77; 12]), accepted(2, 2));
+    assert_eq!(check(caller, &file, BASE_DAY), accepted(2, 2));
     // The tag stands behind the section's 14 bytes, the event's 12 and the first descriptor's 4.
     let forbidden = changed(&file, section, |section| section[30] = 0xFF);
     refused(rows, &forbidden, BASE_DAY, ReadRefusal::EventLoop { offset: SECOND.start }, SECTION);
@@ -88,7 +87,7 @@ fn event_limit(rows: &mut Rows) {
     let caller = rows.caller;
     let most = caller.events_max();
     let mut file = built(caller, &row(most), &[]);
-    assert_eq!(check(caller, &file, BASE_DAY), Ok(Reading { count: most, identity: IDENTITY }));
+    assert_eq!(check(caller, &file, BASE_DAY), accepted(most, 1));
     let full = events_in_section(caller);
     let last = most / full * (18 + 12 * full);
     let mut section = file.split_off(last);

@@ -12,6 +12,7 @@ mod edits;
 mod events;
 mod inputs;
 mod reads;
+mod rebuilds;
 mod words;
 
 use chirdaluko::{cause, Caller, Record};
@@ -72,6 +73,7 @@ const _: () = assert!(
         && chirdaluko::FORBIDDEN_TAG == 0xFF
         && chirdaluko::BASE_DAY_MAX == 65_472
         && chirdaluko::VERSION_MAX == 31
+        && chirdaluko::TABLES == 16
         && chirdaluko::SEGMENT_SECONDS == 10_800
         && chirdaluko::TABLE_SEGMENTS == 32
         && chirdaluko::SEGMENTS == 16 * 32

@@ -1,13 +1,21 @@
 //! Read's and check's refusals of whole files and of their sections: files that Build made, damaged, and given a right
 //! CRC_32 again where the damage is not to it. Those of events are in events.rs.
 
-use crate::chirdaluko::{build, check, crc32, read, Caller, Identity, Pools, ReadRefusal, Reading, Record};
+use crate::chirdaluko::{build, check, crc32, read, Caller, Identity, Pools, Previous, ReadRefusal, Reading, Record};
 use crate::inputs::{event, numbers};
+use crate::rebuilds;
 use crate::{Rows, ALL, EVENTS, FILE, SECTION, ZERO};
 use std::ops::Range;
 
 pub const BASE_DAY: u32 = 49_273;
-pub const IDENTITY: Identity = Identity { service_id: 1, transport_stream_id: 2, original_network_id: 3, version: 4 };
+
+/// The file's identity; tables behind 0x51 have versions, too, and no file here has such a table.
+pub const IDENTITY: Identity = Identity {
+    service_id: 1,
+    transport_stream_id: 2,
+    original_network_id: 3,
+    versions: [4, 5, 6, 7, 8, 9, 10, 11, 12, 13, 14, 15, 16, 17, 18, 19],
+};
 
 /// The sections of `three`, each of 30 bytes: table 0x50 section 0, table 0x51 sections 0 and 8.
 pub const SECOND: Range<usize> = 30..60;
@@ -36,8 +44,17 @@ pub fn built(caller: Caller, records: &[Record], day: &[u8]) -> Vec<u8> {
     out
 }
 
-/// Read and check both say it, and the record buffer, long enough for three events, stays.
+/// What Read returns of a file of `built` with so many events and tables.
+pub fn accepted(count: usize, tables: usize) -> Result<Reading, ReadRefusal> {
+    let mut identity = IDENTITY;
+    identity.versions[tables..].fill(0);
+    Ok(Reading { count, identity })
+}
+
+/// Read and check both say it, and the record buffer, long enough for three events, stays. Rebuild says it of the
+/// previous file.
 pub fn refused(rows: &mut Rows, file: &[u8], base_day: u32, refusal: ReadRefusal, returned: &'static str) {
+    rebuilds::previous_refused(rows, Previous { file, base_day }, refusal, returned);
     let mut records = [77; 18];
     assert_eq!(read(rows.caller, file, base_day, &mut records), Err(refusal));
     assert_eq!(records, [77; 18]);
@@ -106,7 +123,38 @@ fn headers(rows: &mut Rows, file: &[u8]) {
         let what = "transport_stream_id or original_network_id differs from the section before";
         header(what, place, &[9], SECOND.start);
     }
-    header("version differs from the section before", 5, &[file[5] ^ 2], SECOND.start);
+    let others: Vec<_> = (0..32).filter(|&version| version != 5).map(|version| 0xC1 | version << 1).collect();
+    header("version differs from an earlier section of its table", 5, &others, THIRD);
+    versions(rows, file);
+}
+
+/// Another version of table 0x50 alone, and of both sections of table 0x51, is accepted. A section that comes back is
+/// 22 with another version and 23 with its own.
+fn versions(rows: &mut Rows, file: &[u8]) {
+    for version in 0..32 {
+        let with =
+            |file: &[u8], section: Range<usize>| changed(file, section, |section| section[5] = 0xC1 | version << 1);
+        let mut identity = accepted(3, 2).expect("a file").identity;
+        identity.versions[0] = version;
+        let first = with(file, 0..SECOND.start);
+        assert_eq!(check(rows.caller, &first, BASE_DAY), Ok(Reading { count: 3, identity }));
+        identity.versions[1] = version;
+        let all = with(&with(&first, SECOND), THIRD..END);
+        assert_eq!(check(rows.caller, &all, BASE_DAY), Ok(Reading { count: 3, identity }));
+
+        for (section, own, offset) in [
+            (0..SECOND.start, 4, THIRD),
+            (SECOND, 5, THIRD),
+            (0..SECOND.start, 4, END),
+            (SECOND, 5, END),
+            (THIRD..END, 5, END),
+        ] {
+            let again = with(&file[section], 0..30);
+            let same = ReadRefusal::Numbering { offset };
+            let refusal = if version == own { same } else { ReadRefusal::Header { offset } };
+            refused(rows, &[&file[..offset], &again].concat(), BASE_DAY, refusal, SECTION);
+        }
+    }
 }
 
 fn numbering(rows: &mut Rows, file: &[u8]) {
@@ -128,7 +176,7 @@ fn ends(rows: &mut Rows, file: &[u8]) {
     early(&file[..THIRD]);
 
     // A buffer for three events is just long enough; check has none, and says nothing of it.
-    let accepted = Ok(Reading { count: 3, identity: IDENTITY });
+    let accepted = accepted(3, 2);
     let short = ReadRefusal::RecordsShort { events: 3 };
     let mut records = [77; 18];
     assert_eq!(read(rows.caller, file, BASE_DAY, &mut records[..17]), Err(short));

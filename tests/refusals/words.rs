@@ -1,7 +1,7 @@
 //! Causes in words: the wrapper's are the C face's, and what a refusal displays is its number, its cause, and what its
 //! value means.
 
-use crate::chirdaluko::{cause, BuildRefusal, EditRefusal, ReadRefusal};
+use crate::chirdaluko::{cause, BuildRefusal, EditRefusal, ReadRefusal, RebuildRefusal};
 use crate::NUMBERS;
 use std::ffi::{c_char, CStr};
 use std::fmt::Display;
@@ -22,6 +22,7 @@ pub fn run() {
     edits();
     builds();
     reads();
+    rebuilds();
 }
 
 fn displays(refusal: impl Display, number: u32, meaning: &str) {
@@ -69,4 +70,13 @@ fn reads() {
     displays(ReadRefusal::BaseDay, 1, "");
     displays(ReadRefusal::EarlyEnd { file_length: 60 }, 25, " (the file has 60 bytes)");
     displays(ReadRefusal::RecordsShort { events: 3 }, 27, " (3 events)");
+}
+
+fn rebuilds() {
+    let previous = RebuildRefusal::Previous(ReadRefusal::Crc { offset: 30 });
+    assert_eq!(previous.to_string(), "previous file refused 21: a section's CRC_32 is wrong (section at offset 30)");
+    let previous = RebuildRefusal::Previous(ReadRefusal::BaseDay);
+    assert_eq!(previous.to_string(), "previous file refused 1: the base day is above 65,472");
+    displays(RebuildRefusal::Build(BuildRefusal::BaseDay), 1, "");
+    displays(RebuildRefusal::Build(BuildRefusal::OutputShort { needed: 102 }), 11, " (102 bytes needed)");
 }

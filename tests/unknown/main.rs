@@ -5,13 +5,13 @@
 #[path = "../../bindings/rust/src/lib.rs"]
 mod chirdaluko;
 
-use chirdaluko::{build, check, edit, read, Caller, Identity, Planned, Pools};
-use chirdaluko::{BuildRefusal, EditRefusal, ReadRefusal, Reading};
+use chirdaluko::{build, check, edit, read, rebuild, Caller, Identity, Planned, Pools, Previous};
+use chirdaluko::{BuildRefusal, EditRefusal, ReadRefusal, Reading, RebuildRefusal};
 use std::panic::{catch_unwind, set_hook};
 use std::process::exit;
 
 extern "C" {
-    fn set_answer(number: u32, value: usize, count: usize, service_id: u16);
+    fn set_answer(number: u32, value: usize, count: usize, service_id: u16, last_version: u8);
 }
 
 const CALLER: Caller = Caller::Broadcast;
@@ -25,6 +25,15 @@ fn built() -> Result<usize, BuildRefusal> {
     build(CALLER, &[], 0, POOLS, 0, Identity::default(), &mut [])
 }
 
+fn rebuilt() -> Result<usize, RebuildRefusal> {
+    rebuild(CALLER, Previous { file: &[], base_day: 0 }, &[], 0, POOLS, 0, &mut [])
+}
+
+/// Rebuild with a previous base day above the most.
+fn rebuilt_late() -> Result<usize, RebuildRefusal> {
+    rebuild(CALLER, Previous { file: &[], base_day: 65_473 }, &[], 0, POOLS, 0, &mut [])
+}
+
 fn reading() -> Result<Reading, ReadRefusal> {
     read(CALLER, &[], 0, &mut [])
 }
@@ -35,8 +44,13 @@ fn checked() -> Result<Reading, ReadRefusal> {
 
 /// The call panics, and names the number and the value.
 fn panics<T>(call: fn() -> T, number: u32, value: usize, count: usize, service_id: u16) {
+    panics_with(call, number, value, count, service_id, 0);
+}
+
+/// The same, with a version of table 0x5F.
+fn panics_with<T>(call: fn() -> T, number: u32, value: usize, count: usize, service_id: u16, last_version: u8) {
     // The library only remembers them.
-    unsafe { set_answer(number, value, count, service_id) };
+    unsafe { set_answer(number, value, count, service_id, last_version) };
     let Err(panic) = catch_unwind(call) else {
         eprintln!("unknown: {number} {value} passes for an answer");
         exit(1);
@@ -58,14 +72,20 @@ fn main() {
         if !is(&[0, 1, 2, 10, 11, 12]) {
             panics(built, number, 7, 0, 0);
         }
+        if !is(&[0, 1, 10, 11, 12, 20, 21, 22, 23, 24, 25, 26]) {
+            panics(rebuilt, number, 7, 0, 0);
+            panics(rebuilt_late, number, 7, 0, 0);
+        }
         if !is(&[0, 1, 20, 21, 22, 23, 24, 25, 26, 27]) {
             panics(reading, number, 7, 0, 0);
             panics(checked, number, 7, 0, 0);
         }
     }
 
-    // 27 is Read's alone.
+    // 27 is Read's alone, and 2 Build's.
     panics(checked, 27, 7, 0, 0);
+    panics(rebuilt, 27, 7, 0, 0);
+    panics(rebuilt, 2, 0, 0, 0);
 
     // A value that the number does not come with.
     panics(edited, 0, 7, 8, 0);
@@ -73,10 +93,14 @@ fn main() {
     panics(built, 1, 7, 0, 0);
     panics(built, 2, 7, 0, 0);
     panics(built, 12, 7, 0, 0);
+    panics(rebuilt, 1, 7, 0, 0);
+    panics(rebuilt_late, 1, 7, 0, 0);
+    panics(rebuilt, 12, 7, 0, 0);
     panics(reading, 0, 7, 8, 0);
     panics(reading, 1, 7, 0, 0);
     panics(reading, 20, 7, 1, 0);
     panics(reading, 20, 7, 0, 1);
+    panics_with(reading, 20, 7, 0, 0, 1);
     for count in 9..254 {
         if catch_unwind(|| Planned::of(count)).is_ok() {
             eprintln!("unknown: {count} passes for a count of Plan");

@@ -1,5 +1,5 @@
-//! The worked examples, three lists and three tables of docs/MANUAL.md, made through the Rust wrapper and printed as
-//! the manual has them: each block under the line that names it, lists and tables under their headings once calls have
+//! The worked examples, five lists and three tables of docs/MANUAL.md, made through the Rust wrapper and printed as the
+//! manual has them: each block under the line that names it, lists and tables under their headings once calls have
 //! shown them. tests/manual compares them.
 
 #[allow(dead_code)]
@@ -22,9 +22,14 @@ mod overlap;
 mod overlap_changes;
 mod places;
 mod read_details;
+mod rebuilt;
 mod schedule;
 mod sections;
 mod tables;
+mod version_changes;
+mod version_details;
+mod version_rules;
+mod versions;
 
 use chirdaluko::{build, check, crc32, edit, plan, read, Caller, Pools, RECORD, SEGMENTS};
 use lines::block;
@@ -77,9 +82,13 @@ fn main() {
     let [ends, ends_for_cable] = CALLERS.map(overlap::lines);
     assert_eq!(ends, ends_for_cable);
     block("What the calls say, by the film's end:", &ends);
+    block("Versions, file by file:", &versions::rows());
+    block("Section 0 of table 0x50, before and after event 5 is put:", &versions::first_sections());
     callers::print();
     caller_changes::print();
     overlap_changes::print();
+    version_rules::print();
+    version_changes::print();
     details::print();
     tables::print();
 }

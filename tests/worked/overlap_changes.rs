@@ -2,12 +2,11 @@
 
 use crate::chirdaluko::{check, edit, place, plan, read, Caller, EditRefusal, Place, ReadRefusal, Record};
 use crate::chirdaluko::{RECORD, SEGMENTS};
-use crate::details::Detail;
+use crate::details::{self, Detail};
 use crate::edit_details::NO_POOLS;
 use crate::inputs::{event, numbers, put, shift, withdraw};
 use crate::schedule::BASE_DAY;
 use crate::sections::{self, section};
-use crate::CALLERS;
 
 const ALL: [Detail; 6] = [
     (
@@ -33,10 +32,10 @@ const ALL: [Detail; 6] = [
         shifted,
     ),
     (
-        "**A list** with overlap, as a version before 4 could make it, is refused whole with 12, so that Edit cannot \
-         mend it. Find its record as 12 says: it begins before the one before it ends. The buffer is yours: give the \
-         one before it the difference of the two starts as its duration (its third number), and look for the next. Or \
-         make the list anew from its script: 30 finds the PUT or MOVE.",
+        "**A list** with overlap, as the library could make it before version 4, is refused whole with 12, so that \
+         Edit cannot mend it. Find its record as 12 says: it begins before the one before it ends. The buffer is \
+         yours: give the one before it the difference of the two starts as its duration (its third number), and look \
+         for the next. Or make the list anew from its script: 30 finds the PUT or MOVE.",
         list_mended,
     ),
     (
@@ -48,13 +47,7 @@ const ALL: [Detail; 6] = [
 ];
 
 pub fn print() {
-    println!("### Overlap");
-    for (sentence, is_so) in ALL {
-        for caller in CALLERS {
-            assert!(is_so(caller), "not so for {caller:?}: {sentence}");
-        }
-        println!("- {sentence}");
-    }
+    details::print_under("### Overlap", &ALL);
 }
 
 /// Three events: 100 to 160, 160 to 220, 300 to 360.

@@ -1,11 +1,12 @@
 //! Details of Read and check.
 
 use crate::build_details::{file_from, file_of};
-use crate::chirdaluko::{build, check, crc32, read, Caller, Pools, ReadRefusal, Record, BASE_DAY_MAX, WINDOW_SECONDS};
+use crate::chirdaluko::{build, check, crc32, read, Caller, Pools, ReadRefusal, Reading, Record};
+use crate::chirdaluko::{BASE_DAY_MAX, WINDOW_SECONDS};
 use crate::details::Detail;
 use crate::edit_details::NO_POOLS;
 use crate::inputs::{chain, event};
-use crate::schedule::{BASE_DAY, IDENTITY};
+use crate::schedule::BASE_DAY;
 use crate::sections::{self, section};
 
 pub const ALL: [Detail; 10] = [
@@ -38,7 +39,8 @@ pub const ALL: [Detail; 10] = [
     ),
     ("A wrong fixed bit in a section whose CRC_32 is wrong, too, is 21.", crc_first),
     (
-        "Build of the records that Read returned, with the file as day pool, is the file again if Build made it.",
+        "Build of the records and the identity that Read returned, with the file as day pool, \
+         is the file again if Build made it.",
         built_again,
     ),
 ];
@@ -145,8 +147,8 @@ fn built_again(caller: Caller) -> bool {
     let large = |id, start| Record { chain_length: day.len() as u32, ..event(id, start) };
     let file = file_of(caller, &[large(1, 0), large(2, 60), event(3, 86_400)], Pools { day: &day, series: &[] });
     let mut records = [0; 18];
-    let count = read(caller, &file, BASE_DAY, &mut records).expect("a file of Build's").count;
+    let Reading { count, identity } = read(caller, &file, BASE_DAY, &mut records).expect("a file of Build's");
     let mut again = vec![0; file.len()];
-    let said = build(caller, &records, count, Pools { day: &file, series: &[] }, BASE_DAY, IDENTITY, &mut again);
+    let said = build(caller, &records, count, Pools { day: &file, series: &[] }, BASE_DAY, identity, &mut again);
     said == Ok(file.len()) && again == file
 }

@@ -1,20 +1,26 @@
 //! The worked list: a programme with descriptors of its own, two with those of their series, which fill more than a
 //! section, and a programme of the fifth day.
 
-use crate::chirdaluko::{Caller, Identity, Record, RECORD};
+use crate::chirdaluko::{Caller, Identity, Record, RECORD, TABLES};
 use crate::inputs::{chain, put, shift, withdraw, UNDO};
 use crate::lines::{clock, grouped, number, Lines};
 
 pub const CALLER: Caller = Caller::Broadcast;
 pub const BASE_DAY: u32 = 49_273;
-pub const IDENTITY: Identity = Identity { service_id: 1, transport_stream_id: 2, original_network_id: 3, version: 0 };
+pub const IDENTITY: Identity =
+    Identity { service_id: 1, transport_stream_id: 2, original_network_id: 3, versions: [0; TABLES] };
 
-const DAY: u32 = 86_400;
-const HOUR: u32 = 3_600;
+pub const DAY: u32 = 86_400;
+pub const HOUR: u32 = 3_600;
+
+pub fn day_pool() -> Vec<u8> {
+    title("News")
+}
 
 /// A short_event_descriptor: language, name, no text.
-pub fn day_pool() -> Vec<u8> {
-    [&[0x4D, 9][..], b"eng", &[4], b"News", &[0]].concat()
+pub fn title(name: &str) -> Vec<u8> {
+    let length = name.len() as u8;
+    [&[0x4D, 5 + length][..], b"eng", &[length], name.as_bytes(), &[0]].concat()
 }
 
 pub fn series_pool() -> Vec<u8> {

@@ -34,7 +34,7 @@ pub fn section([table, number, segment_last, last, last_table]: [u8; 5], events:
     let mut section = vec![table];
     section.extend(&(0xF000 | 15 + events.len() as u16).to_be_bytes());
     section.extend(&IDENTITY.service_id.to_be_bytes());
-    section.extend([0xC1 | IDENTITY.version << 1, number, last]);
+    section.extend([0xC1 | IDENTITY.versions[usize::from(table - 0x50)] << 1, number, last]);
     section.extend(&IDENTITY.transport_stream_id.to_be_bytes());
     section.extend(&IDENTITY.original_network_id.to_be_bytes());
     section.extend([segment_last, last_table]);

@@ -19,7 +19,7 @@ const FIELDS: [[&str; 4]; 15] = [
     ["0", "1", "table_id", "0x50 + segment index ÷ 32"],
     ["1", "2", "bits 1111, section_length", "bytes behind these two: 15 to 4,093, for cable to 1,021"],
     ["3", "2", "service_id", "any"],
-    ["5", "1", "bits 11, version, current_next", "version 0 to 31, current_next 1"],
+    ["5", "1", "bits 11, version, current_next", "version 0 to 31, the table's; current_next 1"],
     ["6", "1", "section_number", "8 × segment, and up to 7 more"],
     ["7", "1", "last_section_number", "the last section_number of the table"],
     ["8", "2", "transport_stream_id", "any"],

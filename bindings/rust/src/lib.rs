@@ -9,9 +9,8 @@
 //!
 //! An answer that is none of a call's, an unknown number or a value that its number does not come with, panics: the
 //! library is proved to return no such answer, so it is then of another version than this file, and no program could
-//! go on from there. Link a library of the same major version, or of version 4, whose calls do the same; one before 4
-//! lets events overlap, and one before 3 has calls of the same names that take other arguments, and what they do then
-//! is undefined.
+//! go on from there. Link a library of the same major version: one before 6 has no `eit_rebuild`, and calls of the same
+//! names that take and return something else, and what they do then is undefined.
 //!
 //! ```
 //! use chirdaluko::{build, check, edit, place, read, BuildRefusal, Caller, Identity, Place, Pools, Record};
@@ -26,7 +25,7 @@
 //! // A programme at 14:30:30, when it is over, would stand behind it.
 //! assert_eq!(place(&list, count, 52_230), Place { place: 1, looked: 1 });
 //!
-//! let identity = Identity { service_id: 1, transport_stream_id: 2, original_network_id: 3, version: 0 };
+//! let identity = Identity { service_id: 1, transport_stream_id: 2, original_network_id: 3, versions: [0; 16] };
 //! let mut out = [0; 200];
 //! let need = build(caller, &list, count, pools, 49_273, identity, &mut []);
 //! assert_eq!(need, Err(BuildRefusal::OutputShort { needed: 102 }));
@@ -97,8 +96,10 @@ pub const DURATION_MAX: u32 = 359_999;
 pub const FORBIDDEN_TAG: u8 = 0xFF;
 /// The last base day: a Modified Julian Date.
 pub const BASE_DAY_MAX: u32 = 65_472;
-/// The last version.
+/// The last version of a table; the next one is 0.
 pub const VERSION_MAX: u8 = 31;
+/// Tables, 0x50 to 0x5F, each with a version of its own.
+pub const TABLES: usize = 16;
 /// Seconds in a segment: three hours.
 pub const SEGMENT_SECONDS: u32 = 10_800;
 /// Segments in a table: four days.
@@ -156,14 +157,22 @@ impl From<Record> for [u32; RECORD] {
     }
 }
 
-/// What is the same in every section of a file.
+/// Whose schedule a file is, the same in every section, and the versions of its tables.
 #[derive(Clone, Copy, Debug, Default, PartialEq, Eq)]
 pub struct Identity {
     pub service_id: u16,
     pub transport_stream_id: u16,
     pub original_network_id: u16,
-    /// At most [`VERSION_MAX`].
-    pub version: u8,
+    /// `versions[k]` is that of table 0x50 + k, at most [`VERSION_MAX`]. Those of tables that a file does not have are
+    /// 0 in what [`read`] and [`check`] return, and [`build`] looks at them, too.
+    pub versions: [u8; TABLES],
+}
+
+/// The file that a rebuilt one follows, and the base day that it was made with.
+#[derive(Clone, Copy, Debug)]
+pub struct Previous<'a> {
+    pub file: &'a [u8],
+    pub base_day: u32,
 }
 
 /// The cause of a refusal in words, by its number: those of the C face's `eit_cause`.
@@ -171,7 +180,7 @@ pub fn cause(number: u32) -> &'static str {
     match number {
         0 => "success",
         1 => "the base day is above 65,472",
-        2 => "the version is above 31",
+        2 => "a version is above 31",
         3 => "the script has an unknown command, or ends within a command's operands",
         4 => "UNDO with no edit before it that is not yet struck",
         5 => "PUT, MOVE: start, duration or marks out of range",
@@ -183,7 +192,10 @@ pub fn cause(number: u32) -> &'static str {
         12 => "the list is not sound",
         20 => "a section is truncated, or its table_id or section_length is out of range",
         21 => "a section's CRC_32 is wrong",
-        22 => "a fixed bit is wrong, last_table_id is out of range, or it or the identity is not the one before",
+        22 => {
+            "a fixed bit is wrong, last_table_id is out of range, it or the service, stream or network is not the \
+             one before, or the version differs within its table"
+        }
         23 => "a section is missing, doubled or out of order, or its table is past last_table_id",
         24 => "a section's events break a rule",
         25 => "the file ends before the last section of last_table_id, or is empty",
@@ -255,7 +267,7 @@ impl EditRefusal {
 pub enum BuildRefusal {
     /// 1: the base day is above 65,472.
     BaseDay,
-    /// 2: the version is above 31.
+    /// 2: a version is above 31, be it that of a table that the file does not have.
     Version,
     /// 12: the list is not sound; one descriptor with [`FORBIDDEN_TAG`] is enough, or one event that begins before the
     /// one before it ends.
@@ -268,6 +280,19 @@ pub enum BuildRefusal {
 }
 
 impl BuildRefusal {
+    /// The refusal with this number and value, if Build has one.
+    fn of(number: u32, value: usize) -> Option<BuildRefusal> {
+        let refusal = match number {
+            1 => BuildRefusal::BaseDay,
+            2 => BuildRefusal::Version,
+            10 => BuildRefusal::Unpackable { segment: value },
+            11 => BuildRefusal::OutputShort { needed: value },
+            12 => BuildRefusal::Unsound,
+            _ => return None,
+        };
+        (refusal.answer() == (number, value)).then_some(refusal)
+    }
+
     /// The number and the value that the C face returns for it.
     fn answer(self) -> (u32, usize) {
         match self {
@@ -298,7 +323,8 @@ pub enum ReadRefusal {
     Frame { offset: usize },
     /// 21: a section's CRC_32 is wrong.
     Crc { offset: usize },
-    /// 22: a fixed bit is wrong, last_table_id is out of range, or it or the identity is not the one before.
+    /// 22: a fixed bit is wrong, last_table_id is out of range, it or the service, stream or network is not the one
+    /// before, or the version differs from that of an earlier section of its table, wherever that stood.
     Header { offset: usize },
     /// 23: a section is missing, doubled or out of order, or its table is past last_table_id.
     Numbering { offset: usize },
@@ -314,6 +340,23 @@ pub enum ReadRefusal {
 }
 
 impl ReadRefusal {
+    /// The refusal with this number and value, if Read has one.
+    fn of(number: u32, value: usize) -> Option<ReadRefusal> {
+        let refusal = match number {
+            1 => ReadRefusal::BaseDay,
+            20 => ReadRefusal::Frame { offset: value },
+            21 => ReadRefusal::Crc { offset: value },
+            22 => ReadRefusal::Header { offset: value },
+            23 => ReadRefusal::Numbering { offset: value },
+            24 => ReadRefusal::EventLoop { offset: value },
+            25 => ReadRefusal::EarlyEnd { file_length: value },
+            26 => ReadRefusal::EventLimit { offset: value },
+            27 => ReadRefusal::RecordsShort { events: value },
+            _ => return None,
+        };
+        (refusal.answer() == (number, value)).then_some(refusal)
+    }
+
     /// The number and the value that the C face returns for it.
     fn answer(self) -> (u32, usize) {
         match self {
@@ -336,6 +379,43 @@ impl ReadRefusal {
     /// The section's offset, the file's length or the number of events; 0 for `BaseDay`.
     pub fn value(self) -> usize {
         self.answer().1
+    }
+}
+
+/// Why rebuild says no. Each leaves the output as it was.
+#[derive(Clone, Copy, Debug, PartialEq, Eq)]
+pub enum RebuildRefusal {
+    /// The previous file is refused, as [`check`] refuses it: never with [`ReadRefusal::RecordsShort`].
+    Previous(ReadRefusal),
+    /// The previous file is accepted, and the new one cannot be built: never with [`BuildRefusal::Version`].
+    Build(BuildRefusal),
+}
+
+impl RebuildRefusal {
+    /// The refusal with this number and value, if rebuild has one. 1 can be about either base day, and the previous
+    /// one is looked at first.
+    fn of(number: u32, value: usize, previous_base_day: u32) -> Option<RebuildRefusal> {
+        match number {
+            1 if previous_base_day <= BASE_DAY_MAX => BuildRefusal::of(number, value).map(RebuildRefusal::Build),
+            10..=12 => BuildRefusal::of(number, value).map(RebuildRefusal::Build),
+            1 | 20..=26 => ReadRefusal::of(number, value).map(RebuildRefusal::Previous),
+            _ => None,
+        }
+    }
+
+    pub fn number(self) -> u32 {
+        match self {
+            RebuildRefusal::Previous(refusal) => refusal.number(),
+            RebuildRefusal::Build(refusal) => refusal.number(),
+        }
+    }
+
+    /// That of the previous file's or of Build's refusal.
+    pub fn value(self) -> usize {
+        match self {
+            RebuildRefusal::Previous(refusal) => refusal.value(),
+            RebuildRefusal::Build(refusal) => refusal.value(),
+        }
     }
 }
 
@@ -467,24 +547,85 @@ pub fn build(
             identity.service_id,
             identity.transport_stream_id,
             identity.original_network_id,
-            identity.version,
+            &identity.versions,
             out.as_mut_ptr(),
             out.len(),
         )
     };
-    let refusal = match number {
-        0 => return Ok(value),
-        1 => BuildRefusal::BaseDay,
-        2 => BuildRefusal::Version,
-        10 => BuildRefusal::Unpackable { segment: value },
-        11 => BuildRefusal::OutputShort { needed: value },
-        12 => BuildRefusal::Unsound,
-        _ => unknown("eit_build", number, value),
-    };
-    if refusal.answer() != (number, value) {
-        unknown("eit_build", number, value);
+    match number {
+        0 => Ok(value),
+        _ => Err(BuildRefusal::of(number, value).unwrap_or_else(|| unknown("eit_build", number, value))),
     }
-    Err(refusal)
+}
+
+/// Build after a change: writes the file of a new list to the front of `out`, under the previous file's service, stream
+/// and network, and returns its length. A table of which all bytes but version and CRC_32 are the previous file's keeps
+/// its version; another one has the old version plus 1, after [`VERSION_MAX`] it is 0; a table that the previous file
+/// lacks has version 0. last_table_id is among the bytes: where it changes, every table has a new version. All else is
+/// as [`build`] writes it, and the bytes behind the file stay. A pool may be the previous file.
+///
+/// ```
+/// use chirdaluko::{build, check, rebuild, BuildRefusal, Caller, Identity, Pools, Previous};
+/// use chirdaluko::{ReadRefusal, RebuildRefusal};
+///
+/// let (caller, base_day) = (Caller::Broadcast, 49_273);
+/// let pools = Pools { day: &[], series: &[] };
+/// // Two programmes of a minute: on the first day, in table 0x50, and on the fifth, in table 0x51.
+/// let mut list = [1, 0, 60, 0, 0, 0, 2, 345_600, 60, 0, 0, 0];
+/// let mut versions = [0; 16];
+/// (versions[0], versions[1]) = (7, 31);
+/// let identity = Identity { service_id: 1, transport_stream_id: 2, original_network_id: 3, versions };
+/// let mut on_air = [0; 60];
+/// assert_eq!(build(caller, &list, 2, pools, base_day, identity, &mut on_air), Ok(60));
+///
+/// // The second is to last a second more: its table alone has a new version.
+/// list[8] = 61;
+/// let mut out = [0; 60];
+/// let previous = Previous { file: &on_air, base_day };
+/// assert_eq!(rebuild(caller, previous, &list, 2, pools, base_day, &mut out), Ok(60));
+/// versions[1] = 0;
+/// assert_eq!(check(caller, &out, base_day).unwrap().identity, Identity { versions, ..identity });
+///
+/// let said = rebuild(caller, previous, &list, 2, pools, base_day, &mut []);
+/// assert_eq!(said, Err(RebuildRefusal::Build(BuildRefusal::OutputShort { needed: 60 })));
+/// let truncated = Previous { file: &on_air[..59], base_day };
+/// let said = rebuild(caller, truncated, &list, 2, pools, base_day, &mut out);
+/// assert_eq!(said, Err(RebuildRefusal::Previous(ReadRefusal::Frame { offset: 30 })));
+/// ```
+pub fn rebuild(
+    caller: Caller,
+    previous: Previous,
+    list: &[u32],
+    count: usize,
+    pools: Pools,
+    base_day: u32,
+    out: &mut [u8],
+) -> Result<usize, RebuildRefusal> {
+    let Pools { day, series } = pools;
+    // As in `edit`.
+    let EitBuilt { number, value } = unsafe {
+        eit_rebuild(
+            caller,
+            previous.file.as_ptr(),
+            previous.file.len(),
+            previous.base_day,
+            list.as_ptr(),
+            list.len(),
+            count,
+            day.as_ptr(),
+            day.len(),
+            series.as_ptr(),
+            series.len(),
+            base_day,
+            out.as_mut_ptr(),
+            out.len(),
+        )
+    };
+    let refusal = || RebuildRefusal::of(number, value, previous.base_day);
+    match number {
+        0 => Ok(value),
+        _ => Err(refusal().unwrap_or_else(|| unknown("eit_rebuild", number, value))),
+    }
 }
 
 /// Writes how many sections Build makes of each segment: the 32 segments of table 0x50, then those of 0x51, up to 0x5F.
@@ -529,25 +670,16 @@ pub fn crc32(bytes: &[u8]) -> u32 {
 }
 
 fn reading(call: &str, said: EitReading) -> Result<Reading, ReadRefusal> {
-    let EitReading { number, value, count, service_id, transport_stream_id, original_network_id, version } = said;
-    let identity = Identity { service_id, transport_stream_id, original_network_id, version };
-    let refusal = match number {
-        0 if value == count => return Ok(Reading { count, identity }),
-        1 => ReadRefusal::BaseDay,
-        20 => ReadRefusal::Frame { offset: value },
-        21 => ReadRefusal::Crc { offset: value },
-        22 => ReadRefusal::Header { offset: value },
-        23 => ReadRefusal::Numbering { offset: value },
-        24 => ReadRefusal::EventLoop { offset: value },
-        25 => ReadRefusal::EarlyEnd { file_length: value },
-        26 => ReadRefusal::EventLimit { offset: value },
-        27 if call == "eit_read" => ReadRefusal::RecordsShort { events: value },
-        _ => unknown(call, number, value),
-    };
-    if refusal.answer() != (number, value) || (count, identity) != (0, Identity::default()) {
-        unknown(call, number, value);
+    let EitReading { number, value, count, service_id, transport_stream_id, original_network_id, versions } = said;
+    let identity = Identity { service_id, transport_stream_id, original_network_id, versions };
+    if number == 0 && value == count {
+        return Ok(Reading { count, identity });
     }
-    Err(refusal)
+    match ReadRefusal::of(number, value) {
+        Some(ReadRefusal::RecordsShort { .. }) if call != "eit_read" => unknown(call, number, value),
+        Some(refusal) if (count, identity) == (0, Identity::default()) => Err(refusal),
+        _ => unknown(call, number, value),
+    }
 }
 
 fn unknown(call: &str, number: u32, value: usize) -> ! {
@@ -591,9 +723,20 @@ impl Display for ReadRefusal {
     }
 }
 
+/// Whether it is about the previous file, and then as the refusal of Read or Build is displayed.
+impl Display for RebuildRefusal {
+    fn fmt(&self, to: &mut Formatter) -> fmt::Result {
+        match self {
+            RebuildRefusal::Previous(refusal) => write!(to, "previous file {refusal}"),
+            RebuildRefusal::Build(refusal) => write!(to, "{refusal}"),
+        }
+    }
+}
+
 impl Error for EditRefusal {}
 impl Error for BuildRefusal {}
 impl Error for ReadRefusal {}
+impl Error for RebuildRefusal {}
 
 #[repr(C)]
 struct EitEdited {
@@ -622,7 +765,7 @@ struct EitReading {
     service_id: u16,
     transport_stream_id: u16,
     original_network_id: u16,
-    version: u8,
+    versions: [u8; TABLES],
 }
 
 extern "C" {
@@ -654,7 +797,24 @@ extern "C" {
         service_id: u16,
         transport_stream_id: u16,
         original_network_id: u16,
-        version: u8,
+        versions: *const [u8; TABLES],
+        out: *mut u8,
+        out_length: usize,
+    ) -> EitBuilt;
+
+    fn eit_rebuild(
+        caller: Caller,
+        previous: *const u8,
+        previous_length: usize,
+        previous_base_day: u32,
+        list: *const u32,
+        list_length: usize,
+        count: usize,
+        day: *const u8,
+        day_length: usize,
+        series: *const u8,
+        series_length: usize,
+        base_day: u32,
         out: *mut u8,
         out_length: usize,
     ) -> EitBuilt;
