@@ -2,7 +2,7 @@
 //! for the other. The wrapper's cases give number and value back.
 
 use crate::chirdaluko::{self, Pools, ReadRefusal};
-use crate::other::{Answer, Built, Caller, Identity, Lent, Place, Plan, Reading};
+use crate::other::{Answer, Built, Caller, Identity, Lent, Place, Plan, Previous, Reading, Triplet};
 
 pub use crate::chirdaluko::crc32;
 
@@ -19,9 +19,17 @@ pub fn place(list: &[u32], count: usize, start: u32) -> Place {
 }
 
 pub fn build(caller: Caller, lent: &Lent, base_day: u32, identity: Identity, output: &mut [u8]) -> Built {
-    let Identity { service_id, transport_stream_id, original_network_id, version } = identity;
-    let identity = chirdaluko::Identity { service_id, transport_stream_id, original_network_id, version };
+    let Identity { triplet: Triplet { service_id, transport_stream_id, original_network_id }, versions } = identity;
+    let identity = chirdaluko::Identity { service_id, transport_stream_id, original_network_id, versions };
     match chirdaluko::build(served(caller), lent.list, lent.count, pools(lent), base_day, identity, output) {
+        Ok(length) => Built { number: 0, value: length },
+        Err(refusal) => Built { number: refusal.number(), value: refusal.value() },
+    }
+}
+
+pub fn rebuild(caller: Caller, previous: Previous, lent: &Lent, base_day: u32, output: &mut [u8]) -> Built {
+    let previous = chirdaluko::Previous { file: previous.file, base_day: previous.base_day };
+    match chirdaluko::rebuild(served(caller), previous, lent.list, lent.count, pools(lent), base_day, output) {
         Ok(length) => Built { number: 0, value: length },
         Err(refusal) => Built { number: refusal.number(), value: refusal.value() },
     }
@@ -54,8 +62,9 @@ fn pools<'a>(lent: &Lent<'a>) -> Pools<'a> {
 fn reading(said: Result<chirdaluko::Reading, ReadRefusal>) -> Reading {
     match said {
         Ok(chirdaluko::Reading { count, identity }) => {
-            let chirdaluko::Identity { service_id, transport_stream_id, original_network_id, version } = identity;
-            let identity = Identity { service_id, transport_stream_id, original_network_id, version };
+            let chirdaluko::Identity { service_id, transport_stream_id, original_network_id, versions } = identity;
+            let triplet = Triplet { service_id, transport_stream_id, original_network_id };
+            let identity = Identity { triplet, versions };
             Reading { number: 0, value: count, count, identity }
         }
         Err(refusal) => crate::other::refused(refusal.number(), refusal.value()),

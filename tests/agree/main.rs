@@ -40,6 +40,7 @@ mod pools;
 mod precedence;
 mod random;
 mod read;
+mod rebuild;
 mod reuse;
 mod scripts;
 mod soundness;
@@ -76,7 +77,9 @@ fn main() -> ExitCode {
 }
 
 fn self_check() -> Result<Vec<String>, String> {
-    let faults = [faults::run(all_groups)?, place::self_check()?, build::self_check()?, read::self_check()?].concat();
+    let edits = faults::run(all_groups)?;
+    let builds = [build::self_check()?, rebuild::self_check()?].concat();
+    let faults = [edits, place::self_check()?, builds, read::self_check()?].concat();
     println!("self-check  {} faults, each shown", faults.len());
     Ok(faults)
 }
@@ -106,8 +109,16 @@ fn compare_for(caller: Caller) -> Result<Vec<String>, String> {
     let subject = read::Subject { build: library::build, read: &library::read, check: &library::check };
     let mut reads = read::Comparison::new(caller, subject);
     read::all_groups(&mut reads)?;
+    let mut rebuilds = rebuild::Comparison::new(caller, &library::rebuild);
+    rebuild::all_groups(&mut rebuilds)?;
 
-    let tallies = [("Edit", &edits.tally), ("Build", &builds.tally), ("Plan", &builds.entries), ("Read", &reads.tally)];
+    let tallies = [
+        ("Edit", &edits.tally),
+        ("Build", &builds.tally),
+        ("Plan", &builds.entries),
+        ("Read", &reads.tally),
+        ("Rebuild", &rebuilds.tally),
+    ];
     println!("\nfor {caller}");
     for (call, tally) in tallies {
         println!("{call:<12}{} cases agree\nanswers     {}", tally.cases, tally.answers());
@@ -115,10 +126,10 @@ fn compare_for(caller: Caller) -> Result<Vec<String>, String> {
             println!("precedences {precedences}");
         }
         if let Some(kinds) = tally.kinds() {
-            println!("overlap     {kinds}");
+            println!("kinds       {kinds}");
         }
     }
-    let seeds = [edits.groups.seeds(), builds.groups.seeds(), reads.groups.seeds()];
+    let seeds = [edits.groups.seeds(), builds.groups.seeds(), reads.groups.seeds(), rebuilds.groups.seeds()];
     println!("seeds       {}", seeds.join(", "));
     let of_call = |(call, tally): &(&str, &Tally)| {
         let missing = tally.missing().into_iter();

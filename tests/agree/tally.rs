@@ -1,4 +1,4 @@
-//! How often each answer came up, and each precedence and each kind of overlap was tried, so that a run that misses one
+//! How often each answer came up, and each precedence and each kind of input was tried, so that a run that misses one
 //! fails.
 
 use std::collections::BTreeMap;

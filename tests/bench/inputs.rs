@@ -2,14 +2,17 @@
 //! cable caller's largest.
 
 use crate::lineup::{Lineup, SEGMENT_SECONDS};
-use crate::lists::{rising, List};
-use crate::other::{self, Caller, Identity, Lent};
+use crate::lists::{rising, List, MARKS};
+use crate::other::{self, Caller, Identity, Lent, Triplet};
 use crate::pools::Pools;
 use crate::random::Random;
 use crate::table::{head, row, size_name};
 
 pub const BASE_DAY: u32 = 49_273;
-pub const IDENTITY: Identity = Identity { service_id: 1, transport_stream_id: 2, original_network_id: 3, version: 4 };
+pub const IDENTITY: Identity = Identity {
+    triplet: Triplet { service_id: 1, transport_stream_id: 2, original_network_id: 3 },
+    versions: [4, 31, 0, 7, 19, 30, 2, 8, 15, 16, 1, 23, 11, 3, 29, 5],
+};
 const SEGMENTS_A_DAY: usize = 8;
 const WEEK_DAYS: usize = 8;
 const WEEK_EVENTS: usize = 400;
@@ -61,8 +64,31 @@ impl Input {
     }
 
     pub fn lent(&self) -> Lent<'_> {
+        self.lent_as(&self.list)
+    }
+
+    /// Another list in the same pools.
+    pub fn lent_as<'a>(&'a self, list: &'a List) -> Lent<'a> {
         let (day, series) = (self.pools.day.bytes(), self.pools.series.bytes());
-        Lent { list: &self.list.numbers, count: self.list.count, day, series }
+        Lent { list: &list.numbers, count: list.count, day, series }
+    }
+
+    /// The list with another running_status for the event in its middle. There is one.
+    pub fn changed(&self) -> List {
+        let middle = self.list.count / 2;
+        self.list.with(middle, MARKS, &[self.list.get(middle, MARKS) ^ 4])
+    }
+
+    /// What Build makes of the list.
+    pub fn file(&self) -> Vec<u8> {
+        let mut file = vec![0; self.size];
+        other::build(self.caller, &self.lent(), BASE_DAY, IDENTITY, &mut file);
+        file
+    }
+
+    /// The identity that the file has: versions of absent tables are 0.
+    pub fn identity(&self) -> Identity {
+        other::check(self.caller, &self.file(), BASE_DAY).identity
     }
 }
 
@@ -87,7 +113,7 @@ fn of_events(random: &mut Random, count: usize, least: usize, most: usize) -> Li
 }
 
 /// A table with the times of library and other implementation for each input.
-pub fn rows(title: &str, inputs: &[Input], times: fn(&Input) -> [f64; 2]) {
+pub fn rows<'a>(title: &str, inputs: impl IntoIterator<Item = &'a Input>, times: fn(&Input) -> [f64; 2]) {
     head(title);
     let mut before = None;
     for input in inputs {

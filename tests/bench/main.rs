@@ -12,6 +12,7 @@ mod inputs;
 mod library;
 mod places;
 mod reads;
+mod rebuilds;
 mod table;
 
 // The other implementation and the comparison's makers of inputs, of which a part is needed here.
@@ -65,10 +66,13 @@ fn main() {
         ["once", "place"] => places::once(random),
         ["once", "plan"] => builds::once_planned(random),
         ["once", "build"] => builds::once(random),
+        ["once", "rebuild"] => rebuilds::once(random),
         ["once", "check"] => reads::once_checked(random),
         ["once", "read"] => reads::once(random),
         ["once", "crc32"] => crcs::once(random),
-        _ => panic!("the arguments are none, or `once` and one of edit, place, plan, build, check, read, crc32"),
+        _ => {
+            panic!("the arguments are none, or `once` and one of edit, place, plan, build, rebuild, check, read, crc32")
+        }
     }
 }
 
@@ -79,6 +83,7 @@ fn all(random: &mut Random) {
     edits::run(random);
     let inputs = inputs::inputs(random);
     builds::run(&inputs);
+    rebuilds::run(&inputs);
     reads::run(&inputs);
     crcs::run(random);
     places::run(random);

@@ -1,6 +1,6 @@
 //! Read of the files that Build makes, with a record buffer and without.
 
-use crate::inputs::{largest, rows, Input, BASE_DAY, IDENTITY};
+use crate::inputs::{largest, rows, Input, BASE_DAY};
 use crate::library;
 use crate::other::{self, Reading};
 use crate::random::Random;
@@ -20,28 +20,22 @@ pub fn run(inputs: &[Input]) {
 pub fn once(random: &mut Random) {
     let input = largest(random);
     let mut records = vec![0; RECORDS];
-    assert_eq!(library::read(input.caller, &file(&input), BASE_DAY, &mut records), accepted(&input), "a refusal");
+    assert_eq!(library::read(input.caller, &input.file(), BASE_DAY, &mut records), accepted(&input), "a refusal");
 }
 
 pub fn once_checked(random: &mut Random) {
     let input = largest(random);
-    assert_eq!(library::check(input.caller, &file(&input), BASE_DAY), accepted(&input), "a refusal");
-}
-
-fn file(input: &Input) -> Vec<u8> {
-    let mut file = vec![0; input.size];
-    other::build(input.caller, &input.lent(), BASE_DAY, IDENTITY, &mut file);
-    file
+    assert_eq!(library::check(input.caller, &input.file(), BASE_DAY), accepted(&input), "a refusal");
 }
 
 /// What an accepted file of these events is answered.
 fn accepted(input: &Input) -> Reading {
     let count = input.lent().count;
-    Reading { number: 0, value: count, count, identity: IDENTITY }
+    Reading { number: 0, value: count, count, identity: input.identity() }
 }
 
 fn check_times(input: &Input) -> [f64; 2] {
-    let file = file(input);
+    let file = input.file();
     [library::check, other::check].map(|check| {
         assert_eq!(check(input.caller, &file, BASE_DAY), accepted(input), "a refusal");
         shortest(|| {
@@ -53,7 +47,7 @@ fn check_times(input: &Input) -> [f64; 2] {
 }
 
 fn read_times(input: &Input) -> [f64; 2] {
-    let file = file(input);
+    let file = input.file();
     let mut records = [vec![0; RECORDS], vec![0; RECORDS]];
     assert_eq!(library::read(input.caller, &file, BASE_DAY, &mut records[0]), accepted(input), "a refusal");
     assert_eq!(other::read(input.caller, &file, BASE_DAY, &mut records[1]), accepted(input), "a refusal");

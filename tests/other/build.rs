@@ -1,4 +1,4 @@
-//! Build: 01, "Build, Read" and "When a call says no", and 02, W-206.
+//! Build: 01, "Build, Read" and "When a call says no", and 02, W-206 and W-208.
 
 use super::caller::Caller;
 use super::event::Pools;
@@ -35,24 +35,39 @@ pub fn build_by(
     identity: Identity,
     output: &mut [u8],
 ) -> Built {
+    match written(method, caller, lent, base_day, identity) {
+        Ok(file) => put(&file, output),
+        Err(refusal) => refusal,
+    }
+}
+
+/// The file, or the refusal that comes before the output is looked at.
+pub fn written(
+    method: Method,
+    caller: Caller,
+    lent: &Lent,
+    base_day: u32,
+    identity: Identity,
+) -> Result<Vec<u8>, Built> {
     if base_day > BASE_DAY_MAX {
-        return Built { number: BASE_DAY_ABOVE, value: 0 };
+        return Err(Built { number: BASE_DAY_ABOVE, value: 0 });
     }
-    if identity.version > VERSION_MAX {
-        return Built { number: VERSION_ABOVE, value: 0 };
+    if identity.versions.iter().any(|version| *version > VERSION_MAX) {
+        return Err(Built { number: VERSION_ABOVE, value: 0 });
     }
-    let Some(schedule) = Schedule::of(method, caller, lent) else {
-        return Built { number: UNSOUND, value: 0 };
-    };
-    let tables = match packed(method, caller, &schedule) {
-        Ok(tables) => tables,
-        Err(index) => return Built { number: NOT_PACKABLE, value: index },
-    };
-    let file = file(&tables, lent.pools(), base_day, identity);
+    let schedule = Schedule::of(method, caller, lent).ok_or(Built { number: UNSOUND, value: 0 })?;
+    match packed(method, caller, &schedule) {
+        Ok(tables) => Ok(file(&tables, lent.pools(), base_day, identity)),
+        Err(index) => Err(Built { number: NOT_PACKABLE, value: index }),
+    }
+}
+
+/// Writes the file to the front of the output, if it is not short.
+pub fn put(file: &[u8], output: &mut [u8]) -> Built {
     let Some(front) = output.get_mut(..file.len()) else {
         return Built { number: OUTPUT_SHORT, value: file.len() };
     };
-    front.copy_from_slice(&file);
+    front.copy_from_slice(file);
     Built { number: 0, value: file.len() }
 }
 
@@ -76,12 +91,13 @@ pub fn file(tables: &[Vec<Segment>], pools: Pools, base_day: u32, identity: Iden
             for (place, events) in sections.iter().enumerate() {
                 let header = Header {
                     table_id: TABLE_ID_FIRST + table as u8,
+                    version: identity.versions[table],
                     section_number: (SECTIONS_MAX * segment + place) as u8,
                     last_section_number: last_section(segments.len() - 1),
                     segment_last_section_number: last_section(segment),
                     last_table_id: TABLE_ID_FIRST + (tables.len() - 1) as u8,
                 };
-                header.write(identity, base_day, events, pools, &mut file);
+                header.write(identity.triplet, base_day, events, pools, &mut file);
             }
         }
     }

@@ -1,4 +1,4 @@
-//! Read, with a record buffer and without: 01, "Build, Read" and "When a call says no", and 02, W-204 and W-206.
+//! Read, with a record buffer and without: 01, "Build, Read" and "When a call says no", and 02, W-204, W-206 and W-208.
 
 use super::before::Before;
 use super::caller::{Caller, Sizes};
@@ -102,7 +102,11 @@ fn carried(asked: &Asked, caller: Caller, file: &[u8], base_day: u32) -> Result<
         offset += bytes.len();
     }
     match before.section {
-        Some((identity, _)) if before.is_end() => Ok(Carried { identity, records }),
+        Some((triplet, _)) if before.is_end() => {
+            // 02, W-208: "Read gives 0 for absent tables."
+            let versions = before.versions.map(|version| version.unwrap_or(0));
+            Ok(Carried { identity: Identity { triplet, versions }, records })
+        }
         _ => Err((ENDS_EARLY, file.len())),
     }
 }

@@ -1,7 +1,7 @@
-//! A section's bytes as Read takes them apart, whatever they hold: 01, "The file of sections", and 02, W-206.
+//! A section's bytes as Read takes them apart, whatever they hold: 01, "The file of sections", and 02, W-206 and W-208.
 
 use super::caller::Sizes;
-use super::section::{Header, Identity};
+use super::section::{Header, Triplet};
 use std::ops::RangeInclusive;
 
 pub const TABLE_IDS: RangeInclusive<u8> = 0x50..=0x5F;
@@ -27,15 +27,20 @@ pub fn frame_within(
     section_lengths: RangeInclusive<usize>,
     bytes: &[u8],
 ) -> Option<&[u8]> {
-    let length = twelve_bits(bytes.get(1..COUNTED_FROM)?);
-    let in_range = table_ids.contains(&bytes[0]) && section_lengths.contains(&length);
-    bytes.get(..COUNTED_FROM + length).filter(|_| in_range)
+    let length = section_length(bytes.get(..COUNTED_FROM)?);
+    let in_range = table_ids.contains(&bytes[0]) && section_lengths.contains(&(length - COUNTED_FROM));
+    bytes.get(..length).filter(|_| in_range)
+}
+
+/// The length in all of the section that these bytes begin with.
+pub fn section_length(bytes: &[u8]) -> usize {
+    COUNTED_FROM + twelve_bits(&bytes[1..COUNTED_FROM])
 }
 
 /// A section that is framed.
 pub struct Received<'a> {
     pub bytes: &'a [u8],
-    pub identity: Identity,
+    pub triplet: Triplet,
     pub header: Header,
     pub events: Vec<ReceivedEvent<'a>>,
     /// Whether the last event ends where the events do.
@@ -74,14 +79,14 @@ impl<'a> Received<'a> {
         let (events, ends_well) = events(bytes, base_day);
         Received {
             bytes,
-            identity: Identity {
+            triplet: Triplet {
                 service_id: two_bytes(&bytes[3..5]),
-                version: bytes[5] >> 1 & 31,
                 transport_stream_id: two_bytes(&bytes[8..10]),
                 original_network_id: two_bytes(&bytes[10..12]),
             },
             header: Header {
                 table_id: bytes[0],
+                version: bytes[5] >> 1 & 31,
                 section_number: bytes[6],
                 last_section_number: bytes[7],
                 segment_last_section_number: bytes[12],

@@ -1,5 +1,5 @@
 //! The rules that a section of a file keeps, each with the number of its refusal, in the order in which they are
-//! checked: 01, "The file of sections" and "When a call says no", and 02, W-204 and W-206.
+//! checked: 01, "The file of sections" and "When a call says no", and 02, W-204, W-206 and W-208.
 
 use super::before::Before;
 use super::crc_table::crc32_by_table;
@@ -24,14 +24,14 @@ pub const RULES: [Rule; 31] = [
     rule(22, "bits 1111", |section, _| section.bytes[1] >> 4 == 0b1111),
     rule(22, "bits 11", |section, _| section.bytes[5] >> 6 == 0b11),
     rule(22, "current_next 1", |section, _| section.bytes[5] & 1 == 1),
-    rule(22, "one service_id", |section, before| before.has(section, |identity, _| identity.service_id)),
+    rule(22, "one service_id", |section, before| before.has(section, |triplet, _| triplet.service_id)),
     rule(22, "one transport_stream_id", |section, before| {
-        before.has(section, |identity, _| identity.transport_stream_id)
+        before.has(section, |triplet, _| triplet.transport_stream_id)
     }),
     rule(22, "one original_network_id", |section, before| {
-        before.has(section, |identity, _| identity.original_network_id)
+        before.has(section, |triplet, _| triplet.original_network_id)
     }),
-    rule(22, "one version", |section, before| before.has(section, |identity, _| identity.version)),
+    rule(22, "one version in a table", |section, before| before.has_version(section)),
     rule(22, "one last_table_id", |section, before| before.has(section, |_, header| header.last_table_id)),
     rule(22, "last_table_id in range", |section, _| TABLE_IDS.contains(&section.header.last_table_id)),
     rule(23, "at most last_table_id", |section, _| section.header.table_id <= section.header.last_table_id),

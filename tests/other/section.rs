@@ -1,4 +1,4 @@
-//! The bytes of a section and of its events: 01, "The file of sections".
+//! The bytes of a section and of its events: 01, "The file of sections", and 02, W-208.
 
 use super::crc_table::crc32_by_table;
 use super::event::{Event, Pools};
@@ -8,24 +8,33 @@ const OFF_AIR: u32 = 4;
 const RUNNING_STATUS_OFF_AIR: u16 = 5;
 const DAY_SECONDS: u32 = 86_400;
 
-/// Where section_length stands, and behind it the bytes that it counts.
+/// Where section_length stands, behind it the bytes that it counts, and among them the version.
 const LENGTH_AT: usize = 1;
 const COUNTED_FROM: usize = 3;
-const CRC_BYTES: usize = 4;
+pub const VERSION_AT: usize = 5;
+pub const CRC_BYTES: usize = 4;
 
 /// What a file's sections have in common.
 #[derive(Clone, Copy, Debug, Default, PartialEq)]
-pub struct Identity {
+pub struct Triplet {
     pub service_id: u16,
     pub transport_stream_id: u16,
     pub original_network_id: u16,
-    pub version: u8,
+}
+
+/// 02, W-208: "identity now has sixteen versions", table 0x50's first.
+#[derive(Clone, Copy, Debug, Default, PartialEq)]
+pub struct Identity {
+    pub triplet: Triplet,
+    pub versions: [u8; 16],
 }
 
 /// A section's own numbers.
 #[derive(Clone, Copy)]
 pub struct Header {
     pub table_id: u8,
+    /// The same in every section of the table.
+    pub version: u8,
     pub section_number: u8,
     pub last_section_number: u8,
     pub segment_last_section_number: u8,
@@ -34,13 +43,13 @@ pub struct Header {
 
 impl Header {
     /// Appends the section with these events to the file.
-    pub fn write(&self, identity: Identity, base_day: u32, events: &[Event], pools: Pools, file: &mut Vec<u8>) {
+    pub fn write(&self, triplet: Triplet, base_day: u32, events: &[Event], pools: Pools, file: &mut Vec<u8>) {
         let first = file.len();
         file.extend([self.table_id, 0, 0]);
-        file.extend(identity.service_id.to_be_bytes());
-        file.extend([0b1100_0001 | identity.version << 1, self.section_number, self.last_section_number]);
-        file.extend(identity.transport_stream_id.to_be_bytes());
-        file.extend(identity.original_network_id.to_be_bytes());
+        file.extend(triplet.service_id.to_be_bytes());
+        file.extend([version_byte(self.version), self.section_number, self.last_section_number]);
+        file.extend(triplet.transport_stream_id.to_be_bytes());
+        file.extend(triplet.original_network_id.to_be_bytes());
         file.extend([self.segment_last_section_number, self.last_table_id]);
         for event in events {
             write_event(event, base_day, pools, file);
@@ -51,6 +60,18 @@ impl Header {
         let crc = crc32_by_table(&file[first..]);
         file.extend(crc.to_be_bytes());
     }
+}
+
+/// Gives a section another version, and the CRC_32 that it has with it.
+pub fn set_version(section: &mut [u8], version: u8) {
+    section[VERSION_AT] = version_byte(version);
+    let (covered, crc) = section.split_at_mut(section.len() - CRC_BYTES);
+    crc.copy_from_slice(&crc32_by_table(covered).to_be_bytes());
+}
+
+/// Bits 11, the version, current_next 1.
+fn version_byte(version: u8) -> u8 {
+    0b1100_0001 | version << 1
 }
 
 fn write_event(event: &Event, base_day: u32, pools: Pools, file: &mut Vec<u8>) {

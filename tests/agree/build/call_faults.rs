@@ -7,7 +7,7 @@ use crate::other::{build, plan, Built, Caller, Identity, Lent};
 /// The shortest file.
 const FILE_MIN: usize = 18;
 
-pub const ALL: [(&str, BuildCall); 19] = [
+pub const ALL: [(&str, BuildCall); 24] = [
     ("serves the other caller", |caller, lent, base_day, identity, output| {
         build(caller.other(), lent, base_day, identity, output)
     }),
@@ -77,7 +77,17 @@ pub const ALL: [(&str, BuildCall); 19] = [
     }),
     // The order of checks.
     ("looks at the version before the base day", |caller, lent, base_day, identity, output| {
-        first_if(identity.version > 31, 2, caller, lent, base_day, identity, output)
+        let is_above = identity.versions.iter().any(|version| *version > 31);
+        first_if(is_above, 2, caller, lent, base_day, identity, output)
+    }),
+    ("looks at the versions of absent tables behind the list", |caller, lent, base_day, identity, output| {
+        let built = build(caller, lent, base_day, identity, output);
+        let list_alone = build(caller, lent, base_day, of_present_tables(lent, identity), &mut []);
+        if built.number == 2 && [10, 12].contains(&list_alone.number) {
+            list_alone
+        } else {
+            built
+        }
     }),
     ("looks at the list before the base day and the version", |caller, lent, base_day, identity, output| {
         first_if(plan(caller, lent)[0] == 254, 12, caller, lent, base_day, identity, output)
@@ -113,8 +123,27 @@ pub const ALL: [(&str, BuildCall); 19] = [
     ("takes the base day in sixteen bits", |caller, lent, base_day, identity, output| {
         build(caller, lent, base_day & 0xFFFF, identity, output)
     }),
-    ("takes the version in five bits", |caller, lent, base_day, identity, output| {
-        build(caller, lent, base_day, Identity { version: identity.version & 31, ..identity }, output)
+    ("takes a version in five bits", |caller, lent, base_day, identity, output| {
+        let versions = identity.versions.map(|version| version & 31);
+        build(caller, lent, base_day, Identity { versions, ..identity }, output)
+    }),
+    ("looks at the version of table 0x50 alone", |caller, lent, base_day, identity, output| {
+        let first = identity.versions[0];
+        let versions = identity.versions.map(|version| if first > 31 { version } else { version & 31 });
+        build(caller, lent, base_day, Identity { versions, ..identity }, output)
+    }),
+    ("looks at the versions of present tables alone", |caller, lent, base_day, identity, output| {
+        build(caller, lent, base_day, of_present_tables(lent, identity), output)
+    }),
+    ("looks at the first fifteen versions alone", |caller, lent, base_day, identity, output| {
+        let mut versions = identity.versions;
+        versions[15] &= 31;
+        build(caller, lent, base_day, Identity { versions, ..identity }, output)
+    }),
+    ("takes no version 31", |caller, lent, base_day, identity, output| {
+        let built = build(caller, lent, base_day, identity, &mut []);
+        let is_seen = built.number != 1 && identity.versions.contains(&31);
+        first_if(is_seen, 2, caller, lent, base_day, identity, output)
     }),
     ("takes an offset in sixteen bits", |caller, lent, base_day, identity, output| {
         let mut list = lent.list.to_vec();
@@ -127,6 +156,15 @@ pub const ALL: [(&str, BuildCall); 19] = [
         build(caller, &Lent { list: &list, ..*lent }, base_day, identity, output)
     }),
 ];
+
+/// The identity without the versions of tables behind the last event's.
+fn of_present_tables(lent: &Lent, identity: Identity) -> Identity {
+    let last = lent.count.checked_sub(1).and_then(|last| lent.list.get(6usize.checked_mul(last)? + 1));
+    let last_table = last.map_or(0, |start| start / 345_600) as usize;
+    let mut versions = identity.versions;
+    versions.iter_mut().skip(last_table + 1).for_each(|version| *version = 0);
+    Identity { versions, ..identity }
+}
 
 /// Refuses with this number before anything else is looked at.
 fn first_if(

@@ -2,6 +2,7 @@
 
 use super::order::precedences;
 use super::overlaps::kinds;
+use super::refusals::version_kinds;
 use super::request::Request;
 use crate::groups::Groups;
 use crate::guarded::Guarded;
@@ -42,7 +43,7 @@ impl Comparison<'_> {
         Comparison {
             caller,
             subject,
-            tally: Tally::new(&ANSWERS, precedences(), kinds("Build")),
+            tally: Tally::new(&ANSWERS, precedences(), [kinds("Build"), version_kinds()].concat()),
             entries: Tally::new(&ENTRIES, Vec::new(), kinds("Plan")),
             groups: Groups::new(caller, FIRST_SEED),
             guards: Random::new(FIRST_SEED),

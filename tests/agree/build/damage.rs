@@ -1,4 +1,5 @@
-//! Lists with random damage: single bits of every number, and numbers changed to likely ones. Some stay sound.
+//! Lists with random damage: single bits of every number, and numbers changed to likely ones. Some stay sound. At times
+//! a version is any byte.
 
 use super::comparison::Comparison;
 use super::request::Request;
@@ -48,5 +49,9 @@ fn changed(comparison: &mut Comparison, random: &mut Random, pools: &Pools) -> R
 fn damaged_alike(comparison: &mut Comparison, random: &mut Random, pools: &Pools, list: &List) -> Result<(), String> {
     let need = comparison.need(pools, list);
     let room = random.pick(&[need, need, need + 9, need - 1]);
-    comparison.alike(pools, list, Request::legal(random, room)).map(drop)
+    let mut request = Request::legal(random, room);
+    if random.one_in(16) {
+        request.identity.versions[random.below(16)] = random.byte();
+    }
+    comparison.alike(pools, list, request).map(drop)
 }

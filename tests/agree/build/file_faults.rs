@@ -18,7 +18,7 @@ const STATUS: usize = 10;
 /// A section without events.
 const SECTION_MIN: usize = 18;
 
-pub const ALL: [(&str, BuildCall); 13] = [
+pub const ALL: [(&str, BuildCall); 17] = [
     // 01, "What engineers write first".
     ("takes the number of sections for last_section_number", |caller, lent, base_day, identity, output| {
         let built = build(caller, lent, base_day, identity, output);
@@ -58,7 +58,32 @@ pub const ALL: [(&str, BuildCall); 13] = [
     // Bytes.
     ("does not shift the version", |caller, lent, base_day, identity, output| {
         let built = build(caller, lent, base_day, identity, output);
-        each_section(built, output, |section| section[VERSION] = 0b1100_0001 | identity.version)
+        each_section(built, output, |section| section[VERSION] = 0b1100_0001 | section[VERSION] >> 1 & 31)
+    }),
+    ("has the version of table 0x50 in every table", |caller, lent, base_day, identity, output| {
+        let built = build(caller, lent, base_day, identity, output);
+        each_section(built, output, |section| section[VERSION] = version_byte(identity.versions[0]))
+    }),
+    ("has the last table's version in every table", |caller, lent, base_day, identity, output| {
+        let built = build(caller, lent, base_day, identity, output);
+        each_section(built, output, |section| {
+            section[VERSION] = version_byte(identity.versions[usize::from(section[LAST_TABLE_ID] - 0x50)]);
+        })
+    }),
+    ("has the version of the table before", |caller, lent, base_day, identity, output| {
+        let built = build(caller, lent, base_day, identity, output);
+        each_section(built, output, |section| {
+            let before = usize::from(section[0] - 0x50).saturating_sub(1);
+            section[VERSION] = version_byte(identity.versions[before]);
+        })
+    }),
+    ("has its table's version in a segment's first section alone", |caller, lent, base_day, identity, output| {
+        let built = build(caller, lent, base_day, identity, output);
+        each_section(built, output, |section| {
+            if section[SECTION_NUMBER] % 8 != 0 {
+                section[VERSION] = version_byte(identity.versions[0]);
+            }
+        })
     }),
     ("takes CRC_32 from behind section_length", |caller, lent, base_day, identity, output| {
         let built = build(caller, lent, base_day, identity, output);
@@ -96,6 +121,11 @@ pub const ALL: [(&str, BuildCall); 13] = [
         each_event(built, output, |_, _, event| event[2] = (base_day >> 8) as u8)
     }),
 ];
+
+/// Bits 11, the version, current_next 1.
+fn version_byte(version: u8) -> u8 {
+    0b1100_0001 | version << 1
+}
 
 /// Two BCD digits as a number.
 fn hours(digits: u8) -> u8 {

@@ -26,7 +26,7 @@ mod tags;
 
 pub use comparison::{BuildCall, Comparison, Subject};
 pub use request::{Request, BASE_DAY_MAX};
-pub use rewritten::seal;
+pub use rewritten::{each_section, seal};
 pub use sections::{section_length, sections, Section};
 pub use segments::{nearby, with_neighbours};
 

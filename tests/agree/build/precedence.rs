@@ -91,7 +91,8 @@ fn asking(random: &mut Random, broken: &[u32], enough: usize) -> Request {
         request.base_day = random.pick(&[65_473, 65_536, u32::MAX]);
     }
     if broken.contains(&2) {
-        request.identity.version = random.pick(&[32, 33, 64, 255]);
+        // Of any table, whether the file has it or not.
+        request.identity.versions[random.below(16)] = random.pick(&[32, 33, 64, 255]);
     }
     request
 }

@@ -1,15 +1,27 @@
-//! Base days, versions and lists that are refused, and those at the limits that are not.
+//! Base days, versions (02, W-208) and lists that are refused, and those at the limits that are not.
 
 use super::comparison::Comparison;
 use super::request::{Request, BASE_DAY_MAX, VERSION_MAX};
 use super::segments::nearby;
 use crate::at_limits::at_limits;
-use crate::lineup::Lineup;
-use crate::lists::{rising, List};
+use crate::lineup::{Lineup, SEGMENT_SECONDS};
+use crate::lists::{rising, List, START};
 use crate::other::Caller;
 use crate::pools::Pools;
 use crate::random::Random;
+use crate::tally::{each_kind, Kind};
 use crate::unsound::unsound;
+
+const TABLE_SECONDS: u32 = 32 * SEGMENT_SECONDS;
+
+const ABOVE: &str = "a version above 31";
+const LEGAL: &str = "a legal version";
+const PRESENT: &str = "of a table that the file has";
+const ABSENT: &str = "of a table that the file has not";
+
+pub fn version_kinds() -> Vec<Kind> {
+    [ABOVE, LEGAL].map(|limit| each_kind(limit, [PRESENT, ABSENT])).concat()
+}
 
 pub fn run(comparison: &mut Comparison) -> Result<(), String> {
     let random = &mut comparison.groups.begin("refusals");
@@ -58,13 +70,19 @@ fn base_days(comparison: &mut Comparison, random: &mut Random, pools: &Pools, li
     Ok(())
 }
 
+/// Every version in some table, and those at the limit in every table, whether the file has it or not.
 fn versions(comparison: &mut Comparison, random: &mut Random, pools: &Pools, list: &List) -> Result<(), String> {
     let need = comparison.need(pools, list);
-    for version in 0..=u8::MAX {
+    let last_table = (list.get(list.count - 1, START) / TABLE_SECONDS) as usize;
+    let every_version = (0..=u8::MAX).map(|version| (random.below(16), version)).collect::<Vec<_>>();
+    let every_table = (0..16).flat_map(|table| [VERSION_MAX, 32, 33, 64, 128, 255].map(|version| (table, version)));
+    for (table, version) in every_version.into_iter().chain(every_table) {
         let mut request = Request::legal(random, need);
-        request.identity.version = version;
+        request.identity.versions[table] = version;
         let answer = if version > VERSION_MAX { (2, 0) } else { (0, need) };
         comparison.answers(answer, pools, list, request)?;
+        let limit = if version > VERSION_MAX { ABOVE } else { LEGAL };
+        comparison.tally.kind((limit, if table > last_table { ABSENT } else { PRESENT }));
     }
     Ok(())
 }

@@ -5,11 +5,11 @@ use super::request::Request;
 use super::sections::Cut;
 use crate::lineup::{Lineup, SEGMENT_SECONDS};
 use crate::lists::List;
-use crate::other::{Caller, Identity};
+use crate::other::{Caller, Identity, Triplet};
 use crate::pools::Pools;
 use crate::random::Random;
 
-const IDENTITY: Identity = Identity { service_id: 1, transport_stream_id: 2, original_network_id: 3, version: 0 };
+const TRIPLET: Triplet = Triplet { service_id: 1, transport_stream_id: 2, original_network_id: 3 };
 
 /// Events, by start and chain length, and the cuts of their file or the segment that is unpackable.
 type Sample = (Vec<(u32, usize)>, Result<Vec<Cut>, usize>);
@@ -77,8 +77,8 @@ fn sample(comparison: &mut Comparison, random: &mut Random, (events, wanted): Sa
     }
 }
 
-/// The 18 bytes of no events; and an event of EN 300 468's date in its place, an off-air one with free_CA_mode and the
-/// last day that there is.
+/// The 18 bytes of no events; an event of EN 300 468's date in its place, an off-air one with free_CA_mode and the last
+/// day that there is; and two tables with a version each.
 fn known_bytes(comparison: &mut Comparison, random: &mut Random) -> Result<(), String> {
     let pools = Pools::of_chains(random, 0, 4);
     let chain = pools.series.bytes().to_vec();
@@ -88,15 +88,23 @@ fn known_bytes(comparison: &mut Comparison, random: &mut Random) -> Result<(), S
     let latest = [&[0xFF, 0xFF, 0xFF, 0xFF, 0x23, 0x59, 0x59, 0x99, 0x59, 0x59, 0xB0, 0x04], &chain[..]].concat();
     // An event in the next table alone leaves this one a section, whose last_section_number is 0.
     let table_before = no_events[..13].iter().copied().chain([0x51]).collect();
+    let mut two_versions = vec![0x50, 0xF0, 0x0F, 0x00, 0x01, 0xC3, 0x00, 0x00, 0x00, 0x02, 0x00, 0x03, 0x00, 0x51];
+    two_versions.extend([0x9C, 0xAF, 0x0F, 0x3C]);
+    two_versions.extend([0x51, 0xF0, 0x1B, 0x00, 0x01, 0xC5, 0x00, 0x00, 0x00, 0x02, 0x00, 0x03, 0x00, 0x51]);
+    two_versions.extend([0x00, 0x01, 0xC0, 0x7D, 0x00, 0x00, 0x00, 0x00, 0x00, 0x01, 0x00, 0x00]);
+    two_versions.extend([0xB8, 0x29, 0xF4, 0x92]);
+    let mut versions = [0; 16];
+    versions[..2].copy_from_slice(&[1, 2]);
     let rows = [
-        (vec![], 49_273, 0, no_events),
-        (vec![1, 345_600, 1, 0, 0, 0], 49_273, 0, table_before),
-        (vec![258, 45_900, 6_330, 2, 0, 0], 49_273, 4 * 18 + 14, dated.to_vec()),
-        (vec![65_535, 5_529_599, 359_999, 7, 0, 4], 65_472, 15 * 18 + 31 * 18 + 14, latest),
+        (vec![], 49_273, [0; 16], 0, no_events),
+        (vec![1, 345_600, 1, 0, 0, 0], 49_273, [0; 16], 0, table_before),
+        (vec![258, 45_900, 6_330, 2, 0, 0], 49_273, [0; 16], 4 * 18 + 14, dated.to_vec()),
+        (vec![65_535, 5_529_599, 359_999, 7, 0, 4], 65_472, [0; 16], 15 * 18 + 31 * 18 + 14, latest),
+        (vec![1, 345_600, 1, 0, 0, 0], 49_273, versions, 0, two_versions),
     ];
-    for (numbers, base_day, offset, bytes) in rows {
+    for (numbers, base_day, versions, offset, bytes) in rows {
         let list = List { count: numbers.len() / 6, numbers };
-        let request = Request { base_day, identity: IDENTITY, room: 1_000 };
+        let request = Request { base_day, identity: Identity { triplet: TRIPLET, versions }, room: 1_000 };
         let (_, file) = comparison.alike(&pools, &list, request)?;
         if file[offset..offset + bytes.len()] != bytes {
             let fault = format!("Build left other bytes at {offset} of the output than {bytes:02X?}");

@@ -4,9 +4,9 @@
 use super::comparison::{CheckCall, ReadCall};
 use super::file::File;
 use crate::build::sections;
-use crate::other::{check, crc32_by_table, frame_within, read, refused, Identity, Reading, TABLE_IDS};
+use crate::other::{check, crc32_by_table, frame_within, read, refused, Identity, Reading, Triplet, TABLE_IDS};
 
-pub const READS: [(&str, ReadCall); 18] = [
+pub const READS: [(&str, ReadCall); 22] = [
     ("serves the other caller", |caller, file, base_day, records| read(caller.other(), file, base_day, records)),
     // The note from the buyer.
     ("always says 25", |_, file, _, _| refused(25, file.len())),
@@ -55,7 +55,8 @@ pub const READS: [(&str, ReadCall); 18] = [
     }),
     ("returns an identity with 25", |caller, file, base_day, records| {
         let reading = read(caller, file, base_day, records);
-        let identity = Identity { service_id: 1, ..reading.identity };
+        let triplet = Triplet { service_id: 1, ..reading.identity.triplet };
+        let identity = Identity { triplet, ..reading.identity };
         instead_if(reading.number == 25, Reading { identity, ..reading }, reading)
     }),
     ("returns a count with 27", |caller, file, base_day, records| {
@@ -65,8 +66,29 @@ pub const READS: [(&str, ReadCall); 18] = [
     ("confuses stream and network", |caller, file, base_day, records| {
         let reading = read(caller, file, base_day, records);
         let mut identity = reading.identity;
-        std::mem::swap(&mut identity.transport_stream_id, &mut identity.original_network_id);
+        std::mem::swap(&mut identity.triplet.transport_stream_id, &mut identity.triplet.original_network_id);
         Reading { identity, ..reading }
+    }),
+    ("returns the version of table 0x50 for every table", |caller, file, base_day, records| {
+        with_versions(read(caller, file, base_day, records), |versions| *versions = [versions[0]; 16])
+    }),
+    ("returns the last table's version for absent ones", |caller, file, base_day, records| {
+        let reading = read(caller, file, base_day, records);
+        let last_table = usize::from(file.get(13).map_or(0, |last_table_id| last_table_id.wrapping_sub(0x50)));
+        with_versions(reading, |versions| {
+            let last = versions[last_table];
+            versions[last_table..].fill(last);
+        })
+    }),
+    ("loses a version's highest bit", |caller, file, base_day, records| {
+        with_versions(read(caller, file, base_day, records), |versions| {
+            *versions = versions.map(|version| version & 15)
+        })
+    }),
+    ("returns a version behind 24", |caller, file, base_day, records| {
+        let reading = read(caller, file, base_day, records);
+        let identity = Identity { versions: [1; 16], ..reading.identity };
+        instead_if(reading.number == 24, Reading { identity, ..reading }, reading)
     }),
     // The order of checks that rules do not have, and the base day.
     ("asks for CRC_32 before the table_id", |caller, file, base_day, records| {
@@ -96,7 +118,7 @@ pub const READS: [(&str, ReadCall); 18] = [
     }),
 ];
 
-pub const CHECKS: [(&str, CheckCall); 6] = [
+pub const CHECKS: [(&str, CheckCall); 7] = [
     ("serves the other caller", |caller, file, base_day| check(caller.other(), file, base_day)),
     ("takes base day 65,473", |caller, file, base_day| {
         check(caller, file, if base_day == 65_473 { 65_472 } else { base_day })
@@ -104,6 +126,9 @@ pub const CHECKS: [(&str, CheckCall); 6] = [
     ("returns no identity", |caller, file, base_day| Reading {
         identity: Identity::default(),
         ..check(caller, file, base_day)
+    }),
+    ("returns no versions", |caller, file, base_day| {
+        with_versions(check(caller, file, base_day), |versions| *versions = [0; 16])
     }),
     ("returns no count", |caller, file, base_day| Reading { count: 0, ..check(caller, file, base_day) }),
     ("says 27 for more than half of the caller's events", |caller, file, base_day| {
@@ -128,6 +153,14 @@ fn instead_if(shows: bool, wrong: Reading, right: Reading) -> Reading {
     } else {
         right
     }
+}
+
+/// An accepted reading with other versions.
+fn with_versions(mut reading: Reading, change: impl FnOnce(&mut [u8; 16])) -> Reading {
+    if reading.number == 0 {
+        change(&mut reading.identity.versions);
+    }
+    reading
 }
 
 /// How many events the sections of a file hold that ends early.

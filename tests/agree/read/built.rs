@@ -6,7 +6,7 @@ use crate::at_limits::at_limits;
 use crate::build::{with_neighbours, BASE_DAY_MAX};
 use crate::lineup::Lineup;
 use crate::lists::List;
-use crate::other::{Built, Lent, EVENT_FRONT};
+use crate::other::{Built, Identity, Lent, EVENT_FRONT};
 use crate::pools::Pools;
 use crate::random::Random;
 
@@ -59,15 +59,15 @@ pub fn round_trip(comparison: &mut Comparison, random: &mut Random, mut given: G
     comparison.answers((1, 0), &bytes, BASE_DAY_MAX + 1)?;
     let (reading, records) = comparison.read(&bytes, given.base_day, RECORDS_MAX)?;
     let records = &records[..6 * reading.count];
-    let fault = if built(comparison, &given.lent(), &given, bytes.len()).as_ref() != Some(&bytes) {
+    let fault = if built(comparison, &given.lent(), &given, given.identity, bytes.len()).as_ref() != Some(&bytes) {
         "Build made another file"
-    } else if reading.identity != given.identity {
+    } else if reading.identity != given.identity_in(&file) {
         "Read returned another identity than Build was given"
     } else if !given.is_carried(records, &bytes) {
         "Read returned other events than Build was given"
     } else {
         let again = Lent { list: records, count: reading.count, day: &bytes, series: &[] };
-        if built(comparison, &again, &given, bytes.len()).as_ref() == Some(&bytes) {
+        if built(comparison, &again, &given, reading.identity, bytes.len()).as_ref() == Some(&bytes) {
             return Ok(());
         }
         "Build of what Read returned made another file"
@@ -75,10 +75,16 @@ pub fn round_trip(comparison: &mut Comparison, random: &mut Random, mut given: G
     Err(comparison.describe(fault, &bytes, given.base_day, None))
 }
 
-/// What Build makes of these events, for the caller that they are given for, in an output of this length, if it fills
-/// it.
-pub fn built(comparison: &Comparison, lent: &Lent, given: &Given, length: usize) -> Option<Vec<u8>> {
+/// What Build makes of these events under this identity, for the caller that they are given for, in an output of this
+/// length, if it fills it.
+pub fn built(
+    comparison: &Comparison,
+    lent: &Lent,
+    given: &Given,
+    identity: Identity,
+    length: usize,
+) -> Option<Vec<u8>> {
     let mut output = vec![0; length];
-    let built = (comparison.subject.build)(given.caller, lent, given.base_day, given.identity, &mut output);
+    let built = (comparison.subject.build)(given.caller, lent, given.base_day, identity, &mut output);
     (built == Built { number: 0, value: length }).then_some(output)
 }

@@ -74,13 +74,13 @@ fn built_for_the_other(comparison: &mut Comparison, given: &Given, file: &File) 
     let (reading, records) = comparison.read(&bytes, file.base_day, RECORDS_MAX)?;
     let records = &records[..6 * reading.count];
     let again = Lent { list: records, count: reading.count, day: &bytes, series: &[] };
-    let fault = if built(comparison, &given.lent(), given, bytes.len()).as_ref() != Some(&bytes) {
+    let fault = if built(comparison, &given.lent(), given, given.identity, bytes.len()).as_ref() != Some(&bytes) {
         "Build made another file"
     } else if reading.number != 0 {
         return Ok(());
-    } else if !given.is_carried(records, &bytes) || reading.identity != given.identity {
+    } else if !given.is_carried(records, &bytes) || reading.identity != given.identity_in(file) {
         "Read returned other events, or another identity, than Build was given"
-    } else if built(comparison, &again, given, bytes.len()).as_ref() != Some(&bytes) {
+    } else if built(comparison, &again, given, reading.identity, bytes.len()).as_ref() != Some(&bytes) {
         "Build of what Read returned made another file"
     } else {
         return Ok(());

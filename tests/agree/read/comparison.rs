@@ -2,7 +2,7 @@
 
 use super::file::File;
 use super::order::precedences;
-use super::overlaps::kinds;
+use super::{overlaps, versions};
 use crate::build::BuildCall;
 use crate::groups::Groups;
 use crate::guarded::Guarded;
@@ -43,7 +43,7 @@ impl Comparison<'_> {
         Comparison {
             caller,
             subject,
-            tally: Tally::new(&ANSWERS, precedences(), kinds()),
+            tally: Tally::new(&ANSWERS, precedences(), [overlaps::kinds(), versions::kinds()].concat()),
             groups: Groups::new(caller, FIRST_SEED),
             guards: Random::new(FIRST_SEED),
         }

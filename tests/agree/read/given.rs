@@ -1,6 +1,6 @@
 //! What a file is made of: the caller it is for, events, base day and identity.
 
-use super::file::File;
+use super::file::{File, TABLE_ID};
 use crate::build::{nearby, Request};
 use crate::lineup::Lineup;
 use crate::lists::{rising, List, DURATION, ID, LENGTH, MARKS, NUMBERS, OFFSET, START};
@@ -78,6 +78,14 @@ impl Given {
         let mut output = vec![0; need];
         build(&mut output);
         Some(File::of(&output, self.base_day))
+    }
+
+    /// The identity that the file has: versions of absent tables are 0.
+    pub fn identity_in(&self, file: &File) -> Identity {
+        let last_table = usize::from(file.sections[file.last()][TABLE_ID] - 0x50);
+        let mut versions = [0; 16];
+        versions[..=last_table].copy_from_slice(&self.identity.versions[..=last_table]);
+        Identity { versions, ..self.identity }
     }
 
     /// Whether the records, with the file as their pool, are the same events: id, start, duration, marks other than 2,

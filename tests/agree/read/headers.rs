@@ -1,4 +1,4 @@
-//! Fixed bits, identities and last_table_ids that are wrong or change: 22.
+//! Fixed bits and last_table_ids that are wrong, and services, streams, networks and last_table_ids that change: 22.
 
 use super::comparison::Comparison;
 use super::file::{File, LAST_TABLE_ID, ORIGINAL_NETWORK_ID, SECTION_LENGTH, SERVICE_ID, TRANSPORT_STREAM_ID, VERSION};
@@ -23,7 +23,7 @@ pub fn run(comparison: &mut Comparison) -> Result<(), String> {
         let file = rival(random, &given);
         for place in 0..file.sections.len().min(6) {
             fixed_bits(comparison, &file, place)?;
-            identity_bits(comparison, &file, place)?;
+            triplet_bits(comparison, &file, place)?;
             last_table_ids(comparison, &file, place)?;
         }
         all_alike(comparison, &file)?;
@@ -41,9 +41,9 @@ fn fixed_bits(comparison: &mut Comparison, file: &File, place: usize) -> Result<
     Ok(())
 }
 
-/// Each bit of the identity in one section: the first one decides what the others have.
-fn identity_bits(comparison: &mut Comparison, file: &File, place: usize) -> Result<(), String> {
-    for (byte, bit) in identity() {
+/// Each bit of service, stream and network in one section: the first one decides what the others have.
+fn triplet_bits(comparison: &mut Comparison, file: &File, place: usize) -> Result<(), String> {
+    for (byte, bit) in triplet() {
         let changed = file.with(place, |section| section[byte] ^= bit);
         match place {
             0 if file.last() == 0 => comparison.accepted(&changed)?,
@@ -59,11 +59,10 @@ fn identity_bits(comparison: &mut Comparison, file: &File, place: usize) -> Resu
     Ok(())
 }
 
-/// Each bit of the identity: its byte, and its value there.
-fn identity() -> Vec<(usize, u8)> {
+/// Each bit of service, stream and network: its byte, and its value there.
+fn triplet() -> Vec<(usize, u8)> {
     let ids = [SERVICE_ID, TRANSPORT_STREAM_ID, ORIGINAL_NETWORK_ID];
-    let id_bits = ids.into_iter().flat_map(|id| (0..16).map(move |bit| (id + bit / 8, 1 << (bit % 8))));
-    id_bits.chain((1..6).map(|bit| (VERSION, 1 << bit))).collect()
+    ids.into_iter().flat_map(|id| (0..16).map(move |bit| (id + bit / 8, 1 << (bit % 8)))).collect()
 }
 
 /// Every other last_table_id in one section, and in all of them.

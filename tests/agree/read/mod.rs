@@ -31,9 +31,16 @@ mod rivals;
 mod rule_faults;
 mod scene;
 mod tags;
+mod version_faults;
+mod version_order;
+mod versions;
 mod victim;
 
 pub use comparison::{Comparison, Subject};
+pub use file::{close, File, CRC, TABLE_ID, VERSION};
+pub use given::Given;
+pub use layout::{rival, Layout};
+pub use scene::Scene;
 
 use crate::faults::shows;
 use crate::other::{self, check, check_by, read, read_by, Asked, Caller, READ_PAPERS};
@@ -46,6 +53,8 @@ pub fn all_groups(comparison: &mut Comparison) -> Result<(), String> {
     overlap_order::run(comparison)?;
     event_starts::run(comparison)?;
     headers::run(comparison)?;
+    versions::run(comparison)?;
+    version_order::run(comparison)?;
     frames::run(comparison)?;
     event_loops::run(comparison)?;
     event_order::run(comparison)?;

@@ -36,7 +36,7 @@ fn any_section(random: &mut Random) -> Vec<u8> {
     let mut section: Vec<_> = (0..FRONT + length + CRC).map(|_| random.below(10) as u8).collect();
     section[TABLE_ID] = random.pick(&[0x50, 0x50, 0x50, 0x51, 0x4F]);
     section[SECTION_LENGTH] = 0xF0;
-    section[VERSION] = random.pick(&[0xC1, 0xC1, 0xC1, 0xC0, 0x41]);
+    section[VERSION] = random.pick(&[0xC1, 0xC1, 0xC1, 0xC3, 0xC0, 0x41]);
     // Numbers of sections that often fit each other.
     for field in FRONT - 8..FRONT {
         section[field] = random.pick(&[0, 0, 0, 0, 1, 8]);

@@ -1,7 +1,7 @@
 //! Sections that are not the next one, and section numbers that do not fit each other: 23.
 
 use super::comparison::Comparison;
-use super::file::{File, LAST_SECTION_NUMBER, SECTION_NUMBER, SEGMENT_LAST_SECTION_NUMBER, TABLE_ID};
+use super::file::{File, LAST_SECTION_NUMBER, SECTION_NUMBER, SEGMENT_LAST_SECTION_NUMBER, TABLE_ID, VERSION};
 use super::given::Given;
 use super::layout::{rival, Layout};
 
@@ -43,12 +43,15 @@ fn in_place(comparison: &mut Comparison, file: &File, place: usize) -> Result<()
     out_of_place(comparison, file, place)
 }
 
-/// Every other table_id and section number: the place of a section is never free. Every other G and L, which some
-/// segments and tables leave free until a later section, or the end, disagrees.
+/// Every other table_id and section number: the place of a section is never free. An earlier table's id is 22 if the
+/// table has another version. Every other G and L, which some segments and tables leave free until a later section, or
+/// the end, disagrees.
 fn numbers(comparison: &mut Comparison, file: &File, place: usize) -> Result<(), String> {
     let own = &file.sections[place];
     for table_id in (0x50..=0x5F).filter(|table_id| *table_id != own[TABLE_ID]) {
-        comparison.refused(23, place, &file.with(place, |section| section[TABLE_ID] = table_id))?;
+        let is_other = |earlier: &Vec<u8>| earlier[TABLE_ID] == table_id && earlier[VERSION] != own[VERSION];
+        let number = if file.sections[..place].iter().any(is_other) { 22 } else { 23 };
+        comparison.refused(number, place, &file.with(place, |section| section[TABLE_ID] = table_id))?;
     }
     for number in (0..=0xFF).filter(|number| *number != own[SECTION_NUMBER]) {
         comparison.refused(23, place, &file.with(place, |section| section[SECTION_NUMBER] = number))?;

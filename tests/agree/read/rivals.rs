@@ -59,13 +59,13 @@ fn carried(comparison: &mut Comparison, random: &mut Random, given: &Given) -> R
     comparison.accepted(&file)?;
     let (reading, records) = comparison.read(&bytes, given.base_day, RECORDS_MAX)?;
     let records = &records[..6 * reading.count];
-    let fault = if !given.is_carried(records, &bytes) || reading.identity != given.identity {
+    let fault = if !given.is_carried(records, &bytes) || reading.identity != given.identity_in(&file) {
         "Read returned other events, or another identity, than the file's".to_string()
     } else {
         let lent = Lent { list: records, count: reading.count, day: &bytes, series: &[] };
         let mut output = vec![0; bytes.len()];
         // Build's file is never the longer one.
-        let built = (comparison.subject.build)(given.caller, &lent, given.base_day, given.identity, &mut output);
+        let built = (comparison.subject.build)(given.caller, &lent, given.base_day, reading.identity, &mut output);
         match built {
             Built { number: 0, value } => match better(&held(&bytes)?, &held(&output[..value])?) {
                 None => return Ok(()),

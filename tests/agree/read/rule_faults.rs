@@ -1,6 +1,6 @@
 //! Faults of what Read asks of a section: the other implementation with other rules stands in for the library.
 
-use super::overlap_faults;
+use super::{overlap_faults, version_faults};
 use crate::other::{frame, frame_within, Before, Caller, Frame, IsChain, Received, Rule, Sizes, RULES, TABLE_IDS};
 use crate::wrong_chains;
 use std::collections::HashSet;
@@ -114,11 +114,13 @@ pub fn rules() -> Vec<(String, Vec<Rule>)> {
     let pairs = (0..ORDER.len()).flat_map(|k| ORDER[k + 1..].iter().map(move |second| (ORDER[k], *second)));
     let out_of_order =
         pairs.map(|(first, second)| (format!("asks for {second} before {first}"), earlier(first, second)));
-    let replaced = REPLACED.into_iter().chain(overlap_faults::REPLACED).map(|(fault, says, holds)| {
+    let all_replaced = REPLACED.into_iter().chain(overlap_faults::REPLACED).chain(version_faults::REPLACED);
+    let replaced = all_replaced.map(|(fault, says, holds)| {
         let replace = |rule: Rule| if rule.says == says { Rule { holds, ..rule } } else { rule };
         (fault.to_string(), RULES.map(replace).to_vec())
     });
-    left_out.into_iter().chain(out_of_order).chain(replaced).collect()
+    let moved = version_faults::moved().map(|(fault, rules)| (fault.to_string(), rules));
+    left_out.into_iter().chain(out_of_order).chain(replaced).chain(moved).collect()
 }
 
 /// The rules with those of the second number in front of those of the first.

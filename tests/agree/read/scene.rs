@@ -13,8 +13,9 @@ use crate::other::Caller;
 use crate::random::Random;
 use crate::stock::FORBIDDEN_TAG;
 
-/// The events of a section that is broken.
+/// The events of a section that is broken, and the table of both.
 const VICTIM: usize = 6;
+const TABLE_OF_BOTH: u8 = 0x50;
 
 /// A file with two sections to be broken, and sections behind them. The first event that is too many is in the first of
 /// them, in the second, or missing.
@@ -62,6 +63,18 @@ impl Scene {
         Scene { file, ..self }
     }
 
+    /// Gives one of the two sections another version than its table has.
+    pub fn with_version(self, random: &mut Random, victim: usize) -> Scene {
+        let bit = random.bit(1, 5) as u8;
+        let file = self.file.with(self.victims[victim], |section| section[VERSION] ^= bit);
+        Scene { file, ..self }
+    }
+
+    /// Whether one of the two sections is in its table still, of which there are sections before it.
+    pub fn is_in_its_table(&self, victim: usize) -> bool {
+        self.file.sections[self.victims[victim]][TABLE_ID] == TABLE_OF_BOTH
+    }
+
     /// Makes the event before some event of one of the two sections go on for so many seconds after that one begins.
     pub fn with_overlap(self, random: &mut Random, victim: usize, seconds: u32) -> Scene {
         let events = self.file.all_events();
@@ -85,12 +98,14 @@ fn break_rule(random: &mut Random, section: &mut Vec<u8>, number: u32) {
     match number {
         20 => section[TABLE_ID] = random.pick(&[0x00, 0x4E, 0x4F, 0x60, 0x61, 0xFF]),
         22 => {
+            // A table that 23 puts in the place of theirs has no sections before, and so no version.
+            let version = if section[TABLE_ID] == TABLE_OF_BOTH { 0x02 } else { 0x03 };
             let (byte, bits) = random.pick(&[
                 (SECTION_LENGTH, 0x80),
                 (SECTION_LENGTH, 0x10),
                 (VERSION, 0x01),
                 (VERSION, 0x40),
-                (VERSION, 0x02),
+                (VERSION, version),
                 (SERVICE_ID, 0x10),
                 (TRANSPORT_STREAM_ID, 0x01),
                 (LAST_TABLE_ID, 0x02),
