@@ -9,7 +9,7 @@ use native.Mathlib.Nat.{add-assoc, zero-add, zero-mul}
 use lib.Arith.{digits-lt, digits-div, digits-mod, mod-mul}
 use lib.Pow.{pow-add}
 use lib.ListN.{length, take, drop, getD, length-append, length-drop}
-use lib.Seq.{length-take-le}
+use lib.Seq.{length-take-le, take-append-le, drop-append-le}
 use Rattle.eit.specs.Fields.{Bytes, bigEndian, valueOf, bytesAt, field}
 
 -- ---- lists of bytes
@@ -107,6 +107,14 @@ value-append (x ∷ xs) ys = rw (value-append xs ys, length-append xs ys, pow-ad
 
 pub field-length : (bs : List ℕ) (at width : ℕ) → at + width ≤ length bs → length (bytesAt at width bs) ≡ width
 field-length bs at width room = length-take-le width (drop at bs) (simp length-drop (omega arith))
+
+-- other bytes behind those of a field change nothing
+pub field-append : (bs rest : List ℕ) (at width : ℕ) → at + width ≤ length bs
+    → field at width (bs ++ rest) ≡ field at width bs
+field-append bs rest at width room =
+    ap valueOf
+    (ap (take width) (drop-append-le at bs rest (omega arith))
+    ∙ take-append-le width (drop at bs) rest (simp length-drop (omega arith)))
 
 module _ (bs : List ℕ) (bytes : Bytes bs) where
   pub field-bytes : (at width : ℕ) → Bytes (bytesAt at width bs)

@@ -98,3 +98,21 @@ module _ {A : Type 0} where
       let front : take at (overwrite d at xs) ≡ take at d = over-before d at xs at (omega arith) inside in
       let rest : drop end (overwrite d at xs) ≡ drop end d = over-after d at xs end inside (omega arith) in
       rw (front, rest)
+
+  -- one over the front of the other
+  pub over-part : (d : List A) (at : ℕ) (xs ys zs : List A) → length xs ≡ length ys → at ≤ length d
+      → overwrite (overwrite d at (xs ++ zs)) at ys ≡ overwrite d at (ys ++ zs)
+  over-part d at xs ys zs same inside =
+      let whole : List A = xs ++ zs in
+      let end : ℕ = at + length whole in
+      let front : take at (overwrite d at whole) ≡ take at d = over-before d at whole at (omega arith) inside in
+      let parts : overwrite d at whole ≡ (take at d ++ xs) ++ (zs ++ drop end d) =
+      ap (λ (l : List A). l ++ drop end d) (sym (append-assoc (take at d) xs zs))
+      ∙ append-assoc (take at d ++ xs) zs (drop end d) in
+      let rest : drop (at + length ys) (overwrite d at whole) ≡ zs ++ drop end d =
+      ap (drop (at + length ys)) parts
+      ∙ drop-at (take at d ++ xs) (zs ++ drop end d) (at + length ys) (front-length d at xs inside ∙ omega arith) in
+      let size : end ≡ at + length (ys ++ zs) = simp length-append (omega arith) in
+      rw (front, rest, ← size)
+      (sym (append-assoc (take at d ++ ys) zs (drop end d))
+      ∙ ap (λ (l : List A). l ++ drop end d) (append-assoc (take at d) ys zs))

@@ -20,6 +20,12 @@ pub mod Edit
 pub mod NoOverlap
 -- an equal start is an overlap: what document 02 claims
 pub mod EqualStart
+-- joined scripts: their form, what UNDO strikes, their run
+pub mod Joined
+-- two withdrawals in either order
+pub mod Withdrawals
+-- what document 02 claims of joined scripts
+pub mod JoinedScripts
 -- PUT and WITHDRAW as one write from the record's place on, MOVE as both
 pub mod Writes
 -- the other numbers that an edit does not touch

@@ -1,5 +1,5 @@
 -- Edit as one total function of list, pools and script (01, "Edit", "When a call says no"). Laws: proofs/EditBy.antt
--- and Edit.antt. Assumes nothing.
+-- and Edit.antt; claims: JoinedScripts.antt. Assumes nothing.
 use Prim.Native.Nat.{ℕ}
 use mathlib.Core.Bool.{true, false}
 use mathlib.Core.Path.{_≡_}
