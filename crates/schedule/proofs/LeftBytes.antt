@@ -6,8 +6,9 @@ use Prim.Native.Nat.{ℕ, _+_, _-_, _%_, _≤_}
 use native.Mathlib.Omega.{arith}
 use lib.ListN.{length, take, drop, length-append, length-drop, take-append-drop}
 use lib.Seq.{take-at, drop-at, length-take-le, take-append-le, drop-append-le, drop-drop}
-use Rattle.eit.specs.Fields.{bigEndian, bytesAt, valueOf}
+use Rattle.eit.specs.Fields.{bigEndian, bytesAt}
 use Rattle.eit.specs.Crc.{crc32}
+use Rattle.eit.proofs.Fields.{field-append}
 use Rattle.sections.specs.Section.{Section, sectionSize}
 use Rattle.sections.specs.Encode.{versionByte, headerBytes, coveredBytes, sectionBytes}
 use Rattle.sections.specs.Decode.{statedSectionSize}
@@ -41,10 +42,7 @@ restored c enough =
 
 -- section_length is among the first three bytes
 pub stated-front : (p q : List ℕ) → 3 ≤ length p → statedSectionSize (p ++ q) ≡ statedSectionSize p
-stated-front p q enough =
-    ap (λ (xs : List ℕ). 3 + valueOf xs % 0x1000)
-    (ap (take 2) (drop-append-le 1 p q (omega arith))
-    ∙ take-append-le 2 (drop 1 p) q (simp length-drop (omega arith)))
+stated-front p q enough = ap (λ (n : ℕ). 3 + n % 0x1000) (field-append p q 1 2 (omega arith))
 
 -- ---- one section
 

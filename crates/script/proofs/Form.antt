@@ -243,7 +243,7 @@ Below n (broken at) = at < n
 
 below-before : (n : ℕ) (c : Command) (form : Form) → offsetOf c < n → Below n form → Below n (before c form)
 below-before n c (commands cs) h below = λ d m. ⊎-elim (λ e. rw e h) (below d) (List·Memᴰ·cases-cons m)
-below-before n c (broken at) h below = below
+below-before n c (broken at) h below = omega (arith, below)
 
 form-below : (skip at : ℕ) (bs : List ℕ) → Below (at + length bs) (formFrom skip at bs)
 form-below zero at [] = λ c m. absurd (List·Memᴰ·not-nil m)

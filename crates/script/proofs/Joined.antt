@@ -9,7 +9,6 @@ use mathlib.Core.List.{List, [], _∷_, _++_, map}
 use lib.Dec.{T, leb, le→leb}
 use lib.ListN.{length, length-append}
 use Rattle.eit.specs.declared.Sizes.{Sizes}
-use Rattle.eit.specs.Fields.{field}
 use Rattle.eit.specs.Pools.{Pools}
 use Rattle.eit.specs.Records.{EventList}
 use Rattle.eit.specs.declared.Record.{Record}
@@ -41,7 +40,7 @@ laterForm n (broken at) = broken (n + at)
 before-later : (n : ℕ) (c : Command) (form : Form)
     → before (laterCommand n c) (laterForm n form) ≡ laterForm n (before c form)
 before-later n c (commands cs) = refl
-before-later n c (broken at) = refl
+before-later n c (broken at) = ap broken (omega arith)
 
 command-later : (n at : ℕ) (bs : List ℕ) (code : ℕ) → T (isCommand code)
     → commandOf code (n + at) bs ≡ laterCommand n (commandOf code at bs)
@@ -114,9 +113,10 @@ before-commands (c ∷ cs) ds = ap (before c) (before-commands cs ds)
 
 before-broken : (cs : List Command) (at : ℕ) → allBefore cs (broken at) ≡ broken at
 before-broken [] at = refl
-before-broken (c ∷ cs) at = ap (before c) (before-broken cs at)
+before-broken (c ∷ cs) at = ap (before c) (before-broken cs at) ∙ ap broken (omega arith)
 
-append-from : (skip at : ℕ) (bs rest : List ℕ) (cs : List Command) → skip ≤ length bs → formFrom skip at bs ≡ commands cs
+append-from : (skip at : ℕ) (bs rest : List ℕ) (cs : List Command) → skip ≤ length bs
+    → formFrom skip at bs ≡ commands cs
     → formFrom skip at (bs ++ rest) ≡ allBefore cs (formFrom 0 (at + length bs) rest)
 append-from zero at [] rest cs room h =
     let none : [] ≡ cs = cc in

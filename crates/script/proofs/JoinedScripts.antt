@@ -36,8 +36,8 @@ record Runs (script : List ℕ) : Type 0 where
   struck : unstruckIn read ≡ unstruck edits
 
 module _ (sizes : Sizes) (pools : Pools) (list : EventList) (script : List ℕ) where
-  accepted-sound : edit sizes pools list script .number ≡ 0 → T (sound sizes pools list)
-  accepted-sound accepts =
+  sound-if-accepted : edit sizes pools list script .number ≡ 0 → T (sound sizes pools list)
+  sound-if-accepted accepts =
       ⊎-elim (λ t. t)
       (λ t. let never : 12 ≡ 0 = rw (edit-unsound sizes pools list script t) at accepts in absurd (omega arith))
       (test-or (sound sizes pools list))
@@ -65,7 +65,8 @@ module _ (sizes : Sizes) (pools : Pools) (list : EventList) (script : List ℕ) 
         (λ four. absurd (not-4 four))
         (λ runs. runs)
 
-    broken-only : edit sizes pools list script .number ≡ 3 → formOf script ≡ broken (edit sizes pools list script .value)
+    broken-only : edit sizes pools list script .number ≡ 3
+        → formOf script ≡ broken (edit sizes pools list script .value)
     broken-only three =
         by-answer (formOf script ≡ broken (edit sizes pools list script .value))
         (λ at f. rw (edit-broken sizes pools list script t at f) f)
@@ -83,14 +84,14 @@ module _ (sizes : Sizes) (pools : Pools) (list : EventList) (first second : List
   abbrev after : EventList
   after = edit sizes pools list first .list
 
-  t : T (sound sizes pools list)
-  t = accepted-sound sizes pools list first accepts
+  list-sound : T (sound sizes pools list)
+  list-sound = sound-if-accepted sizes pools list first accepts
 
   after-sound : T (sound sizes pools after)
-  after-sound = edit-sound sizes pools list first t
+  after-sound = edit-sound sizes pools list first list-sound
 
   first-runs : Runs first
-  first-runs = runs-unless sizes pools list first t (λ three. omega arith) (λ four. omega arith)
+  first-runs = runs-unless sizes pools list first list-sound (λ three. omega arith) (λ four. omega arith)
 
   -- the joined script and the two in turn
   joined-runs : Runs second
@@ -100,7 +101,7 @@ module _ (sizes : Sizes) (pools : Pools) (list : EventList) (first second : List
       let n : ℕ = length first in
       let laters : List Edit = map (laterEdit n) (s .edits) in
       let first-is : edit sizes pools list first ≡ run sizes pools list (f .edits) =
-      edit-runs sizes pools list first t (f .read) (f .edits) (f .form) (f .struck) in
+      edit-runs sizes pools list first list-sound (f .read) (f .edits) (f .form) (f .struck) in
       let second-is : inTurn sizes pools list first second ≡ run sizes pools after (s .edits) =
       edit-runs sizes pools after second after-sound (s .read) (s .edits) (s .form) (s .struck) in
       let commands-are = form-joined first second (f .read) (f .form) (s .read) (s .form) in
@@ -108,8 +109,8 @@ module _ (sizes : Sizes) (pools : Pools) (list : EventList) (first second : List
       struck-joined (f .read) (map (laterCommand n) (s .read)) (f .edits) laters (f .struck)
       (struck-later n (s .read) (s .edits) (s .struck)) in
       let both-are : edit sizes pools list (first ++ second) ≡ run sizes pools after laters =
-      edit-runs sizes pools list (first ++ second) t (f .read ++ map (laterCommand n) (s .read)) (f .edits ++ laters)
-      commands-are edits-are
+      edit-runs sizes pools list (first ++ second) list-sound (f .read ++ map (laterCommand n) (s .read))
+      (f .edits ++ laters) commands-are edits-are
       ∙ run-append sizes pools list (f .edits) laters (ap (λ (o : Edited). o .number) (sym first-is) ∙ accepts)
       ∙ ap (λ (o : Edited). run sizes pools (o .list) laters) (sym first-is) in
       rw (both-are, second-is) (run-later sizes pools n after (s .edits))
@@ -132,7 +133,7 @@ module _ (sizes : Sizes) (pools : Pools) (list : EventList) (first second : List
   is-broken three =
       let f : Runs first = first-runs in
       let at : ℕ = inTurn sizes pools list first second .value in
-      edit-broken sizes pools list (first ++ second) t (length first + at)
+      edit-broken sizes pools list (first ++ second) list-sound (length first + at)
       (form-joined-broken first second (f .read) (f .form) at (broken-only sizes pools after second after-sound three))
 
 module _ (sizes : Sizes) (pools : Pools) (list : EventList) (a b : ℕ) (t : T (sound sizes pools list))
@@ -180,5 +181,9 @@ joined-scripts-examples =
       first-truncated = (refl, refl);
       second-refused = (refl, refl);
       second-broken = (refl, refl);
+      same-pools = (refl, refl);
+      other-pools = (refl, refl);
       either-order = (refl, refl);
+      absent-id = (refl, refl);
+      same-id = refl;
     }

@@ -3,13 +3,12 @@
 use mathlib.Core.Path.{_≡_, refl, sym, ap, ap₂, _∙_}
 use mathlib.Core.Logic.{⊎-elim}
 use mathlib.Core.Bool.{not}
-use Prim.Native.Nat.{ℕ, suc, _+_, _-_, _^_, _<_}
+use Prim.Native.Nat.{ℕ, _-_, _^_, _<_}
 use native.Mathlib.Omega.{arith}
 use mathlib.Core.List.{List, [], _∷_, _++_, append-assoc}
 use lib.Dec.{T, eqb, eqb→eq}
 use lib.ListN.{length, length-append}
 use Rattle.eit.specs.declared.Sizes.{Sizes}
-use Rattle.eit.specs.Limits.{idMax}
 use Rattle.eit.specs.Overwrite.{overwrite}
 use Rattle.eit.specs.Pools.{Pools}
 use Rattle.eit.specs.Records.{EventList, recordsOf, numbersOfAll}
@@ -20,7 +19,7 @@ use Rattle.eit.proofs.Test.{ne-test, or-left, or-right, test-or}
 use Rattle.eit.proofs.Overwrite.{over-part}
 use Rattle.eit.proofs.Records.{numbers-append, numbers-length}
 use Rattle.eit.proofs.Sound.{sound-list, range-facts}
-use Rattle.script.specs.Form.{Edit, Command, doEdit, withdraw}
+use Rattle.script.specs.Form.{Edit, doEdit, withdraw}
 use Rattle.script.specs.Struck.{unstruckIn}
 use Rattle.script.specs.Machine.{find, without, zeroRecord, written, afterWithdraw}
 use Rattle.script.specs.Edit.{Edited, runBy, edit}
@@ -86,26 +85,25 @@ withdraw-both : (list : EventList) (a b : ℕ) → (a ≡ b → ⊥) → T (isAm
     → afterWithdraw (afterWithdraw list a) b
     ≡ written list (without b (without a (recordsOf list)) ++ (zeroRecord ∷ zeroRecord ∷ [])) (list .count - 1 - 1)
 withdraw-both list a b differ has-a has-b =
-    let rs : List Record = recordsOf list in
-    let others : List Record = without a rs in
+    let others : List Record = without a (recordsOf list) in
     let left : List Record = without b others in
     let zeros : List Record = zeroRecord ∷ [] in
-    let xs : List ℕ = numbersOfAll others in
-    let ys : List ℕ = numbersOfAll (left ++ zeros) in
-    let same : length xs ≡ length ys =
+    let same : length (numbersOfAll others) ≡ length (numbersOfAll (left ++ zeros)) =
     omega (
       arith,
       numbers-length others,
       numbers-length (left ++ zeros),
       length-append left zeros,
-      without-length b others (without-keeps b a (λ e. differ (sym e)) rs has-b),
+      without-length b others (without-keeps b a (λ e. differ (sym e)) (recordsOf list) has-b),
     ) in
-    let buffer : overwrite (overwrite (list .buffer) 0 (numbersOfAll (others ++ zeros))) 0
-    (numbersOfAll (without b (recordsOf (afterWithdraw list a)) ++ zeros))
+    let buffer : afterWithdraw (afterWithdraw list a) b .buffer
     ≡ overwrite (list .buffer) 0 (numbersOfAll (left ++ (zeroRecord ∷ zeroRecord ∷ []))) =
-    ap₂ (λ (ns : List ℕ) (ss : List Record). overwrite (overwrite (list .buffer) 0 ns) 0 (numbersOfAll (without b ss ++ zeros)))
+    ap₂
+    (λ (ns : List ℕ) (rs : List Record).
+    overwrite (overwrite (list .buffer) 0 ns) 0 (numbersOfAll (without b rs ++ zeros)))
     (numbers-append others zeros) (withdraw-records list a has-a)
-    ∙ over-part (list .buffer) 0 xs ys (numbersOfAll zeros) same (omega arith)
+    ∙ over-part (list .buffer) 0 (numbersOfAll others) (numbersOfAll (left ++ zeros)) (numbersOfAll zeros) same
+    (omega arith)
     ∙ ap (overwrite (list .buffer) 0)
     (sym (numbers-append (left ++ zeros) zeros) ∙ ap numbersOfAll (append-assoc left zeros zeros)) in
     λ i. record { buffer = buffer i; count = list .count - 1 - 1 }
@@ -116,7 +114,8 @@ withdraw-swap : (list : EventList) (a b : ℕ) → (a ≡ b → ⊥) → T (isAm
 withdraw-swap list a b differ has-a has-b =
     let zeros : List Record = zeroRecord ∷ zeroRecord ∷ [] in
     withdraw-both list a b differ has-a has-b
-    ∙ ap (λ (rs : List Record). written list (rs ++ zeros) (list .count - 1 - 1)) (without-swap a b differ (recordsOf list))
+    ∙ ap (λ (left : List Record). written list (left ++ zeros) (list .count - 1 - 1))
+    (without-swap a b differ (recordsOf list))
     ∙ sym (withdraw-both list b a (λ e. differ (sym e)) has-b has-a)
 
 -- ---- the calls

@@ -11,7 +11,7 @@ use Rattle.eit.specs.Records.{EventList, numbersOfAll}
 use Rattle.eit.specs.declared.Record.{Record}
 use Rattle.script.specs.Form.{put, withdraw, move, doEdit, undo, commands, formOf}
 use Rattle.script.specs.Encode.{actBytes}
-use Rattle.script.specs.Edit.{edit}
+use Rattle.script.specs.Edit.{Edited, edit}
 
 -- an event of 50 seconds with the part of its pool that begins at 0
 abbrev pub eventRecord : ℕ → ℕ → ℕ → ℕ → Record
@@ -38,8 +38,11 @@ abbrev pub undoByte : List ℕ
 undoByte = 0x04 ∷ []
 
 -- number, value and count of the answer
+abbrev pub answerOf : Edited → ℕ × ℕ × ℕ
+answerOf o = (o .number, o .value, o .list .count)
+
 abbrev pub resultOf : List ℕ → ℕ × ℕ × ℕ
-resultOf script = let o = edit broadcast pools (list 2) script in (o .number, o .value, o .list .count)
+resultOf script = answerOf (edit broadcast pools (list 2) script)
 
 abbrev pub left : List ℕ → List ℕ
 left script = edit broadcast pools (list 2) script .list .buffer

@@ -14,7 +14,7 @@ use Rattle.eit.specs.Sound.{idsOf, sound}
 use Rattle.script.specs.Form.{put, withdraw}
 use Rattle.script.specs.Encode.{actBytes}
 use Rattle.script.specs.Edit.{Edited, refusal, edit}
-use Rattle.script.specs.Examples.{plain, pools, list, undoByte, resultOf, left}
+use Rattle.script.specs.Examples.{plain, eventRecord, pools, list, undoByte, answerOf, resultOf, left}
 
 -- the second script on the outcome of the first, with the same pools
 abbrev pub inTurn : Sizes → Pools → EventList → List ℕ → List ℕ → Edited
@@ -63,11 +63,17 @@ pub record JoinedScripts : Type 0 where
 
 -- number, value and count of the second script's answer, on the list of specs/Examples.antt
 abbrev inTurnResult : List ℕ → List ℕ → ℕ × ℕ × ℕ
-inTurnResult first second =
-    let o = inTurn broadcast pools (list 2) first second in (o .number, o .value, o .list .count)
+inTurnResult first second = answerOf (inTurn broadcast pools (list 2) first second)
 
 abbrev put3 : List ℕ
 put3 = actBytes (put (plain 3 150))
+
+-- the same with a descriptor of the day pool
+abbrev describe3 : List ℕ
+describe3 = actBytes (put (eventRecord 3 150 0 3))
+
+abbrev noPools : Pools
+noPools = record { day = []; series = [] }
 
 -- computed: what is not claimed, and why the claims ask what they ask
 pub record JoinedScriptsExamples : Type 0 where
@@ -75,17 +81,26 @@ pub record JoinedScriptsExamples : Type 0 where
   -- UNDO has nothing to strike, and the PUT stands
   pub undo-joined : (resultOf (put3 ++ undoByte) ≡ (0, 2, 2)) × (left (put3 ++ undoByte) ≡ list 2 .buffer)
   pub undo-in-turn : (resultOf put3 ≡ (0, 3, 3)) × (inTurnResult put3 undoByte ≡ (4, 0, 3))
-  -- the first script must be accepted: its refused edit refuses the joined script, too, unless an UNDO of the second
-  -- strikes it; and its last command may take the second script for its operands
+  -- the first script must be accepted: an edit that is refused there is in the joined script, too, unless an UNDO of
+  -- the second strikes it; and a truncated command takes the second script's bytes as operands
   pub first-refused : (inTurnResult (withdrawal 9) (withdrawal 1) ≡ (0, 1, 1))
       × (resultOf (withdrawal 9 ++ withdrawal 1) ≡ (6, 0, 2))
   pub first-struck : (resultOf (withdrawal 9) ≡ (6, 0, 2)) × (resultOf (withdrawal 9 ++ undoByte) ≡ (0, 2, 2))
   pub first-truncated : (resultOf (0x02 ∷ 0 ∷ []) ≡ (3, 0, 2)) × (resultOf ((0x02 ∷ 0 ∷ []) ++ (0x02 ∷ [])) ≡ (0, 1, 1))
-  -- a refused edit of the second, and a second without a form
+  -- an edit of the second that is refused, and a second without a form
   pub second-refused : (inTurnResult put3 (withdrawal 9) ≡ (6, 0, 3)) × (resultOf (put3 ++ withdrawal 9) ≡ (6, 18, 3))
   pub second-broken : (inTurnResult put3 (0x05 ∷ []) ≡ (3, 0, 3)) × (resultOf (put3 ++ (0x05 ∷ [])) ≡ (3, 18, 2))
+  -- the pools must be the same: an event with a descriptor, in turn and joined; put behind a withdrawal that other
+  -- pools were lent with, and joined with those
+  pub same-pools : (inTurnResult (withdrawal 1) describe3 ≡ (0, 2, 2)) × (inTurnResult describe3 (withdrawal 1) ≡ (0, 2, 2))
+  pub other-pools : (answerOf (edit broadcast noPools (list 2) (withdrawal 1)) ≡ (0, 1, 1))
+      × (answerOf (edit broadcast noPools (list 2) (withdrawal 1 ++ describe3)) ≡ (9, 3, 1))
   -- two withdrawals in either order: event 3 is left, and behind it two records of zeros
   pub either-order :
       (left (put3 ++ withdrawal 1 ++ withdrawal 2) ≡ numbersOfAll (plain 3 150 ∷ []) ++ replicate 12 0 ++ (7 ∷ 7 ∷ []))
       × (left (put3 ++ withdrawal 2 ++ withdrawal 1)
       ≡ numbersOfAll (plain 3 150 ∷ []) ++ replicate 12 0 ++ (7 ∷ 7 ∷ []))
+  -- the ids must be present, and different
+  pub absent-id : (resultOf (withdrawal 1 ++ withdrawal 9) ≡ (6, 3, 1))
+      × (resultOf (withdrawal 9 ++ withdrawal 1) ≡ (6, 0, 2))
+  pub same-id : resultOf (withdrawal 1 ++ withdrawal 1) ≡ (6, 3, 1)
