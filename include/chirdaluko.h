@@ -209,6 +209,10 @@ typedef struct EitEdited {
  * others are carried out in order. An event that is put or moved may touch another, and not overlap one; a moved event
  * keeps its duration, and its own old time counts as free.
  *
+ * Scripts that are accepted one after the other, for one caller and with the same pools, each on the list that the one
+ * before it left, are accepted as one script, joined in that order, and leave the same list. A script that is accepted
+ * need not be so in parts.
+ *
  * Refusals: EIT_REFUSED_UNSOUND; EIT_REFUSED_BROKEN_SCRIPT over the whole script; EIT_REFUSED_NOTHING_TO_UNDO over the
  * whole script; then edit by edit EIT_REFUSED_OUT_OF_RANGE, EIT_REFUSED_NO_CHAIN, EIT_REFUSED_WRONG_ID,
  * EIT_REFUSED_OVERLAP, EIT_REFUSED_LIST_FULL.

@@ -1,4 +1,4 @@
-//! The worked examples, five lists and three tables of docs/MANUAL.md, made through the Rust wrapper and printed as the
+//! The worked examples, six lists and three tables of docs/MANUAL.md, made through the Rust wrapper and printed as the
 //! manual has them: each block under the line that names it, lists and tables under their headings once calls have
 //! shown them. tests/manual compares them.
 
@@ -16,6 +16,8 @@ mod forbidden_tag;
 #[allow(dead_code)]
 #[path = "../refusals/inputs.rs"]
 mod inputs;
+mod joined;
+mod joined_rules;
 mod layout;
 mod lines;
 mod overlap;
@@ -82,8 +84,12 @@ fn main() {
     let [ends, ends_for_cable] = CALLERS.map(overlap::lines);
     assert_eq!(ends, ends_for_cable);
     block("What the calls say, by the film's end:", &ends);
+    let [joined, joined_for_cable] = CALLERS.map(joined::lines);
+    assert_eq!(joined, joined_for_cable);
+    block("What Edit says of two scripts, in turn and joined:", &joined);
     block("Versions, file by file:", &versions::rows());
     block("Section 0 of table 0x50, before and after event 5 is put:", &versions::first_sections());
+    joined_rules::print();
     callers::print();
     caller_changes::print();
     overlap_changes::print();

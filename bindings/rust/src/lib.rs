@@ -472,6 +472,10 @@ impl Planned {
 /// Carries an edit script out on a list of `count` records, in place, and returns the new count. The list can come to
 /// hold as many records as its buffer has six numbers, at most [`Caller::events_max`]. Numbers that no edit changes
 /// stay.
+///
+/// Scripts that are accepted one after the other, for one caller and with the same pools, each on the list that the one
+/// before it left, are accepted as one script, joined in that order, and leave the same list. A script that is accepted
+/// need not be so in parts.
 pub fn edit(caller: Caller, list: &mut [u32], count: usize, pools: Pools, script: &[u8]) -> Result<usize, EditRefusal> {
     let Pools { day, series } = pools;
     // Each pointer comes with the length of its own slice, and is not null even if the slice is empty. The one slice
