@@ -43,6 +43,12 @@ impl Held {
         }
     }
 
+    /// So many commands with likely values, UNDO among them, carried out or refused.
+    pub fn likely(&self, random: &mut Random, pools: &Pools, commands: usize) -> Vec<Command> {
+        let command = |_| if random.one_in(4) { Command::Undo } else { self.any_edit(random, pools) };
+        (0..commands).map(command).collect()
+    }
+
     /// Edits of any kind that UNDO strikes, nested at random.
     pub fn struck(&self, random: &mut Random, pools: &Pools) -> Vec<Command> {
         let mut commands = Vec::new();
@@ -68,6 +74,19 @@ impl Held {
             if random.one_in(3) {
                 commands.extend(self.struck(random, pools));
             }
+        }
+        commands
+    }
+
+    /// Edits that are carried out, after which the list has two events or more and is full or not. The limit is 3 or
+    /// more.
+    pub fn ready(&mut self, random: &mut Random, pools: &Pools, full: bool) -> Vec<Command> {
+        let mut commands = Vec::new();
+        while self.count() < 2 || full && !self.is_full() {
+            commands.push(self.put(random, pools));
+        }
+        if !full && self.is_full() {
+            commands.push(self.withdraw(random));
         }
         commands
     }

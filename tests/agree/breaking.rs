@@ -1,4 +1,5 @@
-//! Makers of edits that break chosen rules at once. A rule is named by the number of its refusal.
+//! Makers of edits that break chosen rules at once, and of what is no command. A rule is named by the number of its
+//! refusal.
 
 use crate::held::Held;
 use crate::lists::{high_bit, record, DURATION, DURATION_MAX, ID, MARKS, NUMBERS, OFFSET, START, START_END};
@@ -6,6 +7,16 @@ use crate::pools::Pools;
 use crate::random::Random;
 use crate::scripts::Command;
 use crate::times::Times;
+
+/// An edit that breaks this one of 5, 9, 6, 30 and 8, and no other; 8 if the list is full. The list has two events or
+/// more.
+pub fn edit(random: &mut Random, pools: &Pools, held: &Held, number: u32) -> Command {
+    match (number, random.below(3)) {
+        (5 | 6 | 30, 0) => move_one(random, held, &[number]),
+        (6, 1) => withdraw(random, held),
+        _ => put(random, pools, held, &[number]),
+    }
+}
 
 /// PUT that breaks these of 5, 9, 6 and 30, and no other, but that 5 may bring 30 with it; 30 often by an equal start.
 /// Whether it breaks 8 lies with the list.
@@ -79,4 +90,9 @@ pub fn move_one(random: &mut Random, held: &Held, broken: &[u32]) -> Command {
 /// WITHDRAW that breaks 6.
 pub fn withdraw(random: &mut Random, held: &Held) -> Command {
     Command::Withdraw(held.new_id(random))
+}
+
+/// Bytes at which a script breaks 3: an unknown command, or one whose operands are cut.
+pub fn form(random: &mut Random) -> &'static [u8] {
+    random.pick(&[&[0x00], &[0x05], &[0x01, 0x00], &[0x02]])
 }

@@ -2,6 +2,7 @@
 
 use crate::edits::{Edit, ORDER};
 use crate::other::{edit, Answer};
+use crate::walk::{first, first_undo, next};
 
 pub const ALL: [(&str, Edit); 13] = [
     ("carries out just the first command", |caller, list, count, day, series, script| {
@@ -117,31 +118,6 @@ fn has_offset(number: u32) -> bool {
     [3, 4].contains(&number) || is_of_edit(number)
 }
 
-fn is_of_edit(number: u32) -> bool {
+pub fn is_of_edit(number: u32) -> bool {
     ORDER.contains(&number)
-}
-
-/// The offset behind the command at this offset.
-fn next(script: &[u8], offset: usize) -> usize {
-    let width = match script.get(offset) {
-        Some(0x01) => 18,
-        Some(0x02) => 3,
-        Some(0x03) => 7,
-        _ => 1,
-    };
-    offset + width
-}
-
-/// The offset of the first command of which this holds, by its offset and its byte, or the script's length.
-fn first(script: &[u8], mut holds: impl FnMut(usize, u8) -> bool) -> usize {
-    let mut offset = 0;
-    while offset < script.len() && !holds(offset, script[offset]) {
-        offset = next(script, offset);
-    }
-    offset.min(script.len())
-}
-
-/// The offset of the first UNDO, or the script's length.
-fn first_undo(script: &[u8]) -> usize {
-    first(script, |_, command| command == 0x04)
 }

@@ -2,8 +2,10 @@
 
 use crate::groups::Groups;
 use crate::guarded::Guarded;
+use crate::joined;
 use crate::lists::List;
 use crate::other::{self, Answer, Caller};
+use crate::outcome::Outcome;
 use crate::overlaps;
 use crate::pools::Pools;
 use crate::random::Random;
@@ -41,6 +43,8 @@ type Subject<'a> = &'a dyn Fn(Caller, &mut [u32], usize, &[u8], &[u8], &[u8]) ->
 pub struct Comparison<'a> {
     pub caller: Caller,
     subject: Subject<'a>,
+    /// What the subject is compared with.
+    against: Subject<'a>,
     pub tally: Tally,
     pub groups: Groups,
     guards: Random,
@@ -48,39 +52,43 @@ pub struct Comparison<'a> {
 
 impl Comparison<'_> {
     pub fn new(caller: Caller, subject: Subject) -> Comparison {
+        let kinds = [overlaps::kinds(), joined::kinds(caller)].concat();
         Comparison {
             caller,
             subject,
-            tally: Tally::new(&ANSWERS, precedences(), overlaps::kinds()),
+            against: &other::edit,
+            tally: Tally::new(&ANSWERS, precedences(), kinds),
             groups: Groups::new(caller, FIRST_SEED),
             guards: Random::new(FIRST_SEED),
         }
     }
 
-    /// Both implementations answer alike, and leave the whole buffer alike.
-    pub fn alike(&mut self, pools: &Pools, list: &List, script: &[u8]) -> Result<Answer, String> {
-        let (day, series) = (pools.day.bytes(), pools.series.bytes());
-        let guard = self.guards.pick(&GUARDS);
-        let mut wanted_list = Guarded::new(&list.numbers, guard);
-        let wanted = other::edit(self.caller, wanted_list.inside_mut(), list.count, day, series, script);
+    /// The subject compared with itself: what shows is then no difference, but what a group asks of every Edit.
+    pub fn with_itself(caller: Caller, subject: Subject) -> Comparison {
+        Comparison { against: subject, ..Comparison::new(caller, subject) }
+    }
 
-        let mut got_list = Guarded::new(&list.numbers, guard);
+    /// Both implementations answer alike, and leave the whole buffer alike.
+    pub fn alike(&mut self, pools: &Pools, list: &List, script: &[u8]) -> Result<Outcome, String> {
+        let guard = self.guards.pick(&GUARDS);
         let lent_script = Guarded::new(script, 0);
         let script_as_lent = lent_script.clone();
-        let got = (self.subject)(self.caller, got_list.inside_mut(), list.count, day, series, lent_script.inside());
+        let call = |edit: Subject| {
+            let (day, series) = (pools.day.bytes(), pools.series.bytes());
+            let mut lent = Guarded::new(&list.numbers, guard);
+            let answer = edit(self.caller, lent.inside_mut(), list.count, day, series, lent_script.inside());
+            (Outcome::new(answer, lent.inside()), lent)
+        };
+        let (wanted, wanted_lent) = call(self.against);
+        let (got, got_lent) = call(self.subject);
 
         self.tally.cases += 1;
-        self.tally.answer(wanted.number);
-        let fault = if got != wanted {
-            format!("answered {got:?}, and the other implementation {wanted:?}")
-        } else if !ANSWERS.contains(&got.number) {
-            format!("answered {got:?}, as the other implementation did; Edit has no such number")
-        } else if got_list.inside() != wanted_list.inside() {
-            let differ = |place: &usize| got_list.inside()[*place] != wanted_list.inside()[*place];
-            let first = (0..list.numbers.len()).find(differ).unwrap_or_default();
-            let (got, wanted) = (got_list.inside()[first], wanted_list.inside()[first]);
-            format!("left {got} at number {first} of the buffer, and the other implementation {wanted}")
-        } else if got_list != wanted_list {
+        self.tally.answer(wanted.answer.number);
+        let fault = if let Err(difference) = got.same_as("the other implementation", &wanted) {
+            difference
+        } else if !ANSWERS.contains(&got.answer.number) {
+            format!("answered {:?}, as the other implementation did; Edit has no such number", got.answer)
+        } else if got_lent != wanted_lent {
             "wrote beside the buffer".to_string()
         } else if lent_script != script_as_lent {
             "wrote to the script".to_string()
@@ -100,7 +108,7 @@ impl Comparison<'_> {
         list: &List,
         script: &[u8],
     ) -> Result<(), String> {
-        let answer = self.alike(pools, list, script)?;
+        let Outcome { answer, .. } = self.alike(pools, list, script)?;
         if (answer.number, answer.value) == (number, value) {
             return Ok(());
         }
@@ -110,7 +118,8 @@ impl Comparison<'_> {
         Err(self.describe(&fault, pools, list, script))
     }
 
-    fn describe(&self, fault: &str, pools: &Pools, list: &List, script: &[u8]) -> String {
+    /// What shows, and for which input.
+    pub fn describe(&self, fault: &str, pools: &Pools, list: &List, script: &[u8]) -> String {
         let hex: String = script.iter().take(96).map(|byte| format!("{byte:02X}")).collect();
         format!(
             "Edit {fault}\n  {}, case {}\n  {}\n  script of {} bytes, first {hex}",

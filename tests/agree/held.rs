@@ -81,26 +81,45 @@ impl Held {
 
     /// PUT that is carried out, on a list that is not full.
     pub fn put(&mut self, random: &mut Random, pools: &Pools) -> Command {
-        let mut record = record(random, pools);
+        let record = record(random, pools);
         let times = self.free(random);
-        record[ID] = self.new_id(random);
+        let id = self.new_id(random);
+        self.put_as(record, id, times)
+    }
+
+    /// PUT of the record with this id and these times, which are new and free.
+    pub fn put_as(&mut self, mut record: [u32; NUMBERS], id: u32, times: Times) -> Command {
+        record[ID] = id;
         record[START..MARKS].copy_from_slice(&times.numbers());
-        self.insert(record[ID], times);
+        self.insert(id, times);
         Command::Put(record)
     }
 
     /// WITHDRAW that is carried out, on a list that is not empty.
     pub fn withdraw(&mut self, random: &mut Random) -> Command {
-        Command::Withdraw(self.remove(random).0)
+        Command::Withdraw(self.remove(random.below(self.count())).0)
+    }
+
+    /// WITHDRAW of this event.
+    pub fn withdraw_id(&mut self, id: u32) -> Command {
+        self.remove(self.place(id));
+        Command::Withdraw(id)
     }
 
     /// MOVE that is carried out, at times onto the event's own start, on a list that is not empty.
     pub fn move_one(&mut self, random: &mut Random) -> Command {
-        let (id, own) = self.remove(random);
+        let (id, own) = self.remove(random.below(self.count()));
         let beside = self.some_times(random);
         let times = if random.one_in(4) { own } else { self.timetable.free_for(random, own, beside) };
         self.insert(id, times);
         Command::Move(id, times.start)
+    }
+
+    /// MOVE of this event to a start from which on there is room for it.
+    pub fn move_id(&mut self, id: u32, start: u32) -> Command {
+        let (_, own) = self.remove(self.place(id));
+        self.insert(id, Times { start, ..own });
+        Command::Move(id, start)
     }
 
     /// An edit that is carried out. The limit is not 0.
@@ -114,27 +133,18 @@ impl Held {
         }
     }
 
-    /// Edits that are carried out, after which the list has two events or more and is full or not. The limit is 3 or
-    /// more.
-    pub fn ready(&mut self, random: &mut Random, pools: &Pools, full: bool) -> Vec<Command> {
-        let mut commands = Vec::new();
-        while self.count() < 2 || full && !self.is_full() {
-            commands.push(self.put(random, pools));
-        }
-        if !full && self.is_full() {
-            commands.push(self.withdraw(random));
-        }
-        commands
-    }
-
     fn insert(&mut self, id: u32, times: Times) {
         self.events.push((id, times));
         self.ids.insert(id);
         self.timetable.insert(times);
     }
 
-    fn remove(&mut self, random: &mut Random) -> (u32, Times) {
-        let (id, times) = self.events.swap_remove(random.below(self.events.len()));
+    fn place(&self, id: u32) -> usize {
+        self.events.iter().position(|event| event.0 == id).expect("the id is held")
+    }
+
+    fn remove(&mut self, place: usize) -> (u32, Times) {
+        let (id, times) = self.events.swap_remove(place);
         self.ids.remove(&id);
         self.timetable.remove(times);
         (id, times)

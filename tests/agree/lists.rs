@@ -32,9 +32,21 @@ pub struct List {
     pub count: usize,
 }
 
+/// What stands behind a list in its buffer: zeros, numbers of any kind, or a record of zeros and its own records again.
+#[derive(Clone, Copy)]
+pub enum Behind {
+    Zeros,
+    Any,
+    Records,
+}
+
+impl Behind {
+    pub const ALL: [Behind; 3] = [Behind::Zeros, Behind::Any, Behind::Records];
+}
+
 impl List {
-    /// A sound list of `count` events in a buffer of so many numbers, which are at least 6 × count. Behind the list are
-    /// zeros, numbers of any kind, or its own records again.
+    /// A sound list of `count` events in a buffer of so many numbers, which are at least 6 × count. Anything may stand
+    /// behind it.
     pub fn sound(random: &mut Random, pools: &Pools, count: usize, numbers: usize) -> List {
         let mut list = List { numbers: Vec::with_capacity(numbers), count };
         let crowded = random.one_in(2);
@@ -45,12 +57,20 @@ impl List {
             record[START..MARKS].copy_from_slice(&times.numbers());
             list.numbers.extend(record);
         }
-        match random.below(3) {
-            0 => list.numbers.resize(numbers, 0),
-            1 => list.numbers.resize_with(numbers, || random.number()),
-            _ => list.numbers = list.numbers.iter().copied().chain([0; 6]).cycle().take(numbers).collect(),
+        let behind = random.pick(&Behind::ALL);
+        list.in_buffer(random, numbers, behind)
+    }
+
+    /// The list, whose buffer ends with it, in a buffer of so many numbers with this behind it.
+    pub fn in_buffer(mut self, random: &mut Random, numbers: usize, behind: Behind) -> List {
+        match behind {
+            Behind::Zeros => self.numbers.resize(numbers, 0),
+            Behind::Any => self.numbers.resize_with(numbers, || random.number()),
+            Behind::Records => {
+                self.numbers = self.numbers.iter().copied().chain([0; NUMBERS]).cycle().take(numbers).collect();
+            }
         }
-        list
+        self
     }
 
     pub fn set(&mut self, place: usize, field: usize, values: &[u32]) {

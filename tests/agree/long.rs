@@ -12,7 +12,8 @@ use crate::scripts::{bytes, unstruck, Command};
 const MB: usize = 1 << 20;
 
 /// Commands from which on the library takes a script in halves, and these in halves again.
-const HALVED_TWICE: usize = 2 * 262_144;
+pub const HALVED: usize = 262_144;
+const HALVED_TWICE: usize = 2 * HALVED;
 
 pub fn run(comparison: &mut Comparison) -> Result<(), String> {
     let random = &mut comparison.groups.begin("long");
@@ -64,20 +65,11 @@ fn refused(
     }
     let script = bytes(&before);
     let last = match number {
-        3 => random.pick(&[&[0x00][..], &[0x05], &[0x01, 0x00], &[0x02]]).to_vec(),
+        3 => breaking::form(random).to_vec(),
         4 => bytes(&[Command::Undo]),
-        _ => bytes(&[breaks(random, pools, &held, number), held.any_edit(random, pools)]),
+        _ => bytes(&[breaking::edit(random, pools, &held, number), held.any_edit(random, pools)]),
     };
     comparison.answers((number, script.len()), pools, &list, &[script, last].concat())
-}
-
-/// An edit that breaks this one of 5, 9, 6, 30 and 8.
-fn breaks(random: &mut Random, pools: &Pools, held: &Held, number: u32) -> Command {
-    match (number, random.below(3)) {
-        (5 | 6 | 30, 0) => breaking::move_one(random, held, &[number]),
-        (6, 1) => breaking::withdraw(random, held),
-        _ => breaking::put(random, pools, held, &[number]),
-    }
 }
 
 /// Scripts that are carried out whole: without UNDO, with short nests throughout, and around one nest of 280,000 edits.

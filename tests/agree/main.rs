@@ -19,6 +19,7 @@ mod full;
 mod groups;
 mod guarded;
 mod held;
+mod joined;
 #[path = "../library.rs"]
 mod library;
 mod limits;
@@ -30,6 +31,7 @@ mod mixed;
 mod moves;
 #[path = "../other/mod.rs"]
 mod other;
+mod outcome;
 mod overlap_faults;
 mod overlap_order_faults;
 mod overlapped;
@@ -53,6 +55,7 @@ mod times;
 mod timetable;
 mod undo;
 mod unsound;
+mod walk;
 mod wrong_chains;
 mod wrong_follows;
 
@@ -77,7 +80,7 @@ fn main() -> ExitCode {
 }
 
 fn self_check() -> Result<Vec<String>, String> {
-    let edits = faults::run(all_groups)?;
+    let edits = [faults::run(all_groups)?, joined::self_check()?].concat();
     let builds = [build::self_check()?, rebuild::self_check()?].concat();
     let faults = [edits, place::self_check()?, builds, read::self_check()?].concat();
     println!("self-check  {} faults, each shown", faults.len());
@@ -153,5 +156,6 @@ fn all_groups(comparison: &mut Comparison) -> Result<(), String> {
     mixed::run(comparison)?;
     long::run(comparison)?;
     at_places::run(comparison)?;
-    reuse::run(comparison)
+    reuse::run(comparison)?;
+    joined::all_groups(comparison)
 }

@@ -5,7 +5,7 @@ use crate::held::Held;
 use crate::lists::List;
 use crate::pools::Pools;
 use crate::random::Random;
-use crate::scripts::{bytes, Command};
+use crate::scripts::bytes;
 
 pub fn run(comparison: &mut Comparison) -> Result<(), String> {
     let random = &mut comparison.groups.begin("mixed");
@@ -46,16 +46,9 @@ fn carried_out(
 /// Edits of any kind and UNDO on a short list that is full or nearly so.
 fn likely(comparison: &mut Comparison, random: &mut Random, pools: &Pools) -> Result<(), String> {
     let list = short(random, pools);
-    let held = Held::by(comparison.caller, &list);
-    let mut commands = Vec::new();
-    for _ in 0..random.below(8) {
-        if random.one_in(4) {
-            commands.push(Command::Undo);
-        } else {
-            commands.push(held.any_edit(random, pools));
-        }
-    }
-    comparison.alike(pools, &list, &bytes(&commands)).map(drop)
+    let commands = random.below(8);
+    let script = bytes(&Held::by(comparison.caller, &list).likely(random, pools, commands));
+    comparison.alike(pools, &list, &script).map(drop)
 }
 
 /// A few bytes, among which commands are likely.

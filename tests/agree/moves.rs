@@ -91,14 +91,14 @@ fn to(comparison: &mut Comparison, pools: &Pools, list: &List, place: usize, sta
     }
     let touches = others.iter().any(|other| moved.start == other.end() || moved.end() == other.start);
     let passes = others.iter().any(|other| (other.start < own.start) != (other.start < moved.start));
-    let came_up = [
+    let kinds = [
         (ONTO_ITSELF, moved == own),
         (OVER_ITSELF, moved != own && moved.overlaps(own)),
         (UP_TO_ITSELF, moved.start == own.end() || moved.end() == own.start),
         (PAST_NEIGHBOUR, passes),
         (TOUCHING, touches),
     ];
-    came_up.iter().filter(|(_, came_up)| *came_up).for_each(|(kind, _)| comparison.tally.kind((MOVE, kind)));
+    comparison.tally.came_up(MOVE, &kinds);
     Ok(())
 }
 

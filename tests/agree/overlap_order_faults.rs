@@ -3,6 +3,7 @@
 use crate::edits::Edit;
 use crate::other::{edit, Answer, Caller};
 use crate::times::Times;
+use crate::walk::number;
 
 pub const ALL: [(&str, Edit); 7] = [
     ("takes no list whose last event ends past the window", |caller, list, count, day, series, script| {
@@ -67,9 +68,4 @@ fn put_overlaps(list: &[u32], script: &[u8], answer: Answer) -> bool {
         let put = times(number(script, answer.value + 3), number(script, answer.value + 7));
         list.chunks(6).take(answer.count).any(|record| put.overlaps(times(record[1], record[2])))
     }
-}
-
-/// The operand of four bytes there. PUT and MOVE have their start behind command and id.
-fn number(script: &[u8], at: usize) -> u32 {
-    u32::from_be_bytes(script[at..at + 4].try_into().expect("an operand"))
 }

@@ -99,7 +99,7 @@ impl Ready {
             comparison.tally.precedence((command, first, *second));
         }
 
-        let cut = [script.clone(), random.pick(&[&[0x00][..], &[0x05], &[0x01, 0x00], &[0x02]]).to_vec()].concat();
+        let cut = [&script, breaking::form(random)].concat();
         comparison.answers((3, script.len()), pools, &self.list, &cut)?;
         self.tally_call(comparison, 3, broken);
 

@@ -41,6 +41,11 @@ impl Tally {
         *self.kinds.entry(kind).or_default() += 1;
     }
 
+    /// Those of these kinds that came up.
+    pub fn came_up(&mut self, by: &'static str, kinds: &[(&'static str, bool)]) {
+        kinds.iter().filter(|(_, came_up)| *came_up).for_each(|(kind, _)| self.kind((by, kind)));
+    }
+
     /// The answers, precedences and kinds that never came up.
     pub fn missing(&self) -> Vec<String> {
         let answers = self.answers.iter().filter(|(_, times)| **times == 0);

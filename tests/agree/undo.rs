@@ -10,11 +10,8 @@ use crate::scripts::{bytes, Command};
 pub fn run(comparison: &mut Comparison) -> Result<(), String> {
     let random = &mut comparison.groups.begin("UNDO");
     let pools = Pools::of_lengths(random, 60, 40);
-    for length in 0..=10 {
-        for pattern in 0..1u32 << length {
-            let undo: Vec<_> = (0..length).map(|place| pattern >> place & 1 == 1).collect();
-            short(comparison, random, &pools, &undo)?;
-        }
+    for undo in patterns(10) {
+        short(comparison, random, &pools, &undo)?;
     }
     for edits in [300, 2_048, 2_049, 20_000, 70_000] {
         deep(comparison, random, &pools, edits)?;
@@ -25,20 +22,28 @@ pub fn run(comparison: &mut Comparison) -> Result<(), String> {
     Ok(())
 }
 
+/// Every pattern of up to so many commands: which of them are UNDO.
+pub fn patterns(length_max: usize) -> impl Iterator<Item = Vec<bool>> {
+    let of_length = |length| (0..1u32 << length).map(move |bits| (0..length).map(|bit| bits >> bit & 1 == 1).collect());
+    (0..=length_max).flat_map(of_length)
+}
+
+/// The commands of a pattern, with the edits that are drawn for it.
+pub fn commands(undo: &[bool], mut edit: impl FnMut() -> Command) -> Vec<Command> {
+    undo.iter().map(|&undo| if undo { Command::Undo } else { edit() }).collect()
+}
+
 /// The pattern over PUTs that all fit, so that its answer is counted here, and over edits of any kind.
 fn short(comparison: &mut Comparison, random: &mut Random, pools: &Pools, undo: &[bool]) -> Result<(), String> {
     let empty = List::sound(random, pools, 0, 6 * 10 + 3);
     let mut held = Held::by(comparison.caller, &empty);
-    let commands: Vec<_> =
-        undo.iter().map(|&undo| if undo { Command::Undo } else { held.put(random, pools) }).collect();
-    comparison.answers(answer_of_puts(&commands), pools, &empty, &bytes(&commands))?;
+    let puts = commands(undo, || held.put(random, pools));
+    comparison.answers(answer_of_puts(&puts), pools, &empty, &bytes(&puts))?;
 
     let some = List::sound(random, pools, 3, 6 * 6 + 1);
     let held = Held::by(comparison.caller, &some);
-    let commands: Vec<_> =
-        undo.iter().map(|&undo| if undo { Command::Undo } else { held.any_edit(random, pools) }).collect();
-    comparison.alike(pools, &some, &bytes(&commands))?;
-    Ok(())
+    let edits = commands(undo, || held.any_edit(random, pools));
+    comparison.alike(pools, &some, &bytes(&edits)).map(drop)
 }
 
 /// Number and value for commands that are PUT, all of which fit, or UNDO.
