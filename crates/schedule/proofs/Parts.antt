@@ -39,7 +39,7 @@ segment-starts index (e ∷ es) facts =
     let rest : Every (StartsIn index) (segmentEvents index es) = segment-starts index es (facts .1) in
     events-cases index e es (Every (StartsIn index)) (λ here. ((facts .0, here), rest)) (λ elsewhere. rest)
 
-every-joined : {A : Type 0} (P : A → Type 0) (ps : List (List A)) → Every P (flatten ps) → Every (Every P) ps
+pub every-joined : {A : Type 0} (P : A → Type 0) (ps : List (List A)) → Every P (flatten ps) → Every (Every P) ps
 unfolding flatten
 every-joined P [] all = tt
 every-joined P (p ∷ ps) all =

@@ -105,7 +105,8 @@ module _ (sizes : Sizes) (base : ℕ) (identity : Identity) (lastTableId : ℕ)
     pub section-header : headerIn (sectionBytes base s) ≡ s .header
     section-header = ap headerIn (section-parts base s) ∙ header-back (sectionSize s) (s .header) _ fits
 
-    loop-back : eventLoop (sectionBytes base s) ≡ eventLoopBytes base (s .events)
+    -- its event loop
+    pub loop-back : eventLoop (sectionBytes base s) ≡ eventLoopBytes base (s .events)
     loop-back =
         let size : length (sectionBytes base s) - sectionOverhead ≡ eventSizes (s .events) =
         omega (arith, section-length base s) in
