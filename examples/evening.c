@@ -1,7 +1,7 @@
 /* An evening of one service, in C: edits an event list, plans it, builds its file, checks the file, reads it back,
  * prints where its sections stand, and writes the file to the path that is its argument. Then a title changes, and it
- * rebuilds the file. It is C11 and C++17. README.md, "How to link", has the commands; evening.cuts is what it
- * prints. */
+ * rebuilds the file; at midnight it rolls the list, and rebuilds the file again. It is C11 and C++17. README.md, "How
+ * to link", has the commands; evening.cuts is what it prints. */
 #include "chirdaluko.h"
 
 #include <stdio.h>
@@ -79,12 +79,14 @@ static void write_script(Bytes *script, Bytes *day, Bytes *series) {
     append(script, EIT_UNDO, 1);
 }
 
-/* The late film has another title: its programme is withdrawn, and put again. */
+/* The late film has another title: its programme is withdrawn, and put again. Behind it, after midnight, comes one
+ * more. */
 static void write_change(Bytes *script, Bytes *day) {
     script->length = 0;
     append(script, EIT_WITHDRAW, 1);
     append(script, 8, 2);
     put(script, day, 8, seconds(23, 0), seconds(1, 0), 0, "The Last Tram");
+    put(script, day, 9, seconds(24, 0), seconds(0, 45), 0, "Night talk");
 }
 
 /* Says what a call answered, and whether it went well. What the value of a refusal means stands at each call. */
@@ -201,5 +203,23 @@ int main(int argument_count, char **arguments) {
         return 1;
     }
     printf("version %u\n", checked.versions[0]);
+
+    /* Midnight: the evening's programmes leave. What is left counts from the base day that roll returns. */
+    EitRolled rolled = eit_roll(CALLER, list, EIT_NUMBERS_MAX, edited.count, day.bytes, day.length, series.bytes,
+                                series.length, BASE_DAY);
+    if (!succeeded("roll", rolled.number, rolled.value)) {
+        return 1;
+    }
+    /* The file on air is of the old base day. It is in the second buffer by now, so that the first one is free. */
+    rebuilt = eit_rebuild(CALLER, changed, rebuilt.value, BASE_DAY, list, EIT_NUMBERS_MAX, rolled.count, day.bytes,
+                          day.length, series.bytes, series.length, rolled.base_day, file, sizeof file);
+    if (!succeeded("rebuild", rebuilt.number, rebuilt.value)) {
+        return 1;
+    }
+    checked = eit_check(CALLER, file, rebuilt.value, rolled.base_day);
+    if (!succeeded("check", checked.number, checked.value)) {
+        return 1;
+    }
+    printf("base day %u version %u\n", (unsigned)rolled.base_day, checked.versions[0]);
     return 0;
 }

@@ -1,13 +1,15 @@
 //! An evening of one service, in Rust: edits an event list, plans it, builds its file, checks the file, reads it back,
 //! prints where its sections stand, and writes the file to the path that is its argument. Then a title changes, and it
-//! rebuilds the file. README.md, "How to link", has the commands; evening.cuts is what it prints.
+//! rebuilds the file; at midnight it rolls the list, and rebuilds the file again. README.md, "How to link", has the
+//! commands; evening.cuts is what it prints.
 
 // A part of it is needed here.
 #[allow(dead_code)]
 #[path = "../bindings/rust/src/lib.rs"]
 mod chirdaluko;
 
-use chirdaluko::{Caller, Identity, Planned, Pools, Previous, Record, NUMBERS_MAX, RECORD, SEGMENTS, TABLES};
+use chirdaluko::{Caller, Identity, Planned, Pools, Previous, Record, Rolled};
+use chirdaluko::{NUMBERS_MAX, RECORD, SEGMENTS, TABLES};
 use std::error::Error;
 
 /// Whom every call serves.
@@ -66,9 +68,15 @@ fn script(day: &mut Vec<u8>, series: &mut Vec<u8>) -> Vec<u8> {
     .concat()
 }
 
-/// The late film has another title: its programme is withdrawn, and put again.
+/// The late film has another title: its programme is withdrawn, and put again. Behind it, after midnight, comes one
+/// more.
 fn change(day: &mut Vec<u8>) -> Vec<u8> {
-    [vec![0x02, 0, 8], put(day, 8, seconds(23, 0), seconds(1, 0), 0, "The Last Tram")].concat()
+    [
+        vec![0x02, 0, 8],
+        put(day, 8, seconds(23, 0), seconds(1, 0), 0, "The Last Tram"),
+        put(day, 9, seconds(24, 0), seconds(0, 45), 0, "Night talk"),
+    ]
+    .concat()
 }
 
 /// A line for each section of a file that check accepted. A record's descriptors stand with their event, even if there
@@ -128,5 +136,16 @@ fn main() -> Result<(), Box<dyn Error>> {
     let reading = chirdaluko::check(CALLER, &changed[..length], BASE_DAY)?;
     println!("check {}", reading.count);
     println!("version {}", reading.identity.versions[0]);
+
+    // Midnight: the evening's programmes leave. What is left counts from the base day that roll returns.
+    let Rolled { count, base_day } = chirdaluko::roll(CALLER, &mut list, count, pools, BASE_DAY)?;
+    println!("roll {count}");
+    // The file on air is of the old base day. It is in the second buffer by now, so that the first one is free.
+    let previous = Previous { file: &changed[..length], base_day: BASE_DAY };
+    let length = chirdaluko::rebuild(CALLER, previous, &list, count, pools, base_day, &mut out)?;
+    println!("rebuild {length}");
+    let reading = chirdaluko::check(CALLER, &out[..length], base_day)?;
+    println!("check {}", reading.count);
+    println!("base day {base_day} version {}", reading.identity.versions[0]);
     Ok(())
 }

@@ -1,7 +1,7 @@
 /* Chirdaluko: DVB EIT schedules of one service. Edit makes an event list, Build turns the list into a file of EIT
  * schedule sections (ETSI EN 300 468, 5.2.4, tables 0x50 to 0x5F), Read turns a file back into a list. When the list
- * changes, rebuild writes its file anew and gives a new version to the tables that changed. docs/MANUAL.md shows every
- * call at work.
+ * changes, rebuild writes its file anew and gives a new version to the tables that changed. At midnight, roll moves the
+ * list to the next base day. docs/MANUAL.md shows every call at work.
  *
  * A call serves one of two callers, broadcast or cable, which differ in their sizes alone: how many events a list or
  * file has at most, and how many bytes a section. Serve one caller with all calls that belong together, in the standby
@@ -29,13 +29,14 @@
 #include <stdint.h>
 
 /* The version of this face, by semantic versioning of its names, values and calls; the Rust wrapper has the same. Link
- * a library of the same major version. One before 6 has no eit_rebuild; its eit_build takes one version where this one
- * takes a pointer to sixteen, and its EitReading is shorter. So compile anew what was compiled for a version before 6:
- * it still links, but what it does then is undefined. docs/MANUAL.md, "From version 5 to 6", says what to write. */
+ * a library of the same major version, and of this minor version or a later one: 6.0 has no eit_roll. One before 6 has
+ * no eit_rebuild, either; its eit_build takes one version where this one takes a pointer to sixteen, and its EitReading
+ * is shorter. So compile anew what was compiled for a version before 6: it still links, but what it does then is
+ * undefined. docs/MANUAL.md, "From version 5 to 6", says what to write. */
 #define CHIRDALUKO_VERSION_MAJOR 6
-#define CHIRDALUKO_VERSION_MINOR 0
+#define CHIRDALUKO_VERSION_MINOR 1
 #define CHIRDALUKO_VERSION_PATCH 0
-#define CHIRDALUKO_VERSION "6.0.0"
+#define CHIRDALUKO_VERSION "6.1.0"
 
 #ifdef __cplusplus
 extern "C" {
@@ -84,7 +85,8 @@ enum {
     EIT_REFUSED_EARLY_END = 25,
     EIT_REFUSED_EVENT_LIMIT = 26,
     EIT_REFUSED_RECORDS_SHORT = 27,
-    EIT_REFUSED_OVERLAP = 30
+    EIT_REFUSED_OVERLAP = 30,
+    EIT_REFUSED_LAST_BASE_DAY = 31
 };
 
 /* The cause in words, to be printed behind "refused: ". docs/MANUAL.md, "Refusals", says what to do about it. */
@@ -133,6 +135,8 @@ static inline const char *eit_cause(uint32_t number) {
         return "the record buffer is shorter than six numbers for each event";
     case EIT_REFUSED_OVERLAP:
         return "PUT, MOVE: the event would overlap another one";
+    case EIT_REFUSED_LAST_BASE_DAY:
+        return "the base day is 65,472 or more: there is none after it";
     default:
         return "an unknown number: no call of this version returns it";
     }
@@ -149,6 +153,7 @@ enum {
     EIT_BASE_DAY_MAX = 65472,     /* a Modified Julian Date: all 64 days then fit its 16 bits */
     EIT_VERSION_MAX = 31,         /* version_number has 5 bits */
     EIT_TABLES = 16,              /* tables, 0x50 to 0x5F, each with a version of its own */
+    EIT_DAY_SECONDS = 86400,      /* seconds in a day */
     EIT_SEGMENT_SECONDS = 10800,  /* seconds in a segment: three hours */
     EIT_TABLE_SEGMENTS = 32,      /* segments in a table: four days */
     EIT_SEGMENTS = 512,           /* segments in the sixteen tables */
@@ -242,6 +247,32 @@ typedef struct EitPlace {
  *
  * There is no refusal. */
 EitPlace eit_place(const uint32_t *list, size_t list_length, size_t count, uint32_t start);
+
+/* What roll returns. */
+typedef struct EitRolled {
+    uint32_t number;   /* EIT_SUCCESS, or the refusal */
+    size_t value;      /* success: the new count; else 0 */
+    size_t count;      /* the count that the list has now; after a refusal the given one */
+    uint32_t base_day; /* the base day that starts count from now; after a refusal the given one */
+} EitRolled;
+
+/* Moves an event list to the next base day, in place, as a generator does at midnight. Records that start on the base
+ * day, below EIT_DAY_SECONDS, leave, even if their programme runs over midnight. The others stay in their order,
+ * each with EIT_DAY_SECONDS taken off its start, so that every event that stays keeps its date and time.
+ *
+ *   caller                 whom to serve
+ *   list .. series_length  the list and its pools, as for eit_edit; the list is written, and the pools only read
+ *   base_day               the day whose midnight UTC starts count from
+ *
+ * A sound list stays sound. A list that eit_build writes before a roll is never EIT_REFUSED_UNPACKABLE after it, and
+ * the k-th section of a segment then holds the same event bytes as the k-th of the segment eight indexes later did
+ * before. eit_rebuild of the rolled list tells receivers which tables have changed: docs/MANUAL.md, "Midnight".
+ *
+ * Refusals: EIT_REFUSED_LAST_BASE_DAY, EIT_REFUSED_UNSOUND. EIT_REFUSED_BASE_DAY never comes.
+ * Left: after a refusal all of `list` is as it was; after success the records from the new count to the old one are
+ * zeros, and the numbers behind them are as they were. */
+EitRolled eit_roll(uint8_t caller, uint32_t *list, size_t list_length, size_t count, const uint8_t *day,
+                   size_t day_length, const uint8_t *series, size_t series_length, uint32_t base_day);
 
 /* What Build and rebuild return. */
 typedef struct EitBuilt {

@@ -34,6 +34,23 @@ static void edit(uint8_t caller, int is_cable) {
     expect("the list, compared with what is to be left of it,", memcmp(list, left, sizeof list) != 0, 0);
 }
 
+/* 257 events, of which the last one stays. */
+static void roll(uint8_t caller, int is_cable) {
+    enum { HELD = 257, NUMBERS = EIT_RECORD * HELD };
+    uint32_t list[NUMBERS], left[NUMBERS] = {[0] = 256, [2] = 1};
+    fill(list, HELD);
+    list[EIT_RECORD * (HELD - 1) + 1] = EIT_DAY_SECONDS;
+    if (is_cable) {
+        memcpy(left, list, sizeof list);
+    }
+    EitRolled got = eit_roll(caller, list, NUMBERS, HELD, pool, 0, pool, 0, BASE_DAY);
+    expect("the answer to a roll of 257 events", got.number, is_cable ? 12 : 0);
+    expect("its value", got.value, is_cable ? 0 : 1);
+    expect("its count", got.count, is_cable ? HELD : 1);
+    expect("its base day", got.base_day, is_cable ? BASE_DAY : BASE_DAY + 1);
+    expect("the list, compared with what is to be left of it,", memcmp(list, left, sizeof list) != 0, 0);
+}
+
 /* 84 events: cable's sections hold 83. */
 static void plan(uint8_t caller, int is_cable) {
     enum { HELD = 84, NUMBERS = EIT_RECORD * HELD };
@@ -102,6 +119,7 @@ int main(void) {
         uint8_t caller = callers[place];
         int is_cable = place > 0;
         edit(caller, is_cable);
+        roll(caller, is_cable);
         plan(caller, is_cable);
         build(caller, is_cable);
         read_file(caller, is_cable);

@@ -14,6 +14,7 @@ static const uint8_t callers[] = {EIT_BROADCAST, EIT_CABLE};
 static uint8_t caller;
 static uint32_t list[EIT_NUMBERS_MAX];
 static uint32_t count;
+static uint32_t rolled[EIT_NUMBERS_MAX];
 static uint32_t records[EIT_NUMBERS_MAX];
 static uint8_t pool[POOL];
 static uint8_t script[7 * MOVES];
@@ -60,6 +61,12 @@ static void find_place(void) {
     eit_place(list, EIT_NUMBERS_MAX, count, UINT32_MAX);
 }
 
+/* A copy, so that the list stays for the other calls. */
+static void roll_list(void) {
+    memcpy(rolled, list, sizeof list);
+    expect("roll", eit_roll(caller, rolled, EIT_NUMBERS_MAX, count, pool, POOL, pool, 0, BASE_DAY).number);
+}
+
 static void plan_list(void) {
     eit_plan(caller, list, EIT_NUMBERS_MAX, count, pool, POOL, pool, 0, plan);
 }
@@ -96,7 +103,7 @@ static const struct {
     const char *name;
     void (*make)(void);
 } calls[] = {
-    {"Edit", edit},       {"place", find_place}, {"Plan", plan_list}, {"Build", build},
+    {"Edit", edit},       {"place", find_place}, {"roll", roll_list}, {"Plan", plan_list}, {"Build", build},
     {"rebuild", rebuild}, {"check", check},      {"Read", read_file}, {"CRC_32", crc},
 };
 

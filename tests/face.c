@@ -7,15 +7,16 @@ _Static_assert(EIT_SUCCESS == 0 && EIT_REFUSED_BASE_DAY == 1 && EIT_REFUSED_VERS
                    && EIT_REFUSED_BROKEN_SCRIPT == 3 && EIT_REFUSED_NOTHING_TO_UNDO == 4
                    && EIT_REFUSED_OUT_OF_RANGE == 5 && EIT_REFUSED_WRONG_ID == 6 && EIT_REFUSED_LIST_FULL == 8
                    && EIT_REFUSED_NO_CHAIN == 9 && EIT_REFUSED_UNPACKABLE == 10 && EIT_REFUSED_OUTPUT_SHORT == 11
-                   && EIT_REFUSED_UNSOUND == 12 && EIT_REFUSED_OVERLAP == 30,
-               "refusals of Edit and Build");
+                   && EIT_REFUSED_UNSOUND == 12 && EIT_REFUSED_OVERLAP == 30 && EIT_REFUSED_LAST_BASE_DAY == 31,
+               "refusals of Edit, roll and Build");
 _Static_assert(EIT_REFUSED_FRAME == 20 && EIT_REFUSED_CRC == 21 && EIT_REFUSED_HEADER == 22
                    && EIT_REFUSED_NUMBERING == 23 && EIT_REFUSED_EVENT_LOOP == 24 && EIT_REFUSED_EARLY_END == 25
                    && EIT_REFUSED_EVENT_LIMIT == 26 && EIT_REFUSED_RECORDS_SHORT == 27,
                "refusals of Read");
 _Static_assert(EIT_RECORD == 6 && EIT_NUMBERS_MAX == 12288 && EIT_ID_MAX == 65535
                    && EIT_WINDOW_SECONDS == 64 * 86400 && EIT_DURATION_MAX == 359999 && EIT_BASE_DAY_MAX == 65472
-                   && EIT_FORBIDDEN_TAG == 0xFF && EIT_VERSION_MAX == 31 && EIT_TABLES == 16,
+                   && EIT_DAY_SECONDS == 86400 && EIT_FORBIDDEN_TAG == 0xFF && EIT_VERSION_MAX == 31
+                   && EIT_TABLES == 16,
                "limits of a list, a base day and versions");
 _Static_assert(EIT_SEGMENT_SECONDS == 10800 && EIT_TABLE_SEGMENTS == 32 && EIT_SEGMENTS == 16 * 32
                    && EIT_SEGMENT_SECTIONS_MAX == 8,

@@ -2,7 +2,7 @@
 //! for the other. The wrapper's cases give number and value back.
 
 use crate::chirdaluko::{self, Pools, ReadRefusal};
-use crate::other::{Answer, Built, Caller, Identity, Lent, Place, Plan, Previous, Reading, Triplet};
+use crate::other::{Answer, Built, Caller, Identity, Lent, Place, Plan, Previous, Reading, Rolled, Triplet};
 
 pub use crate::chirdaluko::crc32;
 
@@ -16,6 +16,14 @@ pub fn edit(caller: Caller, list: &mut [u32], count: usize, day: &[u8], series: 
 pub fn place(list: &[u32], count: usize, start: u32) -> Place {
     let chirdaluko::Place { place, looked } = chirdaluko::place(list, count, start);
     Place { place, looked }
+}
+
+/// A refused roll has value 0, and the count and base day that were given: the wrapper knows no other.
+pub fn roll(caller: Caller, list: &mut [u32], count: usize, day: &[u8], series: &[u8], base_day: u32) -> Rolled {
+    match chirdaluko::roll(served(caller), list, count, Pools { day, series }, base_day) {
+        Ok(chirdaluko::Rolled { count, base_day }) => Rolled { number: 0, value: count, count, base_day },
+        Err(refusal) => Rolled { number: refusal.number(), value: 0, count, base_day },
+    }
 }
 
 pub fn build(caller: Caller, lent: &Lent, base_day: u32, identity: Identity, output: &mut [u8]) -> Built {

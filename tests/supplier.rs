@@ -1,8 +1,8 @@
-//! A program of a package that depends on the wrapper's: it edits a list, asks where an earlier programme would
-//! stand, builds the list's file, reads the file back, and rebuilds it without the programme.
+//! A program of a package that depends on the wrapper's: it edits a list, asks where an earlier programme would stand,
+//! builds the list's file, reads the file back, and at midnight, when the programme leaves, rolls and rebuilds.
 
-use chirdaluko::{build, check, crc32, edit, place, read, rebuild};
-use chirdaluko::{Caller, Identity, Place, Pools, Previous, Record, RECORD};
+use chirdaluko::{build, check, crc32, edit, place, read, rebuild, roll};
+use chirdaluko::{Caller, Identity, Place, Pools, Previous, Record, Rolled, RECORD};
 
 const CALLER: Caller = Caller::Cable;
 
@@ -20,9 +20,13 @@ fn main() {
     let reading = read(CALLER, file, 49_273, &mut records).expect("a file that is accepted");
     let record = Record::from(records);
     let crc = crc32(&file[72..]);
-    let mut empty = [0; 18];
+    println!("{place} {looked} {} {} {} {crc:08X}", reading.count, record.start, record.duration);
+
     let previous = Previous { file, base_day: 49_273 };
-    rebuild(CALLER, previous, &list, 0, pools, 49_273, &mut empty).expect("an empty list and a file that is accepted");
-    let version = check(CALLER, &empty, 49_273).expect("a file that is accepted").identity.versions[0];
-    println!("{place} {looked} {} {} {} {crc:08X} {version}", reading.count, record.start, record.duration);
+    let rolled = roll(CALLER, &mut list, count, pools, previous.base_day);
+    let Rolled { count, base_day } = rolled.expect("a sound list");
+    let mut empty = [0; 18];
+    rebuild(CALLER, previous, &list, count, pools, base_day, &mut empty).expect("an empty list and an accepted file");
+    let version = check(CALLER, &empty, base_day).expect("a file that is accepted").identity.versions[0];
+    println!("{count} {base_day} {version}");
 }

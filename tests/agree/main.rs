@@ -44,6 +44,7 @@ mod random;
 mod read;
 mod rebuild;
 mod reuse;
+mod roll;
 mod scripts;
 mod soundness;
 mod spaced;
@@ -60,6 +61,7 @@ mod wrong_chains;
 mod wrong_follows;
 
 use edits::Comparison;
+use groups::Groups;
 use other::Caller;
 use std::process::ExitCode;
 use tally::Tally;
@@ -82,7 +84,7 @@ fn main() -> ExitCode {
 fn self_check() -> Result<Vec<String>, String> {
     let edits = [faults::run(all_groups)?, joined::self_check()?].concat();
     let builds = [build::self_check()?, rebuild::self_check()?].concat();
-    let faults = [edits, place::self_check()?, builds, read::self_check()?].concat();
+    let faults = [edits, place::self_check()?, builds, read::self_check()?, roll::self_check()?].concat();
     println!("self-check  {} faults, each shown", faults.len());
     Ok(faults)
 }
@@ -114,6 +116,9 @@ fn compare_for(caller: Caller) -> Result<Vec<String>, String> {
     read::all_groups(&mut reads)?;
     let mut rebuilds = rebuild::Comparison::new(caller, &library::rebuild);
     rebuild::all_groups(&mut rebuilds)?;
+    let subject = roll::Subject { roll: &library::roll, build: library::build, rebuild: library::rebuild };
+    let mut rolls = roll::Comparison::new(caller, subject);
+    roll::all_groups(&mut rolls)?;
 
     let tallies = [
         ("Edit", &edits.tally),
@@ -121,6 +126,7 @@ fn compare_for(caller: Caller) -> Result<Vec<String>, String> {
         ("Plan", &builds.entries),
         ("Read", &reads.tally),
         ("Rebuild", &rebuilds.tally),
+        ("roll", &rolls.tally),
     ];
     println!("\nfor {caller}");
     for (call, tally) in tallies {
@@ -132,8 +138,8 @@ fn compare_for(caller: Caller) -> Result<Vec<String>, String> {
             println!("kinds       {kinds}");
         }
     }
-    let seeds = [edits.groups.seeds(), builds.groups.seeds(), reads.groups.seeds(), rebuilds.groups.seeds()];
-    println!("seeds       {}", seeds.join(", "));
+    let groups = [&edits.groups, &builds.groups, &reads.groups, &rebuilds.groups, &rolls.groups];
+    println!("seeds       {}", groups.map(Groups::seeds).join(", "));
     let of_call = |(call, tally): &(&str, &Tally)| {
         let missing = tally.missing().into_iter();
         missing.map(|what| format!("{call}'s {what} for {caller}")).collect::<Vec<_>>()

@@ -13,6 +13,7 @@ mod library;
 mod places;
 mod reads;
 mod rebuilds;
+mod rolls;
 mod table;
 
 // The other implementation and the comparison's makers of inputs, of which a part is needed here.
@@ -56,6 +57,7 @@ mod timetable;
 use random::Random;
 
 const SEED: u64 = 101_154;
+const CALLS: &str = "edit, place, roll, plan, build, rebuild, check, read, crc32";
 
 fn main() {
     let random = &mut Random::new(SEED);
@@ -64,15 +66,14 @@ fn main() {
         [] => all(random),
         ["once", "edit"] => edits::once(random),
         ["once", "place"] => places::once(random),
+        ["once", "roll"] => rolls::once(random),
         ["once", "plan"] => builds::once_planned(random),
         ["once", "build"] => builds::once(random),
         ["once", "rebuild"] => rebuilds::once(random),
         ["once", "check"] => reads::once_checked(random),
         ["once", "read"] => reads::once(random),
         ["once", "crc32"] => crcs::once(random),
-        _ => {
-            panic!("the arguments are none, or `once` and one of edit, place, plan, build, rebuild, check, read, crc32")
-        }
+        _ => panic!("the arguments are none, or `once` and one of {CALLS}"),
     }
 }
 
@@ -87,4 +88,5 @@ fn all(random: &mut Random) {
     reads::run(&inputs);
     crcs::run(random);
     places::run(random);
+    rolls::run(random);
 }

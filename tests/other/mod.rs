@@ -1,6 +1,6 @@
-//! Another implementation of document 01, with W-202, W-203, W-204, W-206, W-208 and W-209 of document 02, written from
-//! the papers alone and in a shape of its own. The library's answers are compared with it. Every function whose outcome
-//! depends on a size takes the caller, or its sizes.
+//! Another implementation of document 01, with W-202, W-203, W-204, W-205, W-206, W-208 and W-209 of document 02,
+//! written from the papers alone and in a shape of its own. The library's answers are compared with it. Every function
+//! whose outcome depends on a size takes the caller, or its sizes.
 
 mod before;
 mod build;
@@ -15,6 +15,7 @@ mod plan;
 mod read;
 mod rebuild;
 mod received;
+mod roll;
 mod rules;
 mod schedule;
 mod script;
@@ -33,6 +34,7 @@ pub use plan::{plan, plan_by, Plan};
 pub use read::{check, check_by, read, read_by, refused, Asked, Reading, READ_PAPERS};
 pub use rebuild::{rebuild, rebuild_by, Previous, RebuildMethod, REBUILD_PAPERS};
 pub use received::{frame, frame_within, Frame, Received, ReceivedEvent, Times, TABLE_IDS};
+pub use roll::{roll, roll_by, RollMethod, Rolled, ROLL_PAPERS};
 pub use rules::{Rule, RULES};
 pub use schedule::{pack, Lent, Method, EVENT_FRONT, PAPERS};
 pub use section::{Identity, Triplet};

@@ -13,13 +13,14 @@ mod events;
 mod inputs;
 mod reads;
 mod rebuilds;
+mod rolls;
 mod words;
 
 use chirdaluko::{cause, Caller, Record};
 use std::collections::BTreeMap;
 
 /// The numbers of the refusals, in their order.
-const NUMBERS: [u32; 20] = [1, 2, 3, 4, 5, 6, 8, 9, 10, 11, 12, 20, 21, 22, 23, 24, 25, 26, 27, 30];
+const NUMBERS: [u32; 21] = [1, 2, 3, 4, 5, 6, 8, 9, 10, 11, 12, 20, 21, 22, 23, 24, 25, 26, 27, 30, 31];
 
 /// What a refusal's value is.
 const ZERO: &str = "0";
@@ -46,6 +47,7 @@ impl Rows {
     fn of(caller: Caller) -> Rows {
         let mut rows = Rows { caller, refusals: BTreeMap::new(), headers: Vec::new() };
         edits::run(&mut rows);
+        rolls::run(&mut rows);
         builds::run(&mut rows);
         reads::run(&mut rows);
         events::run(&mut rows);
@@ -74,6 +76,7 @@ const _: () = assert!(
         && chirdaluko::BASE_DAY_MAX == 65_472
         && chirdaluko::VERSION_MAX == 31
         && chirdaluko::TABLES == 16
+        && chirdaluko::DAY_SECONDS == 86_400
         && chirdaluko::SEGMENT_SECONDS == 10_800
         && chirdaluko::TABLE_SEGMENTS == 32
         && chirdaluko::SEGMENTS == 16 * 32

@@ -1,7 +1,7 @@
 //! Causes in words: the wrapper's are the C face's, and what a refusal displays is its number, its cause, and what its
 //! value means.
 
-use crate::chirdaluko::{cause, BuildRefusal, EditRefusal, ReadRefusal, RebuildRefusal};
+use crate::chirdaluko::{cause, BuildRefusal, EditRefusal, ReadRefusal, RebuildRefusal, RollRefusal};
 use crate::NUMBERS;
 use std::ffi::{c_char, CStr};
 use std::fmt::Display;
@@ -20,6 +20,7 @@ pub fn run() {
     }
     assert_eq!(cause(0), "success");
     edits();
+    rolls();
     builds();
     reads();
     rebuilds();
@@ -43,6 +44,13 @@ fn edits() {
         displays(refusal, number, " (command at offset 18, 2 records held)");
     }
     displays(EditRefusal::Unsound { count }, 12, "");
+}
+
+fn rolls() {
+    displays(RollRefusal::LastBaseDay, 31, "");
+    displays(RollRefusal::Unsound, 12, "");
+    let whole = "refused 31: the base day is 65,472 or more: there is none after it";
+    assert_eq!(RollRefusal::LastBaseDay.to_string(), whole);
 }
 
 fn builds() {

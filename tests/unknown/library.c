@@ -1,6 +1,7 @@
 /* A library of another version: whatever it is asked, it returns the answer that was set. */
 #include "chirdaluko.h"
 
+/* Roll's base day is the service_id. */
 static EitReading answer;
 
 void set_answer(uint32_t number, size_t value, size_t count, uint16_t service_id, uint8_t last_version);
@@ -16,6 +17,13 @@ EitEdited eit_edit(uint8_t caller, uint32_t *list, size_t list_length, size_t co
     (void)caller, (void)list, (void)list_length, (void)count, (void)day, (void)day_length, (void)series,
         (void)series_length, (void)script, (void)script_length;
     return (EitEdited){answer.number, answer.value, answer.count};
+}
+
+EitRolled eit_roll(uint8_t caller, uint32_t *list, size_t list_length, size_t count, const uint8_t *day,
+                   size_t day_length, const uint8_t *series, size_t series_length, uint32_t base_day) {
+    (void)caller, (void)list, (void)list_length, (void)count, (void)day, (void)day_length, (void)series,
+        (void)series_length, (void)base_day;
+    return (EitRolled){answer.number, answer.value, answer.count, answer.service_id};
 }
 
 EitBuilt eit_build(uint8_t caller, const uint32_t *list, size_t list_length, size_t count, const uint8_t *day,

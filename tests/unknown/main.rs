@@ -5,8 +5,8 @@
 #[path = "../../bindings/rust/src/lib.rs"]
 mod chirdaluko;
 
-use chirdaluko::{build, check, edit, read, rebuild, Caller, Identity, Planned, Pools, Previous};
-use chirdaluko::{BuildRefusal, EditRefusal, ReadRefusal, Reading, RebuildRefusal};
+use chirdaluko::{build, check, edit, read, rebuild, roll, Caller, Identity, Planned, Pools, Previous};
+use chirdaluko::{BuildRefusal, EditRefusal, ReadRefusal, Reading, RebuildRefusal, RollRefusal, Rolled};
 use std::panic::{catch_unwind, set_hook};
 use std::process::exit;
 
@@ -19,6 +19,11 @@ const POOLS: Pools = Pools { day: &[], series: &[] };
 
 fn edited() -> Result<usize, EditRefusal> {
     edit(CALLER, &mut [], 0, POOLS, &[])
+}
+
+/// Roll of the empty list from base day 0.
+fn rolled() -> Result<Rolled, RollRefusal> {
+    roll(CALLER, &mut [], 0, POOLS, 0)
 }
 
 fn built() -> Result<usize, BuildRefusal> {
@@ -42,7 +47,7 @@ fn checked() -> Result<Reading, ReadRefusal> {
     check(CALLER, &[], 0)
 }
 
-/// The call panics, and names the number and the value.
+/// The call panics, and names the number and the value. Of roll the service_id is the base day.
 fn panics<T>(call: fn() -> T, number: u32, value: usize, count: usize, service_id: u16) {
     panics_with(call, number, value, count, service_id, 0);
 }
@@ -69,6 +74,9 @@ fn main() {
         if !is(&[0, 3, 4, 5, 6, 8, 9, 12, 30]) {
             panics(edited, number, 7, 7, 0);
         }
+        if !is(&[0, 12, 31]) {
+            panics(rolled, number, 0, 0, 0);
+        }
         if !is(&[0, 1, 2, 10, 11, 12]) {
             panics(built, number, 7, 0, 0);
         }
@@ -87,9 +95,18 @@ fn main() {
     panics(rebuilt, 27, 7, 0, 0);
     panics(rebuilt, 2, 0, 0, 0);
 
-    // A value that the number does not come with.
+    // A value that the number does not come with; of a roll a count above the one given or a base day that is not the
+    // next, and of a refused one a count or base day that was not given.
     panics(edited, 0, 7, 8, 0);
     panics(edited, 12, 7, 7, 0);
+    panics(rolled, 0, 7, 8, 1);
+    panics(rolled, 0, 7, 7, 1);
+    panics(rolled, 0, 0, 0, 0);
+    for number in [12, 31] {
+        panics(rolled, number, 7, 0, 0);
+        panics(rolled, number, 0, 7, 0);
+        panics(rolled, number, 0, 0, 7);
+    }
     panics(built, 1, 7, 0, 0);
     panics(built, 2, 7, 0, 0);
     panics(built, 12, 7, 0, 0);

@@ -31,7 +31,7 @@ pub fn table<T: Borrow<str>, const COLUMNS: usize>(heading: &str, rows: &[[T; CO
     }
 }
 
-/// What a call says in words: the refusals of all calls have a number and a value.
+/// What a call says in words: of a refusal the number, and the value if that is not 0.
 macro_rules! said {
     ($call:expr) => {
         match $call {

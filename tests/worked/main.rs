@@ -1,5 +1,5 @@
-//! The worked examples, six lists and three tables of docs/MANUAL.md, made through the Rust wrapper and printed as the
-//! manual has them: each block under the line that names it, lists and tables under their headings once calls have
+//! The worked examples, eight lists and three tables of docs/MANUAL.md, made through the Rust wrapper and printed as
+//! the manual has them: each block under the line that names it, lists and tables under their headings once calls have
 //! shown them. tests/manual compares them.
 
 #[allow(dead_code)]
@@ -20,11 +20,15 @@ mod joined;
 mod joined_rules;
 mod layout;
 mod lines;
+mod midnight;
+mod midnight_changes;
+mod midnight_rules;
 mod overlap;
 mod overlap_changes;
 mod places;
 mod read_details;
 mod rebuilt;
+mod roll_details;
 mod schedule;
 mod sections;
 mod tables;
@@ -89,12 +93,20 @@ fn main() {
     block("What Edit says of two scripts, in turn and joined:", &joined);
     block("Versions, file by file:", &versions::rows());
     block("Section 0 of table 0x50, before and after event 5 is put:", &versions::first_sections());
+    let worked = midnight::Worked::new();
+    block("The list, before the roll and after it:", &worked.lists());
+    block("Its plan, before the roll and after it:", &worked.plans());
+    block("Its sections with events, before the roll and after it:", &worked.sections());
+    block("The section of event 6, before the roll and after it:", &worked.moved_section());
+    block("Versions, midnight by midnight:", &worked.versions());
     joined_rules::print();
     callers::print();
     caller_changes::print();
     overlap_changes::print();
     version_rules::print();
     version_changes::print();
+    midnight_rules::print();
+    midnight_changes::print();
     details::print();
     tables::print();
 }

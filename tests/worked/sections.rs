@@ -16,6 +16,13 @@ pub fn of(file: &[u8]) -> Vec<(usize, &[u8])> {
     sections
 }
 
+/// The sections of a file that have events: segment index, place in the segment, event bytes.
+pub fn with_events(file: &[u8]) -> Vec<(usize, usize, &[u8])> {
+    let index = |section: &[u8]| 32 * usize::from(section[0] - 0x50) + usize::from(section[6] / 8);
+    let sections = of(file).into_iter().map(|(_, section)| section).filter(|section| section.len() > 18);
+    sections.map(|section| (index(section), usize::from(section[6] % 8), &section[14..section.len() - 4])).collect()
+}
+
 /// A line for each section. A record's descriptors stand in the section of its event, even if there are none.
 pub fn cuts(file: &[u8], records: &[u32]) -> Vec<String> {
     let mut lines = vec!["offset table section events".to_string()];

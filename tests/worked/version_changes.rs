@@ -1,7 +1,7 @@
 //! What to do about versions, each a sentence and the calls that show it, for both callers.
 
 use crate::build_details::file_of;
-use crate::chirdaluko::{build, check, edit, read, rebuild, Caller, Pools, Previous, Record, RECORD};
+use crate::chirdaluko::{build, check, edit, read, rebuild, roll, Caller, Pools, Previous, Record, Rolled, RECORD};
 use crate::chirdaluko::{BuildRefusal, ReadRefusal, RebuildRefusal};
 use crate::details::{self, Detail};
 use crate::edit_details::NO_POOLS;
@@ -40,8 +40,8 @@ const ALL: [Detail; 11] = [
     ),
     ("**1** is about the previous base day if that is above 65,472, and otherwise about the new one.", two_base_days),
     (
-        "**The base day moves on**, at midnight: give each file its own. Events then stand in other segments, and \
-         each table where bytes change has its next version.",
+        "**The base day moves on**, at midnight: roll the list (\"Midnight\"), and give each file its own. Events then \
+         stand in other segments, and each table where bytes change has its next version.",
         midnight,
     ),
     (
@@ -191,19 +191,20 @@ fn two_base_days(caller: Caller) -> bool {
 /// 0x52. Then a schedule in which table 0x50 has no events, before and after.
 fn midnight(caller: Caller) -> bool {
     let noon = |days: &[u32]| days.iter().map(|&day| event(day, 86_400 * day + 43_200)).collect::<Vec<_>>();
-    let file = built(caller, &noon(&[0, 1, 2, 3, 4, 5, 6, 7, 8]), &[3, 4, 5]);
-    let rolled = |records: &[Record]| {
-        records.iter().map(|&record| Record { start: record.start - 86_400, ..record }).collect::<Vec<_>>()
-    };
-    let after = |file: &[u8], base_day, records: &[Record]| {
-        let previous = Previous { file, base_day };
-        let said = rebuilt_with(caller, previous, &numbers(records), NO_POOLS, BASE_DAY + 1);
-        said.map(|file| versions_of(caller, &file, BASE_DAY + 1))
+    let all = noon(&[0, 1, 2, 3, 4, 5, 6, 7, 8]);
+    let file = built(caller, &all, &[3, 4, 5]);
+    let after = |file: &[u8], previous_base_day, records: &[Record]| {
+        let mut list = numbers(records);
+        let Rolled { count, base_day } =
+            roll(caller, &mut list, records.len(), NO_POOLS, BASE_DAY).expect("a list that is rolled");
+        let previous = Previous { file, base_day: previous_base_day };
+        let said = rebuilt_with(caller, previous, &list[..RECORD * count], NO_POOLS, base_day);
+        said.map(|file| versions_of(caller, &file, base_day))
     };
     let late = built(caller, &noon(&[6, 7]), &[3, 4]);
-    after(&file, BASE_DAY, &rolled(&noon(&[1, 2, 3, 4, 5, 6, 7, 8]))) == Ok(vec![4, 5])
-        && after(&file, BASE_DAY + 1, &[]) == Err(RebuildRefusal::Previous(ReadRefusal::EventLoop { offset: 72 }))
-        && after(&late, BASE_DAY, &rolled(&noon(&[6, 7]))) == Ok(vec![3, 5])
+    after(&file, BASE_DAY, &all) == Ok(vec![4, 5])
+        && after(&file, BASE_DAY + 1, &all) == Err(RebuildRefusal::Previous(ReadRefusal::EventLoop { offset: 72 }))
+        && after(&late, BASE_DAY, &noon(&[6, 7])) == Ok(vec![3, 5])
 }
 
 /// Two updates of the main generator. The standby generator makes the second one from the file on air, and then from

@@ -9,8 +9,9 @@
 //!
 //! An answer that is none of a call's, an unknown number or a value that its number does not come with, panics: the
 //! library is proved to return no such answer, so it is then of another version than this file, and no program could
-//! go on from there. Link a library of the same major version: one before 6 has no `eit_rebuild`, and calls of the same
-//! names that take and return something else, and what they do then is undefined.
+//! go on from there. Link a library of the same major version, and of this minor version or a later one: 6.0 has no
+//! `eit_roll`. One before 6 has no `eit_rebuild`, either, and calls of the same names that take and return something
+//! else, and what they do then is undefined.
 //!
 //! ```
 //! use chirdaluko::{build, check, edit, place, read, BuildRefusal, Caller, Identity, Place, Pools, Record};
@@ -100,6 +101,8 @@ pub const BASE_DAY_MAX: u32 = 65_472;
 pub const VERSION_MAX: u8 = 31;
 /// Tables, 0x50 to 0x5F, each with a version of its own.
 pub const TABLES: usize = 16;
+/// Seconds in a day.
+pub const DAY_SECONDS: u32 = 86_400;
 /// Seconds in a segment: three hours.
 pub const SEGMENT_SECONDS: u32 = 10_800;
 /// Segments in a table: four days.
@@ -202,6 +205,7 @@ pub fn cause(number: u32) -> &'static str {
         26 => "the file has more than 2,048 events, for cable 256",
         27 => "the record buffer is shorter than six numbers for each event",
         30 => "PUT, MOVE: the event would overlap another one",
+        31 => "the base day is 65,472 or more: there is none after it",
         _ => "an unknown number: no call of this version returns it",
     }
 }
@@ -259,6 +263,30 @@ impl EditRefusal {
     /// How many records the list has now.
     pub fn count(self) -> usize {
         self.answer().2
+    }
+}
+
+/// Why roll says no. Each leaves list, count and base day as they were.
+#[derive(Clone, Copy, Debug, PartialEq, Eq)]
+pub enum RollRefusal {
+    /// 31: the base day is 65,472 or more: there is none after it.
+    LastBaseDay,
+    /// 12: the list is not sound; one descriptor with [`FORBIDDEN_TAG`] is enough, or one event that begins before the
+    /// one before it ends.
+    Unsound,
+}
+
+impl RollRefusal {
+    pub fn number(self) -> u32 {
+        match self {
+            RollRefusal::Unsound => 12,
+            RollRefusal::LastBaseDay => 31,
+        }
+    }
+
+    /// 0: neither cause has one.
+    pub fn value(self) -> usize {
+        0
     }
 }
 
@@ -419,6 +447,13 @@ impl RebuildRefusal {
     }
 }
 
+/// A list that was rolled: how many records it has now, and the base day that their starts count from.
+#[derive(Clone, Copy, Debug, PartialEq, Eq)]
+pub struct Rolled {
+    pub count: usize,
+    pub base_day: u32,
+}
+
 /// Where a start belongs in a list.
 #[derive(Clone, Copy, Debug, PartialEq, Eq)]
 pub struct Place {
@@ -522,6 +557,64 @@ pub fn place(list: &[u32], count: usize, start: u32) -> Place {
     // As in `edit`.
     let EitPlace { place, looked } = unsafe { eit_place(list.as_ptr(), list.len(), count, start) };
     Place { place, looked }
+}
+
+/// Moves a list of `count` records to the next base day, in place, as a generator does at midnight. Records that start
+/// on the base day, below [`DAY_SECONDS`], leave, even if their programme runs over midnight. The others stay in
+/// their order, each with [`DAY_SECONDS`] taken off its start, so that every event that stays keeps its date and time.
+/// The records from the new count to the old one become zeros, and the numbers behind them stay.
+///
+/// A sound list stays sound. A list that [`build`] writes before a roll is never [`BuildRefusal::Unpackable`] after it,
+/// and the k-th section of a segment then holds the same event bytes as the k-th of the segment eight indexes later did
+/// before.
+///
+/// ```
+/// use chirdaluko::{roll, Caller, Pools, RollRefusal, Rolled};
+///
+/// let caller = Caller::Broadcast;
+/// let pools = Pools { day: &[], series: &[] };
+/// // At 23:30:00 for an hour, so over midnight; at 01:00:00 of the next day for an hour; and a number behind the list.
+/// let mut list = [1, 84_600, 3_600, 0, 0, 0, 2, 90_000, 3_600, 0, 0, 0, 7];
+/// assert_eq!(roll(caller, &mut list, 2, pools, 49_273), Ok(Rolled { count: 1, base_day: 49_274 }));
+/// assert_eq!(list, [2, 3_600, 3_600, 0, 0, 0, 0, 0, 0, 0, 0, 0, 7]);
+///
+/// assert_eq!(roll(caller, &mut list, 1, pools, 65_472), Err(RollRefusal::LastBaseDay));
+/// ```
+pub fn roll(
+    caller: Caller,
+    list: &mut [u32],
+    count: usize,
+    pools: Pools,
+    base_day: u32,
+) -> Result<Rolled, RollRefusal> {
+    let Pools { day, series } = pools;
+    // As in `edit`.
+    let said = unsafe {
+        eit_roll(
+            caller,
+            list.as_mut_ptr(),
+            list.len(),
+            count,
+            day.as_ptr(),
+            day.len(),
+            series.as_ptr(),
+            series.len(),
+            base_day,
+        )
+    };
+    let EitRolled { number, value, .. } = said;
+    let outcome = match number {
+        0 => Ok(Rolled { count: value.min(count), base_day: base_day.saturating_add(1) }),
+        12 => Err(RollRefusal::Unsound),
+        31 => Err(RollRefusal::LastBaseDay),
+        _ => unknown("eit_roll", number, value),
+    };
+    // A refusal leaves what was given.
+    let left = outcome.unwrap_or(Rolled { count, base_day });
+    if (value, said.count, said.base_day) != (outcome.map_or(0, |rolled| rolled.count), left.count, left.base_day) {
+        unknown("eit_roll", number, value);
+    }
+    outcome
 }
 
 /// Writes the file of sections of a list of `count` records to the front of `out`, and returns the file's length. The
@@ -702,6 +795,13 @@ impl Display for EditRefusal {
     }
 }
 
+/// The number, and its cause in words.
+impl Display for RollRefusal {
+    fn fmt(&self, to: &mut Formatter) -> fmt::Result {
+        write!(to, "refused {}: {}", self.number(), cause(self.number()))
+    }
+}
+
 /// The number, its cause in words, and what the value means.
 impl Display for BuildRefusal {
     fn fmt(&self, to: &mut Formatter) -> fmt::Result {
@@ -738,6 +838,7 @@ impl Display for RebuildRefusal {
 }
 
 impl Error for EditRefusal {}
+impl Error for RollRefusal {}
 impl Error for BuildRefusal {}
 impl Error for ReadRefusal {}
 impl Error for RebuildRefusal {}
@@ -753,6 +854,14 @@ struct EitEdited {
 struct EitPlace {
     place: usize,
     looked: usize,
+}
+
+#[repr(C)]
+struct EitRolled {
+    number: u32,
+    value: usize,
+    count: usize,
+    base_day: u32,
 }
 
 #[repr(C)]
@@ -787,6 +896,18 @@ extern "C" {
     ) -> EitEdited;
 
     fn eit_place(list: *const u32, list_length: usize, count: usize, start: u32) -> EitPlace;
+
+    fn eit_roll(
+        caller: Caller,
+        list: *mut u32,
+        list_length: usize,
+        count: usize,
+        day: *const u8,
+        day_length: usize,
+        series: *const u8,
+        series_length: usize,
+        base_day: u32,
+    ) -> EitRolled;
 
     fn eit_build(
         caller: Caller,

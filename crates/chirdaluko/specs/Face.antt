@@ -10,10 +10,12 @@ use Rattle.eit.specs.Records.{lentList}
 use Rattle.eit.specs.declared.Identity.{Identity}
 use Rattle.eit.specs.declared.Place.{Place}
 use Rattle.script.specs.Edit.{Edited}
+use Rattle.window.specs.Roll.{Rolled}
 use Rattle.sections.specs.Read.{Answer, Reading}
 use Rattle.schedule.specs.Build.{Built}
 use Rattle.chirdaluko.specs.declared.EitEdited.{EitEdited}
 use Rattle.chirdaluko.specs.declared.EitPlace.{EitPlace}
+use Rattle.chirdaluko.specs.declared.EitRolled.{EitRolled}
 use Rattle.chirdaluko.specs.declared.EitBuilt.{EitBuilt}
 use Rattle.chirdaluko.specs.declared.EitReading.{EitReading}
 
@@ -33,6 +35,10 @@ editedOf r buffer = record { number = r .number; value = r .value; list = lentLi
 
 abbrev pub placedOf : EitPlace → Place
 placedOf r = record { place = r .place; looked = r .looked }
+
+abbrev pub rolledOf : EitRolled → List ℕ → Rolled
+rolledOf r buffer =
+    record { number = r .number; value = r .value; list = lentList buffer (r .count); base = r .«base_day» }
 
 abbrev pub builtOf : EitBuilt → List ℕ → Built
 builtOf r output = record { number = r .number; value = r .value; output = output }

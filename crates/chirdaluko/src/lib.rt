@@ -19,9 +19,10 @@ ghost use Rattle.sections.specs.Read.{checkFile, read};
 ghost use Rattle.schedule.specs.Plan.{plan};
 ghost use Rattle.schedule.specs.Build.{build};
 ghost use Rattle.schedule.specs.Rebuild.{rebuild};
+ghost use Rattle.window.specs.Roll.{roll};
 ghost use Rattle.read_answer.specs.Outcome.{outcomeOf};
-ghost use Rattle.chirdaluko.specs.Face.{callerOf, editedOf, placedOf, builtOf, givenIdentity, answerOf};
-ghost use Rattle.chirdaluko.specs.Face.{readingOf};
+ghost use Rattle.chirdaluko.specs.Face.{callerOf, editedOf, placedOf, rolledOf, builtOf, givenIdentity};
+ghost use Rattle.chirdaluko.specs.Face.{answerOf, readingOf};
 
 // What Edit returns: document 01's number and value, and the count then held.
 #[repr(C)]
@@ -36,6 +37,15 @@ pub struct EitEdited {
 pub struct EitPlace {
     pub place: usize,
     pub looked: usize,
+}
+
+// What a roll returns: document 02's number and value, and the count and the base day then held (W-205).
+#[repr(C)]
+pub struct EitRolled {
+    pub number: u32,
+    pub value: usize,
+    pub count: usize,
+    pub base_day: u32,
 }
 
 // What Build and Rebuild return: document 01's number and value.
@@ -104,6 +114,32 @@ pub extern "C" fn eit_place(list: &[u32], count: usize, start: u32) -> EitPlace
     EitPlace {
         place: found.place,
         looked: found.looked,
+    }
+}
+
+// Roll: number, value, count, base day and every number of the list are those of the definition (02, W-205).
+#[no_mangle]
+pub extern "C" fn eit_roll<'a>(
+    caller: u8,
+    list: &mut [u32],
+    count: usize,
+    day: &'a [u8],
+    series: &'a [u8],
+    base_day: u32,
+) -> EitRolled
+    ensures { λ r. ⌜
+        roll (sizesOf (callerOf caller)) (lentPools (now (day .entry)) (now (series .entry)))
+        (lentList (now (list .entry)) count) «base_day»
+        ≡ rolledOf r (now (list .exit)) ⌝ }
+{
+    let r = roll::roll(caller_of(caller), list, count, day, series, base_day);
+    let answer = r.answer;
+    let held = r.count;
+    EitRolled {
+        number: roll::number_of(answer),
+        value: roll::value_of(answer, held),
+        count: held,
+        base_day: r.base_day,
     }
 }
 

@@ -2,6 +2,7 @@
 // total: a read says where bytes are truncated or broken, and a write that does not fit leaves all as it was.
 use codec::fields;
 use eit::Time;
+use eit::limits::SECONDS_OF_DAY;
 ghost use mathlib.Core.Path.{_≡_};
 ghost use mathlib.Core.Bool.{_&&_};
 ghost use Prim.Native.Nat.{_+_, _*_, _<_};
@@ -16,8 +17,6 @@ pub enum TimeRead {
     // Bytes that are truncated, or that break a rule of what is read.
     Broken,
 }
-
-const SECONDS_OF_DAY: u32 = 86_400;
 
 // Two BCD digits.
 fn to_bcd(n: u8) -> u8

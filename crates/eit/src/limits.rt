@@ -14,6 +14,9 @@ pub const BASE_DAY_MAX: u32 = 65_472;
 // A version has 5 bits, 0 to 31 ("The file of sections").
 pub const VERSION_MAX: u8 = 31;
 
+// Seconds in a day ("The file of sections": a start is an MJD and a time of day).
+pub const SECONDS_OF_DAY: u32 = 86_400;
+
 // Words of a set that has a bit for each id, 0 to 65,535.
 pub const ID_WORDS: usize = 1_024;
 

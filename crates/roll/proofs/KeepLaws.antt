@@ -4,7 +4,7 @@ use mathlib.Core.Path.{_≡_, refl, sym, ap, _∙_}
 use mathlib.Core.List.{List, [], _∷_, _++_, append-assoc, append-nil}
 use Prim.Native.Nat.{ℕ, suc, _+_, _-_, _*_, _≤_, _<_}
 use native.Mathlib.Omega.{arith}
-use lib.ListN.{length, drop, set, replicate, length-append, length-replicate, replicate-append-replicate}
+use lib.ListN.{length, drop, set, replicate, length-append, replicate-append-replicate}
 use Rattle.eit.specs.Time.{secondsOfDay}
 use Rattle.eit.specs.Overwrite.{overwrite}
 use Rattle.eit.specs.Records.{recordSize, frontRecord, recordsIn, numbersOf, numbersOfAll}
@@ -15,7 +15,7 @@ use Rattle.list_records.specs.Written.{recordWritten}
 use Rattle.list_records.proofs.WriteLaws.{over-behind, written-is}
 use Rattle.list_records.proofs.RestLaws.{records-from, records-end}
 use Rattle.window.specs.Roll.{earlierBy, nextDay}
-use Rattle.window.proofs.Records.{counted-stays, counted-leaves}
+use Rattle.window.proofs.Records.{counted-stays, counted-leaves, zeros-length}
 
 -- ---- the records
 
@@ -134,9 +134,6 @@ module _ {d : List ℕ} {count : ℕ} {out : List ℕ} {kept i : ℕ} (so-far : 
     )
 
 -- ---- zeros
-
-zeros-length : (n : ℕ) → length (replicate {A = ℕ} n 0) ≡ n
-zeros-length n = length-replicate {A = ℕ} n 0
 
 -- before a turn: zeros from `from` up to k
 pub record ClearSoFar (d : List ℕ) (from to : ℕ) (out : List ℕ) (k : ℕ) : Type 0 where

@@ -1,5 +1,6 @@
 // The records of the next base day, at the front of the lent buffer, and zeros in place of those that left (02, W-205).
 use eit::Record;
+use eit::limits::SECONDS_OF_DAY;
 use list_records::records;
 ghost use mathlib.Core.Path.{_≡_};
 ghost use Prim.Native.Nat.{_-_, _*_, _≤_};
@@ -7,9 +8,6 @@ ghost use lib.ListN.{length, replicate};
 ghost use Rattle.eit.specs.Overwrite.{overwrite};
 ghost use Rattle.eit.specs.Records.{recordSize, recordsIn, numbersOfAll};
 ghost use Rattle.window.specs.Roll.{nextDay};
-
-// Seconds in a day.
-const DAY_SECONDS: u32 = 86_400;
 
 // Moves the records that do not start on the first day to the front, each a day earlier, and returns how many they are.
 // A record goes to its own place or to one that was looked at before, so none is lost.
@@ -24,10 +22,10 @@ pub fn keep_later(list: &mut [u32], count: usize) -> usize
     let mut i = 0;
     while i < count {
         let event = records::record_at(list, i);
-        if DAY_SECONDS <= event.start {
+        if SECONDS_OF_DAY <= event.start {
             let moved = Record {
                 id: event.id,
-                start: event.start - DAY_SECONDS,
+                start: event.start - SECONDS_OF_DAY,
                 duration: event.duration,
                 marks: event.marks,
                 offset: event.offset,

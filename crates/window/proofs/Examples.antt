@@ -8,17 +8,17 @@ use Rattle.eit.specs.Events.{follows}
 use Rattle.eit.specs.Sound.{sound, eventsOf}
 use Rattle.sections.specs.Section.{versionOf}
 use Rattle.schedule.specs.Build.{build}
-use Rattle.schedule.specs.ExampleLists.{row}
 use Rattle.window.specs.Roll.{roll, rolls}
 use Rattle.window.specs.KthSection.{kthEventBytes}
 use Rattle.window.specs.Examples.{Examples}
 
 pub examples : Examples
-unfolding roll rolls kthEventBytes build sound eventsOf recordsOf follows choose isChain crc32 versionOf row
+unfolding roll rolls kthEventBytes build sound eventsOf recordsOf follows choose isChain crc32 versionOf
 examples =
     record {
       day-leaves = refl;
       over-midnight = refl;
+      in-order = refl;
       empty = refl;
       rolls-63 = refl;
       rolls-64 = refl;
@@ -30,6 +30,7 @@ examples =
       first-31-past = refl;
       then-12 = refl;
       short-buffer = refl;
+      over-limit = refl;
       kth-first = refl;
       kth-second = refl;
       kth-table = refl;
@@ -40,4 +41,5 @@ examples =
       first-after = refl;
       second-before = refl;
       second-after = refl;
+      second-lacking = refl;
     }

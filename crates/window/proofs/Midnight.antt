@@ -1,6 +1,6 @@
 -- What W-205 claims holds: of lists by the laws of rolls, and of Build by those of its packing, for all sizes for which
 -- the demands hold. Assumes nothing.
-use mathlib.Core.Path.{_≡_, refl, sym, ap, subst, _∙_}
+use mathlib.Core.Path.{_≡_, refl, sym, ap, _∙_}
 use mathlib.Core.Bool.{not}
 use mathlib.Core.Logic.{⊎-elim}
 use mathlib.Core.List.{List, []}
@@ -28,10 +28,10 @@ use Rattle.schedule.proofs.Packable.{lowest-none}
 use Rattle.schedule.proofs.Given.{LegalSizes, legal-sizes, Fits, build-or, writes}
 use Rattle.window.specs.Roll.{countedFrom, refilled, Rolled, success}
 use Rattle.window.specs.KthSection.{kthEventBytes}
-use Rattle.window.specs.Midnight.{rolledOf, builtAfter, MidnightFor, Midnight}
+use Rattle.window.specs.Midnight.{rolled, builtAfter, MidnightFor, Midnight}
 use Rattle.window.proofs.Records.{refilled-records}
-use Rattle.window.proofs.Roll.{roll-last, roll-unsound, roll-sound, refilled-sound}
-use Rattle.window.proofs.Rolls.{rolls-are, rolls-records, rolls-behind, rolls-all}
+use Rattle.window.proofs.Roll.{roll-last, roll-unsound, roll-sound, refilled-sound, roll-keeps}
+use Rattle.window.proofs.Rolls.{rolls-are, rolls-records, rolls-buffer, rolls-all}
 use Rattle.window.proofs.KthSection.{kth-built, kth-past}
 use Rattle.window.proofs.Shifted.{unpackable-earlier, part-bytes-earlier}
 
@@ -41,7 +41,7 @@ module _ {sizes : Sizes} (g : Given sizes) (day : g .base < 65_472) where
   abbrev staying : List Record
   staying = countedFrom secondsOfDay (recordsOf (g .list))
 
-  rolled-is : rolledOf g ≡ success (g .list) staying (g .base + 1)
+  rolled-is : rolled g ≡ success (g .list) staying (g .base + 1)
   rolled-is = roll-sound sizes (g .pools) (g .list) (g .base) day (g .isSound)
 
   after-sound : T (sound sizes (g .pools) (refilled (g .list) staying))
@@ -151,12 +151,10 @@ midnight-for sizes legal =
     record {
       last-base-day = roll-last sizes;
       unsound = roll-unsound sizes;
-      keeps-sound = λ pools list base day is.
-          subst (λ (r : Rolled). T (sound sizes pools (r .list))) (sym (roll-sound sizes pools list base day is))
-          (refilled-sound sizes pools list secondsOfDay is);
+      keeps-sound = roll-keeps sizes;
       n-rolls = λ pools list base n range is. rolls-are sizes pools list base is n range;
       n-rolls-records = λ pools list base n range is. rolls-records sizes pools list base is n range;
-      n-rolls-behind = λ pools list base n range is. rolls-behind sizes pools list base is n range;
+      n-rolls-buffer = λ pools list base n range is. rolls-buffer sizes pools list base is n range;
       all-left = λ pools list base range is. rolls-all sizes pools list base (omega arith) is;
       same-event-bytes = λ g identity output other day. same-bytes g day legal identity output other;
       past-511 = λ g output wrote index k past few.

@@ -12,7 +12,7 @@ use Rattle.eit.specs.Overwrite.{overwrite}
 use Rattle.eit.specs.Records.{EventList, recordSize, recordsOf, numbersOfAll}
 use Rattle.eit.specs.declared.Record.{Record}
 use Rattle.eit.proofs.Test.{le-or-lt}
-use Rattle.eit.proofs.Overwrite.{over-length, over-after, over-part}
+use Rattle.eit.proofs.Overwrite.{over-length, over-part}
 use Rattle.eit.proofs.Records.{numbers-length, records-front, count-records, buffer-is}
 use Rattle.window.specs.Roll.{startingFrom, earlierBy, countedFrom, refilled}
 
@@ -101,7 +101,7 @@ counted-more first more (r ∷ rs) =
 
 -- ---- refilled lists
 
-zeros-length : (n : ℕ) → length (replicate {A = ℕ} n 0) ≡ n
+pub zeros-length : (n : ℕ) → length (replicate {A = ℕ} n 0) ≡ n
 zeros-length n = length-replicate {A = ℕ} n 0
 
 module _ (list : EventList) (rs : List Record) where
@@ -127,10 +127,13 @@ module _ (list : EventList) (rs : List Record) where
         → length (refilled list rs .buffer) ≡ length (list .buffer)
     refilled-length held = over-length (list .buffer) 0 refilling (omega (arith, refilling-size))
 
-    pub refilled-behind : drop (list .count * recordSize) (refilled list rs .buffer)
-        ≡ drop (list .count * recordSize) (list .buffer)
-    refilled-behind =
-        over-after (list .buffer) 0 refilling (list .count * recordSize) (omega arith) (omega (arith, refilling-size))
+    pub refilled-buffer : refilled list rs .buffer
+        ≡ numbersOfAll rs
+        ++ replicate ((list .count - length rs) * recordSize) 0
+        ++ drop (list .count * recordSize) (list .buffer)
+    refilled-buffer =
+        let end : 0 + length refilling ≡ list .count * recordSize = omega (arith, refilling-size) in
+        ap (λ (n : ℕ). refilling ++ drop n (list .buffer)) end
 
     -- refilled once more, with no more records
     pub refilled-again : (qs : List Record) → length qs ≤ length rs

@@ -1,9 +1,11 @@
 -- A roll case by case, and that it keeps a list sound: records that stay keep their values but for the start, and
--- starts that are as much earlier stand to each other as before. By induction over the records. Assumes nothing.
+-- starts that all become earlier by the same stand to each other as before. By induction over the records.
+-- Assumes nothing.
 use mathlib.Core.Path.{_≡_, sym, subst}
 use mathlib.Core.Bool.{not}
+use mathlib.Core.Logic.{⊎-elim}
 use mathlib.Core.List.{List, [], _∷_}
-use Prim.Native.Nat.{ℕ, _+_, _-_, _≤_, _<_}
+use Prim.Native.Nat.{ℕ, _+_, _≤_, _<_}
 use native.Mathlib.Omega.{arith}
 use borrow.Author.Tests.{lt-ltb, le-ltb}
 use lib.Dec.{T}
@@ -17,12 +19,12 @@ use Rattle.eit.specs.Records.{EventList, recordsOf}
 use Rattle.eit.specs.Events.{eventOf, eventsIn, rising}
 use Rattle.eit.specs.Sound.{inRange, hasChain, allValid, idsOf, sound}
 use Rattle.eit.specs.declared.Record.{Record}
-use Rattle.eit.proofs.Test.{tests, true-is, false-is, and-parts, and-both}
+use Rattle.eit.proofs.Test.{tests, true-is, false-is, and-parts, and-both, le-or-lt}
 use Rattle.eit.proofs.Records.{count-records}
 use Rattle.eit.proofs.Events.{AllFollow, follows-later, follows-end, later-follows, rising-rest, rising-follow}
 use Rattle.eit.proofs.Events.{follow-rising}
 use Rattle.eit.proofs.Sound.{range-facts, facts-range, RecordFacts, sound-list, list-sound}
-use Rattle.window.specs.Roll.{earlierBy, countedFrom, refilled, refusal, success, roll}
+use Rattle.window.specs.Roll.{earlierBy, countedFrom, refilled, Rolled, refusal, success, roll}
 use Rattle.window.proofs.Records.{counted-cases, counted-length, refilled-records, refilled-length}
 
 -- ---- case by case
@@ -64,7 +66,7 @@ module _ (pools : Pools) (seconds : ℕ) where
       let chain : T (hasChain pools (earlierBy seconds r)) = search tests in
       counted-cases seconds r rs (λ (qs : List Record). T (allValid pools qs)) (λ late. search tests) (λ early. rest)
 
-  -- an event that follows another and stays follows it as much earlier
+  -- an event that follows another still follows it when both start that much earlier
   follow-counted : (r : Record) (rs : List Record) → seconds ≤ r .start
       → AllFollow (eventOf pools r) (eventsIn pools rs)
       → AllFollow (eventOf pools (earlierBy seconds r)) (eventsIn pools (countedFrom seconds rs))
@@ -131,3 +133,13 @@ refilled-sound sizes pools list seconds is =
             differ = differ-counted pools seconds (recordsOf list) (f .records .differ);
           });
     })
+
+-- a roll leaves a sound list sound, refused or not
+pub roll-keeps : (sizes : Sizes) (pools : Pools) (list : EventList) (base : ℕ) → T (sound sizes pools list)
+    → T (sound sizes pools (roll sizes pools list base .list))
+roll-keeps sizes pools list base is =
+    let Sound : Rolled → Type 0 = λ (r : Rolled). T (sound sizes pools (r .list)) in
+    ⊎-elim (λ past. subst Sound (sym (roll-last sizes pools list base past)) is)
+    (λ day. subst Sound (sym (roll-sound sizes pools list base day is))
+    (refilled-sound sizes pools list secondsOfDay is))
+    (le-or-lt baseDayMax base)

@@ -1,16 +1,16 @@
 -- n rolls are one step of n days: each takes a day more off, and fills the same list anew. By induction over n.
 -- Assumes nothing.
 use mathlib.Core.Path.{_≡_, refl, sym, ap, _∙_}
-use mathlib.Core.List.{List, [], _∷_}
-use Prim.Native.Nat.{ℕ, zero, suc, _+_, _*_, _≤_}
+use mathlib.Core.List.{List, [], _∷_, _++_}
+use Prim.Native.Nat.{ℕ, zero, suc, _+_, _-_, _*_, _≤_}
 use native.Mathlib.Omega.{arith}
 use lib.Dec.{T}
-use lib.ListN.{length, drop}
+use lib.ListN.{length, drop, replicate}
 use Rattle.eit.specs.declared.Sizes.{Sizes}
 use Rattle.eit.specs.Limits.{baseDayMax, windowSeconds}
 use Rattle.eit.specs.Time.{secondsOfDay}
 use Rattle.eit.specs.Pools.{Pools}
-use Rattle.eit.specs.Records.{EventList, recordSize, recordsOf}
+use Rattle.eit.specs.Records.{EventList, recordSize, recordsOf, numbersOfAll}
 use Rattle.eit.specs.Sound.{allValid, sound}
 use Rattle.eit.specs.declared.Record.{Record}
 use Rattle.eit.proofs.Test.{tests}
@@ -18,7 +18,7 @@ use Rattle.eit.proofs.Records.{count-records}
 use Rattle.eit.proofs.Sound.{range-facts, sound-list}
 use Rattle.window.specs.Roll.{countedFrom, refilled, Rolled, success, roll, rolls}
 use Rattle.window.proofs.Records.{counted-leaves, counted-length, counted-none, counted-more}
-use Rattle.window.proofs.Records.{refilled-records, refilled-behind, refilled-again, refilled-own}
+use Rattle.window.proofs.Records.{refilled-records, refilled-buffer, refilled-again, refilled-own}
 use Rattle.window.proofs.Roll.{roll-sound, refilled-sound}
 
 module _ (sizes : Sizes) (pools : Pools) (list : EventList) (base : ℕ) (is : T (sound sizes pools list)) where
@@ -79,12 +79,13 @@ module _ (sizes : Sizes) (pools : Pools) (list : EventList) (base : ℕ) (is : T
   rolls-records n range =
       ap (λ (r : Rolled). recordsOf (r .list)) (rolls-are n range) ∙ refilled-records list (staying n)
 
-  pub rolls-behind : (n : ℕ) → base + n ≤ baseDayMax
-      → drop (list .count * recordSize) (rolls sizes pools list base n .list .buffer)
-      ≡ drop (list .count * recordSize) (list .buffer)
-  rolls-behind n range =
-      ap (λ (r : Rolled). drop (list .count * recordSize) (r .list .buffer)) (rolls-are n range)
-      ∙ refilled-behind list (staying n) (few n)
+  pub rolls-buffer : (n : ℕ) → base + n ≤ baseDayMax
+      → rolls sizes pools list base n .list .buffer
+      ≡ numbersOfAll (staying n)
+      ++ replicate ((list .count - length (staying n)) * recordSize) 0
+      ++ drop (list .count * recordSize) (list .buffer)
+  rolls-buffer n range =
+      ap (λ (r : Rolled). r .list .buffer) (rolls-are n range) ∙ refilled-buffer list (staying n) (few n)
 
 -- a window of 64 days leaves in 64 days
 window-leaves : (pools : Pools) (rs : List Record) → T (allValid pools rs) → countedFrom windowSeconds rs ≡ []

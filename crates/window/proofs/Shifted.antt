@@ -28,7 +28,7 @@ use Rattle.window.specs.Roll.{countedFrom}
 use Rattle.window.proofs.Records.{counted-cases}
 
 -- an event a day earlier
-abbrev pub earlier : Event → Event
+abbrev earlier : Event → Event
 earlier e =
     record {
       id = e .id;

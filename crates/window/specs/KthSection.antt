@@ -13,13 +13,13 @@ use Rattle.sections.specs.Decode.{headerIn, eventLoop, splitFile}
 abbrev pub isKth : ℕ → ℕ → Header → Bool
 isKth index k h = eqb (h .tableId) (tableOf index) && eqb (h .sectionNumber) (firstSection index + k)
 
--- the event bytes of the one among some sections, as bytes; none if it is not among them
+-- its event bytes, looked for among the bytes of some sections; none if it is not there
 abbrev pub kthAmong : ℕ → ℕ → List (List ℕ) → List ℕ
 kthAmong index k [] = []
 kthAmong index k (bs ∷ rest) =
     elim (isKth index k (headerIn bs)) [ true ↦ eventLoop bs | false ↦ kthAmong index k rest ]
 
--- and of the one in a file
+-- and in a file
 unfoldable pub kthEventBytes : List ℕ → ℕ → ℕ → List ℕ
 unfolding splitFile
 kthEventBytes file index k = kthAmong index k (splitFile file)

@@ -2,15 +2,15 @@
 -- `midnight` of proofs/Midnight.antt. A list need not be sound where nothing says so. Assumes nothing.
 use mathlib.Core.Path.{_≡_}
 use mathlib.Core.Bool.{not}
-use mathlib.Core.List.{List, []}
-use Prim.Native.Nat.{ℕ, _+_, _*_, _≤_, _<_}
+use mathlib.Core.List.{List, [], _++_}
+use Prim.Native.Nat.{ℕ, _+_, _-_, _*_, _≤_, _<_}
 use lib.Dec.{T}
-use lib.ListN.{length, drop}
+use lib.ListN.{length, drop, replicate}
 use Rattle.eit.specs.Sizes.{sizesOf}
 use Rattle.eit.specs.declared.Sizes.{Sizes}
 use Rattle.eit.specs.declared.Caller.{Caller}
 use Rattle.eit.specs.Pools.{Pools}
-use Rattle.eit.specs.Records.{EventList, recordSize, recordsOf}
+use Rattle.eit.specs.Records.{EventList, recordSize, recordsOf, numbersOfAll}
 use Rattle.eit.specs.Sound.{sound}
 use Rattle.eit.specs.declared.Identity.{Identity}
 use Rattle.sections.specs.Rules.{IdentityRules}
@@ -21,13 +21,13 @@ use Rattle.window.specs.KthSection.{kthEventBytes}
 
 module _ {sizes : Sizes} where
   -- the roll of the list that Build is given
-  abbrev pub rolledOf : Given sizes → Rolled
-  rolledOf g = roll sizes (g .pools) (g .list) (g .base)
+  abbrev pub rolled : Given sizes → Rolled
+  rolled g = roll sizes (g .pools) (g .list) (g .base)
 
   -- Build after it: of the list and under the base day that it left, under any identity
   abbrev pub builtAfter : Given sizes → Identity → List ℕ → Built
   builtAfter g identity output =
-      build sizes (g .pools) (rolledOf g .list) (rolledOf g .base) identity output
+      build sizes (g .pools) (rolled g .list) (rolled g .base) identity output
 
 pub record MidnightFor (sizes : Sizes) : Type 0 where
   -- "Refused: 31, base day already 65,472 or more; it comes first": list, count and base day stay
@@ -37,22 +37,26 @@ pub record MidnightFor (sizes : Sizes) : Type 0 where
   pub unsound : (pools : Pools) (list : EventList) (base : ℕ) → base < 65_472 → T (not (sound sizes pools list))
       → roll sizes pools list base ≡ record { number = 12; value = 0; list = list; base = base }
   -- a roll of a sound list leaves a sound list
-  pub keeps-sound : (pools : Pools) (list : EventList) (base : ℕ) → base < 65_472 → T (sound sizes pools list)
+  pub keeps-sound : (pools : Pools) (list : EventList) (base : ℕ) → T (sound sizes pools list)
       → T (sound sizes pools (roll sizes pools list base .list))
   -- "For every n that stays in range, n rolls from a sound list keep exactly the records whose start was at least
-  -- 86,400 × n, in order, each shifted by that much". None is refused, as every fewer rolls are in range, too ..
+  -- 86,400 × n, in order, each shifted by that much". None is refused, as every smaller n is in range, too ..
   pub n-rolls : (pools : Pools) (list : EventList) (base n : ℕ) → base + n ≤ 65_472 → T (sound sizes pools list)
       → let stay = countedFrom (86_400 * n) (recordsOf list) in
       rolls sizes pools list base n
       ≡ record { number = 0; value = length stay; list = refilled list stay; base = base + n }
-  -- .. which are the records that the list then has; all behind the first list's records is as it was
+  -- .. which are the records that the list then has; and in the buffer they stand at the front, behind them zeros up to
+  -- the end of the first list's records, and then what stood there
   pub n-rolls-records : (pools : Pools) (list : EventList) (base n : ℕ) → base + n ≤ 65_472
       → T (sound sizes pools list)
       → recordsOf (rolls sizes pools list base n .list) ≡ countedFrom (86_400 * n) (recordsOf list)
-  pub n-rolls-behind : (pools : Pools) (list : EventList) (base n : ℕ) → base + n ≤ 65_472
+  pub n-rolls-buffer : (pools : Pools) (list : EventList) (base n : ℕ) → base + n ≤ 65_472
       → T (sound sizes pools list)
-      → drop (list .count * recordSize) (rolls sizes pools list base n .list .buffer)
-      ≡ drop (list .count * recordSize) (list .buffer)
+      → let stay = countedFrom (86_400 * n) (recordsOf list) in
+      rolls sizes pools list base n .list .buffer
+      ≡ numbersOfAll stay
+      ++ replicate ((list .count - length stay) * recordSize) 0
+      ++ drop (list .count * recordSize) (list .buffer)
   -- and 64 rolls leave none, whatever the sound list
   pub all-left : (pools : Pools) (list : EventList) (base : ℕ) → base ≤ 65_408 → T (sound sizes pools list)
       → recordsOf (rolls sizes pools list base 64 .list) ≡ []

@@ -32,7 +32,7 @@ earlierBy seconds r =
       «chain_length» = r .«chain_length»;
     }
 
--- some records, with their starts from a later second on
+-- the records that start at `seconds` or later, with their starts counted from there
 abbrev pub countedFrom : ℕ → List Record → List Record
 countedFrom seconds rs = map (earlierBy seconds) (startingFrom seconds rs)
 
