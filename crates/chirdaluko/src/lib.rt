@@ -134,11 +134,11 @@ pub extern "C" fn eit_roll<'a>(
 {
     let r = roll::roll(caller_of(caller), list, count, day, series, base_day);
     let answer = r.answer;
-    let held = r.count;
+    let kept = r.count;
     EitRolled {
         number: roll::number_of(answer),
-        value: roll::value_of(answer, held),
-        count: held,
+        value: roll::value_of(answer, kept),
+        count: kept,
         base_day: r.base_day,
     }
 }
