@@ -1,4 +1,6 @@
 // Plan and Build (01, "Build, Read").
+#![tactic(auto)]
+
 ghost use Rattle.std.specs.Prelude.{◌≡◌};
 ghost use Rattle.eit.specs.Sizes.{sizes_of};
 ghost use Rattle.eit.specs.Pools.{lent_pools};

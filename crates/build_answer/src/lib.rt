@@ -1,4 +1,6 @@
 // What Build says: a case for each cause of 01's table ("When a call says no").
+#![tactic(auto)]
+
 ghost use Rattle.std.specs.Prelude.{◌≡◌};
 ghost use Rattle.build_answer.specs.Outcome.{answer_number, answer_value};
 

@@ -1,4 +1,6 @@
 // Plan's tables (01, "Build, Read": "sixteen tables of thirty-two section counts") and their counts in a row.
+#![tactic(auto)]
+
 ghost use Rattle.std.specs.Prelude.{◌≡◌, ℕ, get_or};
 ghost use mathlib.Core.List.{flatten};
 ghost use Rattle.schedule.specs.Plan.{tabled};

@@ -1,4 +1,6 @@
 // The date that a Modified Julian Date is (EN 300 468, annex C), for whoever reads a schedule.
+#![tactic(auto)]
+
 ghost use Rattle.std.specs.Prelude.{◌≡◌, ◌≤◌};
 ghost use Rattle.calendar.specs.Date.{first_day, last_day, date_within, date_of};
 

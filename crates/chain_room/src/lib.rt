@@ -1,4 +1,6 @@
 // How much text still fits at a start (02, W-201). An unsound list comes first, and then a start at which nothing fits.
+#![tactic(auto)]
+
 ghost use Rattle.std.specs.Prelude.{◌≡◌, T};
 ghost use Rattle.eit.specs.Sizes.{sizes_of};
 ghost use Rattle.eit.specs.Pools.{lent_pools};

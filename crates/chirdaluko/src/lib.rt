@@ -1,5 +1,7 @@
 // The face for C and Rust (include/chirdaluko.h, bindings/rust): numbers and slices only. Each call turns an answer
 // into document 01's numbers, and has the same equation as the call behind it.
+#![tactic(auto)]
+
 ghost use Rattle.std.specs.Prelude.{◌≡◌};
 ghost use mathlib.Core.List.{flatten};
 ghost use Rattle.eit.specs.Crc.{crc32};

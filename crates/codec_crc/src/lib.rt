@@ -1,4 +1,6 @@
 // CRC_32 by eight tables, eight bytes a step (01, "The file of sections").
+#![tactic(auto)]
+
 ghost use Rattle.std.specs.Prelude.{◌≡◌, ◌≤◌, ◌<◌, length};
 ghost use Rattle.eit.specs.Crc.{crc32};
 ghost use Rattle.codec_crc.specs.CrcTables.{block_size, right_crc_tables, chosen_entry, crc_block, crc_by};

@@ -1,5 +1,7 @@
 // Starts and durations as bytes, and back (01, "The file of sections": MJD and BCD digits). Every public function is
 // total: a read says where bytes are truncated or broken, and a write that does not fit leaves all as it was.
+#![tactic(auto)]
+
 ghost use Rattle.std.specs.Prelude.{◌≡◌, ◌&&◌, ◌+◌, ◌*◌, ◌<◌};
 ghost use Rattle.eit.specs.Limits.{minutes_max, seconds_max};
 ghost use Rattle.eit.specs.Time.{time_of, to_bcd, time_bytes, start_bytes, duration_bytes, is_bcd, of_bcd, is_bcd_up_to};

@@ -1,5 +1,7 @@
 // Edit (01, "Edit"). Its refusals in their order: 12, 3 and 4 here, and for each edit 5, 9, 6, 30, 8 in `machine`.
 // `run` carries the live edits out, `part` runs scripts of any length in parts.
+#![tactic(auto)]
+
 ghost use Rattle.std.specs.Prelude.{◌≡◌};
 ghost use Rattle.eit.specs.Sizes.{sizes_of};
 ghost use Rattle.eit.specs.Pools.{lent_pools};

@@ -1,5 +1,7 @@
 // What Edit says: a case for each cause of 01's table ("When a call says no") and of 02's requests, with the offset of
 // the command's byte where it returns one.
+#![tactic(auto)]
+
 ghost use Rattle.std.specs.Prelude.{◌≡◌};
 ghost use Rattle.edit_answer.specs.Outcome.{answer_number, answer_value};
 

@@ -1,5 +1,7 @@
 // The types that the calls share, the least start behind an event, a caller's sizes, the time type, and the limits that
 // several crates ask for. Everything else of this crate is definitions (specs/) and laws (proofs/).
+#![tactic(auto)]
+
 ghost use Rattle.std.specs.Prelude.{◌≡◌, ◌&&◌, [], ltb, leb};
 ghost use Rattle.eit.specs.Sizes.{sizes_of};
 ghost use Rattle.eit.specs.Limits.{window_seconds, duration_min, duration_max};

@@ -1,4 +1,6 @@
 // 01's term: sound ("Event record and sound list").
+#![tactic(auto)]
+
 ghost use Rattle.std.specs.Prelude.{◌≡◌};
 ghost use Rattle.eit.specs.Pools.{lent_pools};
 ghost use Rattle.eit.specs.Records.{lent_list};

@@ -1,4 +1,5 @@
 // Greedy packing as definitions and laws, and the state of a pass that packs one element after the other; no code.
+#![tactic(auto)]
 
 // How far such a pass has come.
 #[derive(Drop)]

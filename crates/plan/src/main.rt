@@ -1,5 +1,7 @@
 // Program plan (01, "Samples with the cuts marked"): the sections of the schedule that a script on standard input
 // makes.
+#![tactic(auto)]
+
 ghost use Rattle.std.specs.Prelude.{◌≡◌, ◌+◌, ◌*◌, ◌≤◌, length};
 ghost use Rattle.eit.specs.Records.{lent_list};
 ghost use Rattle.eit.specs.Overwrite.{overwrite};

@@ -1,4 +1,6 @@
 // The text of program plan (01, "Samples with the cuts marked"), written into a lent buffer as far as there is room.
+#![tactic(auto)]
+
 ghost use Rattle.plan_listing.specs.Fill.{Fills};
 ghost use Rattle.plan_listing.specs.Listing.{section_line, listing, refused_text, too_long};
 

@@ -1,5 +1,7 @@
 // Read (01, "Build, Read"): check looks at the whole file and writes nothing; then, if the buffer is long enough (27),
 // the records are filled in, which cannot fail.
+#![tactic(auto)]
+
 ghost use Rattle.std.specs.Prelude.{◌≡◌};
 ghost use Rattle.eit.specs.Sizes.{sizes_of};
 ghost use Rattle.sections.specs.Read.{read};

@@ -1,4 +1,6 @@
 // What Read says: a case for each cause of 01's table ("When a call says no").
+#![tactic(auto)]
+
 ghost use Rattle.std.specs.Prelude.{◌≡◌};
 ghost use Rattle.eit.specs.Identity.{zero_identity};
 ghost use Rattle.read_answer.specs.Outcome.{answer_number, answer_value, answer_count};

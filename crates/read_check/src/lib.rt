@@ -1,5 +1,7 @@
 // Read without a record buffer (01, "Build, Read", "When a call says no"): check. It looks at every section once, and
 // writes nothing.
+#![tactic(auto)]
+
 ghost use Rattle.std.specs.Prelude.{◌≡◌, List, ℕ};
 ghost use Rattle.eit.specs.Sizes.{sizes_of};
 ghost use Rattle.sections.specs.Read.{at_end, check_file};

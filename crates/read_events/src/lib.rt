@@ -1,4 +1,6 @@
 // A section's event loop: each event, and each beside all that came before (01, "The file of sections").
+#![tactic(auto)]
+
 ghost use Rattle.std.specs.Prelude.{◌≡◌, ◌&&◌, not, [], leb};
 ghost use Rattle.sections.specs.Decode.{stated_event_size};
 ghost use Rattle.sections.specs.Split.{split_by};

@@ -1,6 +1,8 @@
 // The walk over the sections of a file (01, "Build, Read": "The walk is a reader that carries the borrowed file and an
 // offset"). Who walks keeps the file and an offset, reads the section there through `read_section`, and advances
 // through `next_offset` alone. A loop cannot hold the reader itself, so each of the two makes it anew.
+#![tactic(auto)]
+
 ghost use Rattle.std.specs.Prelude.{◌≡◌};
 ghost use Rattle.sections.specs.Decode.{stated_section_size, event_loop};
 ghost use Rattle.read_walk.specs.SectionAt.{section_at, section_end};

@@ -1,5 +1,7 @@
 // Rebuild (02, W-208): the new list's file under the previous service, stream and network, with a version for each
 // table that tells receivers whether the table has changed.
+#![tactic(auto)]
+
 ghost use Rattle.std.specs.Prelude.{◌≡◌};
 ghost use Rattle.eit.specs.Sizes.{sizes_of};
 ghost use Rattle.eit.specs.Pools.{lent_pools};

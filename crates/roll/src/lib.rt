@@ -1,4 +1,6 @@
 // The roll to the next base day (02, W-205), in place. Its refusals in their order: 31, 12.
+#![tactic(auto)]
+
 ghost use Rattle.std.specs.Prelude.{◌≡◌};
 ghost use Rattle.eit.specs.Sizes.{sizes_of};
 ghost use Rattle.eit.specs.Pools.{lent_pools};

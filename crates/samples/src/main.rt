@@ -1,5 +1,7 @@
 // Program samples: the test program of document 01 ("Samples with the cuts marked"), with the samples of document 02,
 // W-206. It carries the samples out by the calls of the library, and prints what they say and how the files are cut.
+#![tactic(auto)]
+
 use libc::{STDERR_FILENO, STDOUT_FILENO};
 
 mod cable;

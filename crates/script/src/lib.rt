@@ -1,1 +1,2 @@
 // Edit as definitions (specs/) and laws (proofs/); no code.
+#![tactic(auto)]
