@@ -49,6 +49,7 @@ use Rattle.schedule.proofs.Demands.{demands_for, demands}
 -- an event is among those that start in its segment
 starts_there : (e : Event) (es : List Event) → Memᴰ e es
     → Memᴰ e (segment_events (segment_index e.start) es)
+starts_there e [] there = elim there [ ]
 starts_there e (d ∷ es) (Memᴰ.head is) =
     subst (λ (fs : List Event). Memᴰ e fs)
     (sym (events_more (segment_index e.start) d es (ap (λ (f : Event). segment_index f.start) (sym is))))
