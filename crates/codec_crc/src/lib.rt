@@ -36,6 +36,7 @@ fn entry(tables: &[u32; CRC_ENTRIES], behind: usize, register: u32, byte: u8) ->
 }
 
 // The register after a block of bytes: each adds the entry that it chooses, and the rest of the register moves up.
+#[tactic(auto, using(crate::proofs::BlockLaws::block_step, crate::proofs::BlockLaws::block_end))]
 fn crc_block(tables: &[u32; CRC_ENTRIES], register: u32, block: &[u8]) -> u32
     requires { length block.now ≤ block_size }
     ensures { result ≡ crc_block tables.now register block.now }

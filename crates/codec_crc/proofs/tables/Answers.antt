@@ -2,12 +2,8 @@
 use Rattle.eit.specs.Crc.{crc_bit, crc_bits}
 use Rattle.eit.proofs.SameList.{same_list_holds}
 use Rattle.codec_crc.specs.CrcTables.{right_crc_tables}
-use Rattle.codec_crc.proofs.tables.Statement.{statement}
-use Rattle.codec_crc.proofs.tables.Tie as tie
+use Rattle.codec_crc.proofs.tables.Goals as goal
 
-returns : tie.Need-returns
+pub returns : goal.returns
 unfolding right_crc_tables crc_bits crc_bit
 returns c = same_list_holds _ _ tt
-
-pub tables-spec : {M : Type 1} → statement M
-tables-spec = tie.close (tie.spec returns)
