@@ -14,7 +14,7 @@ use crate::limits::{EVENTS_MAX, TABLES};
 pub mod limits;
 
 // 01's term: record. Six numbers of the lent list (01, "Event record and sound list").
-#[derive(Drop)]
+#[derive(Clone, Copy)]
 pub struct Record {
     pub id: u32,
     // Seconds after t0.
@@ -29,7 +29,7 @@ pub struct Record {
 }
 
 // What the search for the place of a start gives (02, W-203): the place, and how many records it looked at.
-#[derive(Drop)]
+#[derive(Clone, Copy)]
 pub struct Place {
     pub place: usize,
     pub looked: usize,
@@ -43,7 +43,7 @@ pub fn least_behind(event: Record) -> u64
 }
 
 // A DVB triplet: the ids of a service.
-#[derive(Drop)]
+#[derive(Clone, Copy)]
 pub struct Triplet {
     pub service_id: u16,
     pub transport_stream_id: u16,
@@ -52,7 +52,7 @@ pub struct Triplet {
 
 // 01's term: identity. The ids are the same in every section of a file, a version in every section of its table ("The
 // file of sections"; 02, W-208): versions[0] is that of table 0x50.
-#[derive(Drop)]
+#[derive(Clone, Copy)]
 pub struct Identity {
     pub triplet: Triplet,
     pub versions: [u8; TABLES],
@@ -74,7 +74,7 @@ pub fn zero_identity() -> Identity
 }
 
 // Whom a call serves (02, W-206): it decides the sizes.
-#[derive(Drop)]
+#[derive(Clone, Copy)]
 pub enum Caller {
     Broadcast,
     // The head-end whose multiplexer takes short sections.
@@ -82,7 +82,7 @@ pub enum Caller {
 }
 
 // The two sizes of a caller.
-#[derive(Drop)]
+#[derive(Clone, Copy)]
 pub struct Sizes {
     // The most bytes of a whole section (01, "The file of sections").
     pub section_limit: u16,
@@ -112,7 +112,7 @@ impl Sizes {
 }
 
 // A time of day or a duration, as its six BCD digits show it.
-#[derive(Drop)]
+#[derive(Clone, Copy)]
 pub struct Time {
     pub hours: u8,
     pub minutes: u8,
