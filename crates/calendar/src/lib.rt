@@ -4,7 +4,7 @@
 ghost use Rattle.std.specs.Prelude.{◌≡◌, ◌≤◌};
 ghost use Rattle.calendar.specs.Date.{first_day, last_day, date_within, date_of};
 
-#[derive(Drop)]
+#[derive(Clone, Copy)]
 pub struct Date {
     pub year: u32,
     // 1 to 12.
@@ -13,7 +13,7 @@ pub struct Date {
     pub day: u32,
 }
 
-#[derive(Drop)]
+#[derive(Clone, Copy)]
 pub enum Dated {
     On(Date),
     // A day before 1900-03-01 or after 2100-02-28, where the annex does not hold.

@@ -5,7 +5,7 @@
 ghost use Rattle.std.specs.Prelude.{◌≡◌};
 ghost use Rattle.edit_answer.specs.Outcome.{answer_number, answer_value};
 
-#[derive(Drop)]
+#[derive(Clone, Copy)]
 pub enum EditAnswer {
     // The edits are carried out.
     Done,
@@ -28,7 +28,7 @@ pub enum EditAnswer {
 }
 
 // The answer, and the count then held.
-#[derive(Drop)]
+#[derive(Clone, Copy)]
 pub struct Edited {
     pub answer: EditAnswer,
     pub count: usize,

@@ -7,7 +7,7 @@ ghost use Rattle.read_answer.specs.Outcome.{answer_number, answer_value, answer_
 
 use eit::Identity;
 
-#[derive(Drop)]
+#[derive(Clone, Copy)]
 pub enum ReadAnswer {
     // The file is accepted; the number of its events.
     Done(usize),
@@ -32,7 +32,7 @@ pub enum ReadAnswer {
 }
 
 // What check and Read return: the answer, and the identity of a file that is accepted; a refusal has identity 0.
-#[derive(Drop)]
+#[derive(Clone, Copy)]
 pub struct ReadResult {
     pub answer: ReadAnswer,
     pub identity: Identity,
