@@ -9,6 +9,7 @@ use eit::Record;
 use list_records::records;
 
 // Whether two events overlap: each starts before the other ends.
+#[tactic(auto, using(crate::proofs::NeighbourLaws::overlap_not, crate::proofs::NeighbourLaws::overlap_if))]
 fn overlap(one: Record, other: Record) -> bool
     ensures { result ≡ overlap one other }
 {

@@ -25,6 +25,7 @@ pub fn slot_at(order: &[u64], i: usize) -> u16
 }
 
 // Sets the order to the slots from 0 on, all free.
+#[tactic(auto, using(crate::proofs::OrderLaws::number_step))]
 pub fn number_slots(order: &mut [u64])
     ensures { order.new ≡ slots_from 0 (length order.old) }
 {

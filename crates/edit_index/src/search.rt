@@ -19,6 +19,7 @@ pub struct Places {
 }
 
 // How many entries stand before the first whose start is later.
+#[tactic(auto, using(crate::proofs::SearchLaws::pass_none, crate::proofs::SearchLaws::pass_later, crate::proofs::SearchLaws::pass_one, crate::proofs::SearchLaws::pass_all))]
 fn passed_in(entries: &[u64], start: u32) -> usize
     ensures { result ≡ passed_of start entries.now }
 {
