@@ -1,0 +1,11 @@
+-- Before each turn the pass stands as `Pass` says. The measure is the records left.
+use Rattle.std.proofs.Common.{◌-◌}
+use Rattle.eit.specs.Pools.{lent_pools}
+use Rattle.list_sound.proofs.PassLaws.{Pass}
+use Rattle.list_sound.proofs.is_sound.Given as goal
+
+abbrev pub invariant-loop-i : goal.invariant-loop-i
+invariant-loop-i l = Pass (lent_pools l.day l.series) l.list l.count l.seen l.least l.i
+
+abbrev pub decreases-loop-i : goal.decreases-loop-i
+decreases-loop-i l = l.count - l.i
