@@ -12,7 +12,7 @@ use eit::Record;
 use eit::limits::EVENT_OVERHEAD;
 
 // What bytes show from an event's first byte on.
-#[derive(Drop)]
+#[derive(Clone, Copy)]
 pub enum EventRead {
     // An event that keeps the rules, its segment aside; the chain's offset is from the event's first byte.
     Whole(Record),

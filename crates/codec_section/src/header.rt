@@ -10,7 +10,7 @@ use eit::Triplet;
 use eit::limits::HEADER_SIZE;
 
 // What stands before a section's events, but for section_length and the fixed bits.
-#[derive(Drop)]
+#[derive(Clone, Copy)]
 pub struct SectionHeader {
     pub table_id: u8,
     pub section_number: u8,
@@ -22,7 +22,7 @@ pub struct SectionHeader {
 }
 
 // What the front of a section shows.
-#[derive(Drop)]
+#[derive(Clone, Copy)]
 pub enum HeaderRead {
     Header(SectionHeader),
     // Fewer bytes than a header has.

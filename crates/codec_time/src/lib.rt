@@ -13,7 +13,7 @@ use eit::Time;
 use eit::limits::SECONDS_OF_DAY;
 
 // What the bytes of a time show.
-#[derive(Drop)]
+#[derive(Clone, Copy)]
 pub enum TimeRead {
     Seconds(u32),
     // Bytes that are truncated, or that break a rule of what is read.
