@@ -15,7 +15,7 @@ use list_records::records::RECORD_SIZE;
 mod next_day;
 
 // What a roll says.
-#[derive(Drop)]
+#[derive(Clone, Copy)]
 pub enum RollAnswer {
     // The list is that of the next base day.
     Done,
@@ -26,7 +26,7 @@ pub enum RollAnswer {
 }
 
 // The answer, and the count and the base day then held.
-#[derive(Drop)]
+#[derive(Clone, Copy)]
 pub struct Rolled {
     pub answer: RollAnswer,
     pub count: usize,
