@@ -17,7 +17,7 @@ use eit::Record;
 use eit::limits::EVENT_OVERHEAD;
 
 // What the check of an event loop has found.
-#[derive(Drop)]
+#[derive(Clone, Copy)]
 pub struct EventCheck {
     // Whether 24 passes.
     pub keeps_rules: bool,
