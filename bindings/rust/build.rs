@@ -1,4 +1,4 @@
-//! Links libchirdaluko.a, from the folder that CHIRDALUKO_LIB_DIR names, or from where `rt staticlib chirdaluko` puts
+//! Links libchirdaluko.a, from the folder that CHIRDALUKO_LIB_DIR names, or from where `bash bindings/library` puts
 //! it.
 
 use std::env;
@@ -20,7 +20,7 @@ fn main() {
     let library = folder.join("libchirdaluko.a");
     println!("cargo:rerun-if-changed={}", library.display());
     if !library.is_file() {
-        let make = "`rt staticlib chirdaluko` in the project's folder makes target/staticlib/libchirdaluko.a";
+        let make = "`bash bindings/library` in the project's folder makes target/staticlib/libchirdaluko.a";
         fail(&format!("{} is not there: {make}; {VARIABLE} names another folder that has it", library.display()));
     }
     println!("cargo:rustc-link-search=native={}", folder.display());
