@@ -12,7 +12,7 @@ use eit::Sizes;
 use eit::limits::{SECTION_OVERHEAD, SEGMENT_SECTIONS_MAX, SEGMENTS};
 
 // The sections of a segment, 255 if it is unpackable, and their bytes; of an unpackable one those of its first eight.
-#[derive(Drop)]
+#[derive(Clone, Copy)]
 pub struct Packed {
     pub sections: u8,
     pub bytes: usize,
@@ -20,7 +20,7 @@ pub struct Packed {
 
 // What Build asks of a list before it writes: whether it is sound; Plan's count of each segment; the lowest segment
 // that is unpackable, 512 if none is; and the bytes that the file needs, which mean nothing if one is.
-#[derive(Drop)]
+#[derive(Clone, Copy)]
 pub struct Counted {
     pub is_sound: bool,
     pub counts: [u8; SEGMENTS],

@@ -13,7 +13,7 @@ use eit::limits::EVENT_OVERHEAD;
 use list_records::records;
 
 // The place behind the events that a section takes, and the bytes of these events.
-#[derive(Drop)]
+#[derive(Clone, Copy)]
 pub struct Cut {
     pub to: usize,
     pub bytes: usize,
