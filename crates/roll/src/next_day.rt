@@ -10,6 +10,7 @@ use list_records::records;
 
 // Moves the records that do not start on the first day to the front, each a day earlier, and returns how many they are.
 // A record goes to its own place or to one that was looked at before, so none is lost.
+#[tactic(auto, using(crate::proofs::KeepLaws::kept_stays, crate::proofs::KeepLaws::kept_leaves))]
 pub fn keep_later(list: &mut [u32], count: usize) -> usize
     requires { count * record_size ≤ length list.old }
     ensures { (result ≡ length (next_day (records_in count list.old)))
