@@ -12,7 +12,7 @@ use codec_section::{header, version};
 use eit::Triplet;
 
 // The header of the section before.
-#[derive(Drop)]
+#[derive(Clone, Copy)]
 pub enum HeaderBefore {
     Header(SectionHeader),
     // No section stands before the first one.
@@ -20,7 +20,7 @@ pub enum HeaderBefore {
 }
 
 // What 22 finds of a section.
-#[derive(Drop)]
+#[derive(Clone, Copy)]
 pub enum HeaderCheck {
     // It passes, and this is its header.
     Header(SectionHeader),

@@ -70,6 +70,7 @@ fn is_next(before: HeaderBefore, header: SectionHeader) -> bool
 }
 
 // 23: the section's numbers, how they follow those before, and no table past last_table_id.
+#[tactic(auto, unfolding(sections::specs::HeaderTests::has_right_numbering))]
 pub fn has_right_numbering(before: HeaderBefore, header: SectionHeader) -> bool
     ensures { result ≡ has_right_numbering (header_before before) (held_header header) }
 {
