@@ -2,7 +2,7 @@
 #![tactic(auto)]
 
 // How far such a pass has come.
-#[derive(Drop)]
+#[derive(Clone, Copy)]
 pub struct Filling {
     // Whether all elements so far are held.
     pub held: bool,
