@@ -1,9 +1,7 @@
 -- `move_to` meets its contract: each return by its own law of MoveLaws, from what the callees ensure. Assumes nothing.
-use Rattle.std.proofs.Common.{◌≡◌, [], take, refl, arith}
+use Rattle.std.proofs.Common.{[], refl, arith}
 use mathlib.Core.Path.{sym, ap, ◌∙◌}
-use Rattle.eit.specs.Placing.{placing}
 use Rattle.eit.specs.Sizes.{broadcast}
-use Rattle.edit_index.specs.Order.{starts_in}
 use Rattle.edit_index.specs.declared.search.Places.{Places}
 use Rattle.edit.proofs.IndexedLaws.{its_place}
 use Rattle.edit.proofs.MoveLaws.{move_outside, move_absent, move_overlaps, move_goes}

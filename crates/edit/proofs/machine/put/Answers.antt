@@ -1,8 +1,6 @@
 -- `put` meets its contract: each return by its own law of PutLaws, from what the callees ensure. Assumes nothing.
-use Rattle.std.proofs.Common.{◌≡◌, true, arith}
+use Rattle.std.proofs.Common.{arith}
 use mathlib.Core.Path.{sym, ◌∙◌}
-use Rattle.eit.specs.Pools.{lent_pools}
-use Rattle.eit.specs.Sound.{in_range, has_chain}
 use Rattle.edit.proofs.PutLaws.{put_outside, put_unchained, put_present, put_overlaps, put_full, put_goes_in}
 use Rattle.edit.proofs.machine.put.Goals as goal
 
