@@ -20,7 +20,7 @@ mod longest;
 mod places;
 
 // What the call says.
-#[derive(Drop)]
+#[derive(Clone, Copy)]
 pub enum RoomAnswer {
     // One more event fits, with a chain of so many bytes at most.
     Fits(u32),
