@@ -12,14 +12,14 @@ use read_checks::header::{HeaderBefore, HeaderCheck};
 use read_checks::{frame, header, numbering};
 
 // What is known before a section: the header before it, the least start of the next event, and the events so far.
-#[derive(Drop)]
+#[derive(Clone, Copy)]
 pub struct WalkState {
     pub before: HeaderBefore,
     pub least: u64,
     pub count: usize,
 }
 
-#[derive(Drop)]
+#[derive(Clone, Copy)]
 pub enum SectionVerdict {
     // What is known behind the section.
     Passed(WalkState),
