@@ -24,7 +24,7 @@ use Rattle.sections.specs.Decode.{split_file}
 use Rattle.sections.specs.Rules.{Succeeding, Ordered, SectionRules, Rules}
 use Rattle.sections.specs.Exact.{ZeroWhereAbsent}
 use Rattle.sections.proofs.Each.{each_within}
-use Rattle.sections.proofs.Version.{version_of}
+use Rattle.sections.proofs.Version.{version_of_holds}
 use Rattle.sections.proofs.Lengths.{section_length}
 use Rattle.sections.proofs.SectionBack.{section_header}
 use Rattle.sections.proofs.Exact.{legal_file, split_file_back}
@@ -162,5 +162,5 @@ module _ (sizes : Sizes) (length_fits : sizes.section_limit ≤ 4_096) (identity
         (λ table low high.
         ap (λ (version : ℕ). next_by version (flatten (table_sections table previous))
         (flatten (table_sections table file)))
-        (sym (version_of identity table))
+        (sym (version_of_holds identity table))
         ∙ next_table_version table low)

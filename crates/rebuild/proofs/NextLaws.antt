@@ -160,3 +160,20 @@ module _ (previous file versions : List ℕ) where
       ∙ sym (each_at f 0 table_first tables k (omega arith)
       ∙ ap (λ (j : ℕ). next_by (get_or versions j 0) (flatten (table_sections (table_first + k) previous))
       (flatten (table_sections (table_first + k) file))) back))
+
+-- ---- a turn
+
+-- what holds where tables come in their order
+pub record InOrder (previous file versions next : List ℕ) (previous_at at table : ℕ) : Type 0 where
+  pub old : Reached previous (table_first + table) previous_at
+  pub new : Reached file (table_first + table) at
+  pub so_far : VersionsTo previous file versions table next
+
+-- and what holds in any case
+pub record Turn (previous file versions next : List ℕ) (previous_at at table : ℕ) : Type 0 where
+  pub few : table ≤ tables
+  pub old_inside : previous_at ≤ length previous
+  pub new_inside : at ≤ length file
+  pub long : length next ≡ tables
+  pub in_order : RisingFrom table_first (split_file previous) → RisingFrom table_first (split_file file)
+      → InOrder previous file versions next previous_at at table

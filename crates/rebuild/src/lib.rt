@@ -16,7 +16,7 @@ use read_answer::ReadAnswer;
 mod tables;
 
 // What Rebuild says.
-#[derive(Drop)]
+#[derive(Clone, Copy)]
 pub enum RebuildAnswer {
     // Read refuses the previous file.
     Previous(ReadAnswer),
