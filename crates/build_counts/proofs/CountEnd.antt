@@ -21,7 +21,7 @@ use Rattle.eit.proofs.Test.{true_is, false_is, test_or}
 use Rattle.sections.specs.Every.{Every}
 use Rattle.sections.specs.Section.{section_sizes}
 use Rattle.sections.proofs.Every.{every_map}
-use Rattle.sections.specs.Each.{each, lowest}
+use Rattle.sections.specs.Each.{each}
 use Rattle.schedule.specs.SectionsOf.{is_unpackable, lowest_unpackable}
 use Rattle.schedule.specs.Plan.{section_count, plan}
 use Rattle.sections.proofs.Each.{each_length, each_at}

@@ -1,13 +1,12 @@
 -- `codec_section::event::write_event` meets its contract: five writes, one behind the other, are one. Assumes nothing.
 use Rattle.std.proofs.Common.{ℕ, ◌+◌, ◌≤◌, length, sym, ap, arith}
 use mathlib.Core.Bool.{not}
-use Rattle.eit.specs.Pools.{marks_free_ca, marks_off_air}
 use Rattle.eit.specs.Events.{event_with}
 use Rattle.sections.specs.Section.{event_overhead}
 use Rattle.sections.specs.Encode.{event_bytes}
 use Rattle.sections.proofs.Lengths.{event_length}
 use Rattle.codec.proofs.WriteLaws.{is_inside_holds, is_outside, write_short}
-use Rattle.codec_section.proofs.EventWriteLaws.{status_bits_small, event_written}
+use Rattle.codec_section.proofs.EventWriteLaws.{event_written}
 use Rattle.codec_section.proofs.event.write_event.Goals as goal
 
 pub returns-then-not-is_within : goal.returns-then-not-is_within

@@ -1,6 +1,5 @@
 -- `codec_section::header::byte_at` meets its contract: a field of one byte is read whole, and fits. Assumes nothing.
-use Rattle.std.proofs.Common.{◌≡◌, ◌^◌, ◌<◌, arith}
-use Rattle.eit.specs.Fields.{field}
+use Rattle.std.proofs.Common.{arith}
 use Rattle.eit.proofs.Fields.{bytes_all}
 use Rattle.codec.proofs.FieldLaws.{field_read}
 use Rattle.codec_section.proofs.header.byte_at.Goals as goal
