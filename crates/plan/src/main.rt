@@ -9,7 +9,7 @@ ghost use Rattle.plan.specs.PlanText.{list_text, text_within, plan_text, text_ma
 ghost use Rattle.plan.specs.Reading.{is_read_into};
 
 use eit::Caller;
-use libc::{STDERR_FILENO, STDIN_FILENO, STDOUT_FILENO};
+use std::io::Read;
 
 // Bytes of a script at most, numbers of the list's buffer, and bytes of the output and of the text.
 const SCRIPT_MAX: usize = 65_536;
@@ -87,16 +87,14 @@ enum Input {
 }
 
 // Reads on until the input ends or the buffer is full.
-fn read_input(buffer: &mut [u8]) -> Input
+fn read_input<R: Read>(input: &mut R, buffer: &mut [u8]) -> Input
     ensures { is_read_into result buffer.new }
 {
     let mut n = 0;
     while n < buffer.len() {
-        let got = libc::read(STDIN_FILENO, &mut buffer[n..]);
-        if got < 0 {
+        let Ok(more) = input.read(&mut buffer[n..]) else {
             return Input::Failed;
-        }
-        let more = io::count(got, &buffer[n..]);
+        };
         if more == 0 {
             return Input::Bytes(n);
         }
@@ -105,15 +103,15 @@ fn read_input(buffer: &mut [u8]) -> Input
     Input::Bytes(n)
 }
 
-fn main() {
+fn main(rt: HostRuntime) {
     let mut script = [0u8; SCRIPT_MAX + 1];
-    let Input::Bytes(size) = read_input(&mut script) else {
-        io::write_all(STDERR_FILENO, b"plan: standard input cannot be read\n");
+    let Input::Bytes(size) = read_input(&mut rt.stdin(), &mut script) else {
+        let _ = rt.eprintln("plan: standard input cannot be read");
         return;
     };
     let mut text = [0u8; TEXT_SIZE];
     let n = plan_text(&script[..size], &mut text);
-    if !io::write_all(STDOUT_FILENO, &text[..n]) {
-        io::write_all(STDERR_FILENO, b"plan: standard output cannot be written\n");
+    if rt.write_all(&text[..n]).is_err() {
+        let _ = rt.eprintln("plan: standard output cannot be written");
     }
 }
