@@ -1,22 +1,11 @@
 -- `check_events` meets its contract: each way on or out is decided by the tests of the event there. Assumes nothing.
-use mathlib.Core.List.{List}
-use mathlib.Core.Path.{◌≡◌, sym, ap, ◌∙◌}
-use Prim.Native.Nat.{ℕ, ◌-◌}
+use mathlib.Core.Path.{sym, ◌∙◌}
 use borrow.Author.Tests.{lt-ltb}
-use lib.ListN.{length, take, drop}
-use Rattle.codec.proofs.FieldLaws.{rest_whole}
-use Rattle.codec_section.specs.EventRead.{event_read}
-use Rattle.codec_section.specs.declared.event.EventRead.{EventRead}
+use Rattle.read_events.proofs.EventWalkLaws.{rest_read}
 use Rattle.read_events.proofs.EventPassLaws.{pass_broken, pass_stop, pass_more, pass_end, filled_some, filled_none}
 use Rattle.read_events.proofs.check_events.Goals as goal
 use Rattle.read_events.proofs.check_events.Goals.{then-not-is_in_segment-via-then-not-is_in_segment}
 use Rattle.read_events.proofs.check_events.Goals.{then-not-is_in_segment-via-else-not-is_in_segment+then-not-is_new}
-
--- what was read is the event at the front of the rest
-rest_read : (base : ℕ) (events : List ℕ) (at : ℕ) {read shown : EventRead}
-    → read ≡ event_read base (take (length events - at) (drop at events)) → read ≡ shown
-    → event_read base (drop at events) ≡ shown
-rest_read base events at reads is = sym (ap (event_read base) (rest_whole events at)) ∙ sym reads ∙ is
 
 pub returns-in_default : goal.returns-in_default
 returns-in_default c =
