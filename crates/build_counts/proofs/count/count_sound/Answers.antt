@@ -20,7 +20,7 @@ overflow_add-need c =
     let rises = sound_rises _ _ _ _ day series c.requires in
     let narrow : room c.args.sizes < 0x1_0000 = omega (arith, c.room_of.ensures) in
     let bounded =
-    need_small _ _ _ _ rises head.invariant c.loop-index-test.true
+    need_small _ _ _ _ rises head.invariant (omega arith)
     (sym (c.is_inside.ensures pools) ∙ c.if-is_inside.true)
     c.end_of-end.result (c.end_of-end.ensures pools) c.room_of.result c.room_of.ensures narrow
     c.count_segment-packed.result c.count_segment-packed.ensures in
@@ -34,7 +34,7 @@ loop-index-preserved c =
     let series = bytes_all pools.series (λ k. (c.type_inv.series k).fits) in
     let rises = sound_rises _ _ _ _ day series c.requires in
     let tested = sym (c.is_inside.ensures pools) in
-    let few = c.loop-index-test.true in
+    let few : head.index < 512 = omega arith in
     elim c.if-is_inside.branch [
       | then-is_inside+then-packed+then-lowest-eq-SEGMENTS w ↦
           let narrow : room c.args.sizes < 0x1_0000 = omega (arith, w.room_of.ensures) in
