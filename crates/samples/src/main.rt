@@ -2,7 +2,7 @@
 // W-206. It carries the samples out by the calls of the library, and prints what they say and how the files are cut.
 #![tactic(auto)]
 
-use libc::{STDERR_FILENO, STDOUT_FILENO};
+use std::io;
 
 mod cable;
 mod lists;
@@ -10,31 +10,33 @@ mod others;
 mod paper;
 mod rows;
 
-fn main() {
+// All samples, one after the other. A line that cannot be written ends them.
+fn show_all(rt: &impl Print) -> io::Result<()> {
     samples_report::lines::print(
+        rt,
         b"The samples of document 01, and others, by the library's calls\n",
-    );
-    paper::times();
-    paper::segments();
-    paper::no_events();
-    paper::chains();
-    paper::pairs();
-    paper::many();
-    paper::undo();
-    paper::program();
-    others::rule_four();
-    others::rule_eight();
-    others::crc();
-    others::days();
-    cable::chains();
-    cable::many();
-    cable::most();
-    cable::exchanged();
-    // Where lines could not be written, this one cannot, either.
-    if !io::write_all(STDOUT_FILENO, b"\nend\n") {
-        io::write_all(
-            STDERR_FILENO,
-            b"samples: standard output cannot be written\n",
-        );
+    )?;
+    paper::times(rt)?;
+    paper::segments(rt)?;
+    paper::no_events(rt)?;
+    paper::chains(rt)?;
+    paper::pairs(rt)?;
+    paper::many(rt)?;
+    paper::undo(rt)?;
+    paper::program(rt)?;
+    others::rule_four(rt)?;
+    others::rule_eight(rt)?;
+    others::crc(rt)?;
+    others::days(rt)?;
+    cable::chains(rt)?;
+    cable::many(rt)?;
+    cable::most(rt)?;
+    cable::exchanged(rt)?;
+    samples_report::lines::print(rt, b"\nend\n")
+}
+
+fn main(rt: HostRuntime) {
+    if show_all(&rt).is_err() {
+        let _ = rt.eprintln("samples: standard output cannot be written");
     }
 }

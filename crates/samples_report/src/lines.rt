@@ -4,40 +4,40 @@ ghost use Rattle.std.specs.Prelude.{◌≤◌};
 use calendar::Dated;
 use codec::fields;
 use eit::limits::TABLE_SEGMENTS;
-use libc::STDOUT_FILENO;
 use plan_listing::events;
+use std::io;
 
-pub fn print(text: &[u8]) {
-    io::write_all(STDOUT_FILENO, text);
+pub fn print(rt: &impl Print, text: &[u8]) -> io::Result<()> {
+    rt.write_all(text)
 }
 
 // A number in decimal.
-pub fn print_number(n: usize) {
-    io::print_decimal(STDOUT_FILENO, n as u64);
+pub fn print_number(rt: &impl Print, n: usize) -> io::Result<()> {
+    rt.print(n)
 }
 
 // A number behind a space.
-fn print_next(n: usize) {
-    print(b" ");
-    print_number(n);
+fn print_next(rt: &impl Print, n: usize) -> io::Result<()> {
+    print(rt, b" ")?;
+    print_number(rt, n)
 }
 
 // A heading, behind an empty line.
-pub fn print_heading(heading: &[u8]) {
-    print(b"\n");
-    print(heading);
-    print(b"\n");
+pub fn print_heading(rt: &impl Print, heading: &[u8]) -> io::Result<()> {
+    print(rt, b"\n")?;
+    print(rt, heading)?;
+    print(rt, b"\n")
 }
 
 // What a call says: its value, or the number of its refusal and the value.
-pub fn print_answer(call: &[u8], number: u32, value: usize) {
-    print(call);
+pub fn print_answer(rt: &impl Print, call: &[u8], number: u32, value: usize) -> io::Result<()> {
+    print(rt, call)?;
     if number != 0 {
-        print(b" refused");
-        print_next(number as usize);
+        print(rt, b" refused")?;
+        print_next(rt, number as usize)?;
     }
-    print_next(value);
-    print(b"\n");
+    print_next(rt, value)?;
+    print(rt, b"\n")
 }
 
 fn hex_digit(n: u8) -> u8 {
@@ -51,41 +51,45 @@ fn hex_digit(n: u8) -> u8 {
 }
 
 // Bytes in hexadecimal, each behind a space, and a newline.
-pub fn print_bytes(bytes: &[u8]) {
+pub fn print_bytes(rt: &impl Print, bytes: &[u8]) -> io::Result<()> {
     let mut i = 0;
     while i < bytes.len() {
-        print(&[b' ', hex_digit(bytes[i] / 16), hex_digit(bytes[i] % 16)]);
+        print(
+            rt,
+            &[b' ', hex_digit(bytes[i] / 16), hex_digit(bytes[i] % 16)],
+        )?;
         i += 1;
     }
-    print(b"\n");
+    print(rt, b"\n")
 }
 
 // A field of one byte, behind a space.
-fn print_field(section: &[u8], at: usize) {
-    print_next(fields::read_field(section, at, 1) as usize);
+fn print_field(rt: &impl Print, section: &[u8], at: usize) -> io::Result<()> {
+    print_next(rt, fields::read_field(section, at, 1) as usize)
 }
 
 // The line of a section: offset, table_id, section_number, segment_last_section_number, last_section_number, number of
 // events.
-fn print_cut(offset: usize, section: &[u8]) {
-    print_number(offset);
-    print_field(section, 0);
-    print_field(section, 6);
-    print_field(section, 12);
-    print_field(section, 7);
-    print_next(events::count_events(section));
-    print(b"\n");
+fn print_cut(rt: &impl Print, offset: usize, section: &[u8]) -> io::Result<()> {
+    print_number(rt, offset)?;
+    print_field(rt, section, 0)?;
+    print_field(rt, section, 6)?;
+    print_field(rt, section, 12)?;
+    print_field(rt, section, 7)?;
+    print_next(rt, events::count_events(section))?;
+    print(rt, b"\n")
 }
 
 // The cuts of a file.
-pub fn print_cuts(file: &[u8]) {
-    print(b"offset table section segment_last last events\n");
+pub fn print_cuts(rt: &impl Print, file: &[u8]) -> io::Result<()> {
+    print(rt, b"offset table section segment_last last events\n")?;
     let mut offset = 0;
     while offset < file.len() {
         let section = read_walk::read_section(file, offset);
-        print_cut(offset, section);
+        print_cut(rt, offset, section)?;
         offset = read_walk::next_offset(file, offset);
     }
+    Ok(())
 }
 
 // How many counts there are up to the last that is not 0.
@@ -100,47 +104,51 @@ fn range_of(counts: &[u8; TABLE_SEGMENTS]) -> usize
 }
 
 // A count, behind a space.
-fn print_count(count: u8) {
-    print_next(count as usize);
+fn print_count(rt: &impl Print, count: u8) -> io::Result<()> {
+    print_next(rt, count as usize)
 }
 
 // Plan's line of a table, where it has sections.
-pub fn print_counts(table_id: usize, counts: &[u8; TABLE_SEGMENTS]) {
+pub fn print_counts(
+    rt: &impl Print,
+    table_id: usize,
+    counts: &[u8; TABLE_SEGMENTS],
+) -> io::Result<()> {
     let n = range_of(counts);
     if n == 0 {
-        return;
+        return Ok(());
     }
-    print(b"plan");
-    print_next(table_id);
+    print(rt, b"plan")?;
+    print_next(rt, table_id)?;
     let mut i = 0;
     while i < n {
-        print_count(counts[i]);
+        print_count(rt, counts[i])?;
         i += 1;
     }
-    print(b"\n");
+    print(rt, b"\n")
 }
 
 // A number of two digits, behind a hyphen.
-fn print_two(n: u32) {
+fn print_two(rt: &impl Print, n: u32) -> io::Result<()> {
     if n < 10 {
-        print(b"-0");
+        print(rt, b"-0")?;
     } else {
-        print(b"-");
+        print(rt, b"-")?;
     }
-    print_number(n as usize);
+    print_number(rt, n as usize)
 }
 
 // The date of a day.
-pub fn print_date(mjd: u32) {
-    print(b"MJD");
-    print_next(mjd as usize);
+pub fn print_date(rt: &impl Print, mjd: u32) -> io::Result<()> {
+    print(rt, b"MJD")?;
+    print_next(rt, mjd as usize)?;
     match calendar::date_of(mjd) {
         Dated::On(date) => {
-            print_next(date.year as usize);
-            print_two(date.month);
-            print_two(date.day);
+            print_next(rt, date.year as usize)?;
+            print_two(rt, date.month)?;
+            print_two(rt, date.day)?;
         }
-        Dated::Outside => print(b" outside"),
+        Dated::Outside => print(rt, b" outside")?,
     }
-    print(b"\n");
+    print(rt, b"\n")
 }

@@ -4,6 +4,7 @@ ghost use Rattle.std.specs.Prelude.{◌≡◌, ◌≤◌, length};
 use crate::lines;
 use eit::limits::{SEGMENTS, TABLE_FIRST, TABLE_SEGMENTS, TABLES};
 use eit::{Caller, Identity, Triplet};
+use std::io;
 
 // 1993-10-13.
 const BASE_DAY: u32 = 49_273;
@@ -53,41 +54,52 @@ pub fn build_list<'a>(
 }
 
 // Build of what Read returned, with the file as day pool.
-fn show_again(caller: Caller, records: &[u32], count: usize, identity: Identity, file: &[u8]) {
+fn show_again(
+    rt: &impl Print,
+    caller: Caller,
+    records: &[u32],
+    count: usize,
+    identity: Identity,
+    file: &[u8],
+) -> io::Result<()> {
     let mut again = [0u8; FILE_SIZE];
     let built = build_list(caller, records, count, file, b"", identity, &mut again);
     let size = built.value;
-    if built.number == 0 && check::same(&again[..size], file) {
-        lines::print(b"built again: the same file\n");
+    if built.number == 0 && &again[..size] == file {
+        lines::print(rt, b"built again: the same file\n")?;
     } else {
-        lines::print(b"built again: another file\n");
+        lines::print(rt, b"built again: another file\n")?;
     }
+    Ok(())
 }
 
 // A file: check, Read, and Build of what Read returned.
-pub fn show_file(caller: Caller, file: &[u8]) {
+pub fn show_file(rt: &impl Print, caller: Caller, file: &[u8]) -> io::Result<()> {
     let checked = read_check::check(caller, file, BASE_DAY);
     let verdict = checked.answer;
     lines::print_answer(
+        rt,
         b"check",
         read_answer::number_of(verdict),
         read_answer::value_of(verdict),
-    );
+    )?;
     let mut records = [0u32; LIST_SIZE];
     let reading = read::read(caller, file, BASE_DAY, &mut records);
     let answer = reading.answer;
     let number = read_answer::number_of(answer);
-    lines::print_answer(b"read", number, read_answer::value_of(answer));
+    lines::print_answer(rt, b"read", number, read_answer::value_of(answer))?;
     if number == 0 {
         let identity = reading.identity;
         show_again(
+            rt,
             caller,
             &records,
             read_answer::count_of(answer),
             identity,
             file,
-        );
+        )?;
     }
+    Ok(())
 }
 
 // Whether Plan says 254 of every segment: the list is unsound.
@@ -100,55 +112,85 @@ fn is_unsound(tables: [[u8; TABLE_SEGMENTS]; TABLES]) -> bool {
 }
 
 // Plan's counts.
-fn show_plan<'a>(caller: Caller, list: &[u32], count: usize, day: &'a [u8], series: &'a [u8]) {
+fn show_plan<'a>(
+    rt: &impl Print,
+    caller: Caller,
+    list: &[u32],
+    count: usize,
+    day: &'a [u8],
+    series: &'a [u8],
+) -> io::Result<()> {
     let tables = build::plan(caller, list, count, day, series);
     if is_unsound(tables) {
-        lines::print(b"plan 254 in every entry\n");
-        return;
+        lines::print(rt, b"plan 254 in every entry\n")?;
+        return Ok(());
     }
     let mut i = 0;
     while i < TABLES {
         let counts = tables[i];
-        lines::print_counts(TABLE_FIRST + i, &counts);
+        lines::print_counts(rt, TABLE_FIRST + i, &counts)?;
         i += 1;
     }
+    Ok(())
 }
 
 // A list: Build, Plan, and the file with its cuts.
-pub fn show_list<'a>(caller: Caller, list: &[u32], count: usize, day: &'a [u8], series: &'a [u8]) {
+pub fn show_list<'a>(
+    rt: &impl Print,
+    caller: Caller,
+    list: &[u32],
+    count: usize,
+    day: &'a [u8],
+    series: &'a [u8],
+) -> io::Result<()> {
     let mut file = [0u8; FILE_SIZE];
     let built = build_list(caller, list, count, day, series, identity(), &mut file);
     let size = built.value;
-    lines::print_answer(b"build", built.number, size);
-    show_plan(caller, list, count, day, series);
+    lines::print_answer(rt, b"build", built.number, size)?;
+    show_plan(rt, caller, list, count, day, series)?;
     if built.number == 0 {
         let made = &file[..size];
-        lines::print_cuts(made);
-        show_file(caller, made);
+        lines::print_cuts(rt, made)?;
+        show_file(rt, caller, made)?;
     }
+    Ok(())
 }
 
 // A script on an empty list.
-pub fn show_script<'a>(caller: Caller, script: &[u8], day: &'a [u8], series: &'a [u8]) {
+pub fn show_script<'a>(
+    rt: &impl Print,
+    caller: Caller,
+    script: &[u8],
+    day: &'a [u8],
+    series: &'a [u8],
+) -> io::Result<()> {
     let mut list = [0u32; LIST_SIZE];
     let edited = edit::edit(caller, &mut list, 0, day, series, script);
     let answer = edited.answer;
     let count = edited.count;
     let number = edit_answer::number_of(answer);
-    lines::print_answer(b"edit", number, edit_answer::value_of(answer, count));
+    lines::print_answer(rt, b"edit", number, edit_answer::value_of(answer, count))?;
     if number == 0 {
-        show_list(caller, &list, count, day, series);
+        show_list(rt, caller, &list, count, day, series)?;
     }
+    Ok(())
 }
 
 // Bytes of the file that a script without descriptors gives, where it has them.
-pub fn show_bytes(caller: Caller, script: &[u8], from: usize, to: usize) {
+pub fn show_bytes(
+    rt: &impl Print,
+    caller: Caller,
+    script: &[u8],
+    from: usize,
+    to: usize,
+) -> io::Result<()> {
     let mut list = [0u32; LIST_SIZE];
     let edited = edit::edit(caller, &mut list, 0, b"", b"", script);
     let mut file = [0u8; FILE_SIZE];
     build_list(caller, &list, edited.count, b"", b"", identity(), &mut file);
     if from <= to && to <= FILE_SIZE {
-        lines::print(b"bytes");
-        lines::print_bytes(&file[from..to]);
+        lines::print(rt, b"bytes")?;
+        lines::print_bytes(rt, &file[from..to])?;
     }
+    Ok(())
 }
