@@ -14,6 +14,7 @@ use read_answer::{ReadAnswer, ReadResult};
 mod fill;
 
 // 01's Read: answer, identity, count and every number of the record buffer are those of the definition.
+#[tactic(auto, using(crate::proofs::AnswerLaws::read_stops))]
 pub fn read(caller: Caller, file: &[u8], base_day: u32, records: &mut [u32]) -> ReadResult
     ensures { read (sizes_of caller) base_day file.now records.old
         ≡ read_outcome result records.new }

@@ -16,6 +16,7 @@ pub fn is_table(table_id: u32) -> bool
 }
 
 // 20: the section is not truncated, and its table_id and its length are in range.
+#[tactic(auto, unfolding(sections::specs::HeaderTests::is_framed))]
 pub fn is_framed(section: &[u8], sizes: Sizes) -> bool
     ensures { result ≡ is_framed sizes section.now }
 {
