@@ -26,6 +26,10 @@ next_length : (rs : List Record) → length (next_day rs) ≤ length rs
 unfolding next_day
 next_length rs = counted_length seconds_of_day rs
 
+-- no more records stay than there are
+pub stay_few : (count : ℕ) (d : List ℕ) → length (next_day (records_in count d)) ≤ count
+stay_few count d = omega (arith, next_length (records_in count d), records_length count d)
+
 module _ (sizes : Sizes) (pools : Pools) (d : List ℕ) (count base : ℕ) (is : T (sound sizes pools (lent_list d count)))
   where
     pub held : count * record_size ≤ length d
@@ -36,7 +40,7 @@ module _ (sizes : Sizes) (pools : Pools) (d : List ℕ) (count base : ℕ) (is :
 
     module _ {kept : ℕ} (counted : kept ≡ length stay) where
       pub kept_few : kept ≤ count
-      kept_few = omega (arith, counted, next_length (records_in count d), records_length count d)
+      kept_few = omega (arith, counted, stay_few count d)
 
       pub rolled : base < base_day_max → {moved out : List ℕ} → moved ≡ overwrite d 0 (numbers_of_all stay)
           → out ≡ overwrite moved (kept * record_size) (replicate (count * record_size - kept * record_size) 0)

@@ -56,6 +56,7 @@ pub fn value_of(answer: RollAnswer, count: usize) -> usize
 }
 
 // 02's roll: number, value, count, base day and every number of the list are those of the definition.
+#[tactic(auto, using(crate::proofs::RollLaws::stay_few, list_sound::proofs::ForwardLaws::sound_short))]
 pub fn roll<'a>(
     caller: Caller,
     list: &mut [u32],

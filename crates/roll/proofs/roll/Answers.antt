@@ -1,13 +1,13 @@
 -- `roll` meets its contract: each test excludes a refusal in 02's order, and what is left is kept and cleared. Assumes
 -- nothing.
-use Rattle.std.proofs.Common.{◌≡◌, Bool, true, false, not, T, arith, sym, ap, subst, ◌∙◌}
+use Rattle.std.proofs.Common.{◌≡◌, Bool, true, false, not, T, sym, ap, subst, ◌∙◌}
 use Rattle.eit.specs.declared.Sizes.{Sizes}
 use Rattle.eit.specs.Sizes.{sizes_of}
 use Rattle.eit.specs.Pools.{Pools, lent_pools}
 use Rattle.eit.specs.Records.{EventList, lent_list}
 use Rattle.eit.specs.Sound.{sound}
 use Rattle.window.proofs.Roll.{roll_last, roll_unsound}
-use Rattle.roll.proofs.RollLaws.{held, kept_few, rolled}
+use Rattle.roll.proofs.RollLaws.{rolled}
 use Rattle.roll.proofs.roll.Goals as goal
 
 -- what the soundness test has said, with the caller's sizes
@@ -35,45 +35,6 @@ returns-then-not-is_sound c =
     let list = lent_list a.list.now a.count in
     roll_unsound (sizes_of a.caller) pools list a.base_day c.if-base_day-ge-BASE_DAY_MAX.false
     (failed c.of.result (sizes_of a.caller) pools list c.of.ensures c.is_sound.ensures c.if-not-is_sound.true)
-
-pub keep_later-kept-requires : goal.keep_later-kept-requires
-keep_later-kept-requires c =
-    let a = c.args in
-    let sizes = sizes_of a.caller in
-    let pools = lent_pools a.day.now a.series.now in
-    let list = lent_list a.list.now a.count in
-    held sizes pools a.list.now a.count a.base_day
-    (passed c.of.result sizes pools list c.of.ensures c.is_sound.ensures c.if-not-is_sound.false)
-
-pub overflow_mul-kept : goal.overflow_mul-kept
-overflow_mul-kept c =
-    let a = c.args in
-    let sizes = sizes_of a.caller in
-    let pools = lent_pools a.day.now a.series.now in
-    let list = lent_list a.list.now a.count in
-    let is = passed c.of.result sizes pools list c.of.ensures c.is_sound.ensures c.if-not-is_sound.false in
-    let few = kept_few sizes pools a.list.now a.count a.base_day is c.keep_later-kept.ensures.0 in
-    omega (arith, few, held sizes pools a.list.now a.count a.base_day is)
-
-pub overflow_mul-count : goal.overflow_mul-count
-overflow_mul-count c =
-    let a = c.args in
-    let sizes = sizes_of a.caller in
-    let pools = lent_pools a.day.now a.series.now in
-    let list = lent_list a.list.now a.count in
-    let is = passed c.of.result sizes pools list c.of.ensures c.is_sound.ensures c.if-not-is_sound.false in
-    omega (arith, held sizes pools a.list.now a.count a.base_day is)
-
-pub clear-requires : goal.clear-requires
-clear-requires c =
-    let a = c.args in
-    let sizes = sizes_of a.caller in
-    let pools = lent_pools a.day.now a.series.now in
-    let list = lent_list a.list.now a.count in
-    let is = passed c.of.result sizes pools list c.of.ensures c.is_sound.ensures c.if-not-is_sound.false in (
-      omega (arith, kept_few sizes pools a.list.now a.count a.base_day is c.keep_later-kept.ensures.0),
-      omega (arith, held sizes pools a.list.now a.count a.base_day is),
-    )
 
 pub returns : goal.returns
 returns c =
