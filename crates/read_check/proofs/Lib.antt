@@ -4,3 +4,5 @@ pub mod VersionLaws
 pub mod StepLaws
 -- the walk over the sections, one after the other
 pub mod WalkLaws
+-- where the walk ends
+pub mod EndLaws
