@@ -27,7 +27,7 @@ use read_answer::ReadResult;
 
 // What Edit returns: document 01's number and value, and the count then held.
 #[repr(C)]
-#[derive(Drop)]
+#[derive(Clone, Copy)]
 pub struct EitEdited {
     pub number: u32,
     pub value: usize,
@@ -36,7 +36,7 @@ pub struct EitEdited {
 
 // What the search for a place returns: the place, and how many records it looked at (02, W-203).
 #[repr(C)]
-#[derive(Drop)]
+#[derive(Clone, Copy)]
 pub struct EitPlace {
     pub place: usize,
     pub looked: usize,
@@ -44,7 +44,7 @@ pub struct EitPlace {
 
 // How much text still fits (02, W-201).
 #[repr(C)]
-#[derive(Drop)]
+#[derive(Clone, Copy)]
 pub struct EitRoom {
     // Document 02's number.
     pub number: u32,
@@ -56,7 +56,7 @@ pub struct EitRoom {
 
 // What a roll returns: document 02's number and value, and the count and the base day then held (W-205).
 #[repr(C)]
-#[derive(Drop)]
+#[derive(Clone, Copy)]
 pub struct EitRolled {
     pub number: u32,
     pub value: usize,
@@ -66,7 +66,7 @@ pub struct EitRolled {
 
 // What Build and Rebuild return: document 01's number and value.
 #[repr(C)]
-#[derive(Drop)]
+#[derive(Clone, Copy)]
 pub struct EitBuilt {
     pub number: u32,
     pub value: usize,
@@ -75,7 +75,7 @@ pub struct EitBuilt {
 // What Read returns: document 01's number and value, the number of events, and the identity of the file; with a
 // refusal, count and identity are 0.
 #[repr(C)]
-#[derive(Drop)]
+#[derive(Clone, Copy)]
 pub struct EitReading {
     pub number: u32,
     pub value: usize,

@@ -12,7 +12,7 @@ use eit::Place;
 const STRIDE: usize = 16;
 
 // The places of two starts.
-#[derive(Drop)]
+#[derive(Clone, Copy)]
 pub struct Places {
     pub one: Place,
     pub other: Place,

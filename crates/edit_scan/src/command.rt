@@ -18,7 +18,7 @@ pub const UNDO: u8 = 0x04;
 const OPERAND_BYTES: u64 = 0x00_06_02_11_00;
 
 // A command with its operands.
-#[derive(Drop)]
+#[derive(Clone, Copy)]
 pub enum Command {
     Put(Record),
     // The id.

@@ -8,7 +8,7 @@ ghost use Rattle.edit_scan.specs.Places.{striking_noted};
 use crate::{command, places};
 
 // The form of a script.
-#[derive(Drop)]
+#[derive(Clone, Copy)]
 pub enum Form {
     // How many commands it has.
     Whole(usize),
@@ -17,7 +17,7 @@ pub enum Form {
 }
 
 // What a pass over a script finds.
-#[derive(Drop)]
+#[derive(Clone, Copy)]
 pub enum Scanned {
     // 3 and its offset: that of the first unknown command or truncated operand.
     Broken(usize),

@@ -41,7 +41,7 @@ pub fn section_end(file: &[u8], offset: usize) -> usize
 }
 
 // A reader that carries the borrowed file and an offset.
-#[derive(Drop)]
+#[derive(Clone, Copy)]
 pub struct SectionReader<'a> {
     pub file: &'a [u8],
     pub offset: usize,

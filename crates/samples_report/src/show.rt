@@ -28,7 +28,7 @@ pub fn identity() -> Identity {
 }
 
 // The number and the value of an answer.
-#[derive(Drop)]
+#[derive(Clone, Copy)]
 pub struct Outcome {
     pub number: u32,
     pub value: usize,
