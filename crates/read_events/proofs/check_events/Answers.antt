@@ -33,7 +33,7 @@ loop-at-preserved c =
     (rw (sym c.is_in_segment.ensures ∙ c.if-not-is_in_segment.false)
     (sym c.is_new.ensures ∙ c.if-not-is_new.false))
     c.add_seen.ensures
-    c.least_behind-next.ensures
+    (cc)
 
 pub returns-then-n-gt0 : goal.returns-then-n-gt0
 returns-then-n-gt0 c =
