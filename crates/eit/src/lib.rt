@@ -43,7 +43,7 @@ pub fn least_behind(event: Record) -> u64
 }
 
 // A DVB triplet: the ids of a service.
-#[derive(Clone, Copy)]
+#[derive(Clone, Copy, Debug, PartialEq, Eq)]
 pub struct Triplet {
     pub service_id: u16,
     pub transport_stream_id: u16,
@@ -100,10 +100,12 @@ impl Sizes {
         section_limit: 1_024,
         event_limit: 256,
     };
+}
 
-    pub fn of(caller: Caller) -> Self
-        ensures { result ≡ sizes_of caller }
-    {
+impl From<Caller> for Sizes {
+    ghost from_gives = { λ caller sizes. sizes ≡ sizes_of caller };
+
+    fn from(caller: Caller) -> Self {
         match caller {
             Caller::Broadcast => Self::BROADCAST,
             Caller::Cable => Self::CABLE,

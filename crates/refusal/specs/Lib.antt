@@ -1,0 +1,2 @@
+-- What an outcome's number and value are.
+pub mod Numbers
