@@ -2,15 +2,12 @@
 #![tactic(auto)]
 
 ghost use Rattle.std.specs.Prelude.{◌≡◌};
-ghost use Rattle.eit.specs.Identity.{zero_identity};
-ghost use Rattle.read_answer.specs.Outcome.{answer_number, answer_value, answer_count};
+ghost use Rattle.read_answer.specs.Outcome.{outcome_of};
 
 use eit::Identity;
 
-#[derive(Clone, Copy)]
-pub enum ReadAnswer {
-    // The file is accepted; the number of its events.
-    Done(usize),
+#[derive(Clone, Copy, Debug, PartialEq, Eq)]
+pub enum ReadError {
     // 1: the base day is above 65,472.
     BaseDay,
     // 20: a section is truncated, or its table_id or length is out of range; the section's offset.
@@ -31,73 +28,57 @@ pub enum ReadAnswer {
     RecordsShort(usize),
 }
 
-// What check and Read return: the answer, and the identity of a file that is accepted; a refusal has identity 0.
+// A file that is accepted: its identity, and the number of its events.
 #[derive(Clone, Copy)]
-pub struct ReadResult {
-    pub answer: ReadAnswer,
+pub struct FileRead {
     pub identity: Identity,
+    pub count: usize,
 }
 
-// A refusal.
-pub fn refused(answer: ReadAnswer) -> ReadResult
-    ensures { result ≡ record { answer = answer; identity = zero_identity } }
-{
-    ReadResult {
-        answer,
-        identity: eit::zero_identity(),
+impl ReadError {
+    ghost use Rattle.read_answer.specs.Outcome.{error_number, error_value};
+
+    // 01's number of a refusal.
+    pub fn number(self) -> u32
+        ensures { result ≡ error_number self }
+    {
+        match self {
+            ReadError::BaseDay => 1,
+            ReadError::Frame(_) => 20,
+            ReadError::Crc(_) => 21,
+            ReadError::Header(_) => 22,
+            ReadError::Numbering(_) => 23,
+            ReadError::EventLoop(_) => 24,
+            ReadError::EarlyEnd(_) => 25,
+            ReadError::EventLimit(_) => 26,
+            ReadError::RecordsShort(_) => 27,
+        }
     }
-}
 
-// 01's number of an answer.
-pub fn number_of(answer: ReadAnswer) -> u32
-    ensures { result ≡ answer_number answer }
-{
-    match answer {
-        ReadAnswer::Done(_) => 0,
-        ReadAnswer::BaseDay => 1,
-        ReadAnswer::Frame(_) => 20,
-        ReadAnswer::Crc(_) => 21,
-        ReadAnswer::Header(_) => 22,
-        ReadAnswer::Numbering(_) => 23,
-        ReadAnswer::EventLoop(_) => 24,
-        ReadAnswer::EarlyEnd(_) => 25,
-        ReadAnswer::EventLimit(_) => 26,
-        ReadAnswer::RecordsShort(_) => 27,
-    }
-}
-
-// 01's value of an answer.
-pub fn value_of(answer: ReadAnswer) -> usize
-    ensures { result ≡ answer_value answer }
-{
-    match answer {
-        ReadAnswer::Done(events) => events,
-        ReadAnswer::BaseDay => 0,
-        ReadAnswer::Frame(offset) => offset,
-        ReadAnswer::Crc(offset) => offset,
-        ReadAnswer::Header(offset) => offset,
-        ReadAnswer::Numbering(offset) => offset,
-        ReadAnswer::EventLoop(offset) => offset,
-        ReadAnswer::EarlyEnd(size) => size,
-        ReadAnswer::EventLimit(offset) => offset,
-        ReadAnswer::RecordsShort(events) => events,
+    // 01's value of a refusal.
+    pub fn value(self) -> usize
+        ensures { result ≡ error_value self }
+    {
+        match self {
+            ReadError::BaseDay => 0,
+            ReadError::Frame(offset)
+            | ReadError::Crc(offset)
+            | ReadError::Header(offset)
+            | ReadError::Numbering(offset)
+            | ReadError::EventLoop(offset)
+            | ReadError::EventLimit(offset) => offset,
+            ReadError::EarlyEnd(size) => size,
+            ReadError::RecordsShort(events) => events,
+        }
     }
 }
 
 // How many events Read returns: none with a refusal.
-pub fn count_of(answer: ReadAnswer) -> usize
-    ensures { result ≡ answer_count answer }
+pub fn count_of(read: &Result<FileRead, ReadError>) -> usize
+    ensures { result ≡ (outcome_of read.now).count }
 {
-    match answer {
-        ReadAnswer::Done(events) => events,
-        ReadAnswer::BaseDay => 0,
-        ReadAnswer::Frame(_) => 0,
-        ReadAnswer::Crc(_) => 0,
-        ReadAnswer::Header(_) => 0,
-        ReadAnswer::Numbering(_) => 0,
-        ReadAnswer::EventLoop(_) => 0,
-        ReadAnswer::EarlyEnd(_) => 0,
-        ReadAnswer::EventLimit(_) => 0,
-        ReadAnswer::RecordsShort(_) => 0,
+    match read {
+        Ok(file) => file.count,
+        Err(_) => 0,
     }
 }
