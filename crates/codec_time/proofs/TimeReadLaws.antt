@@ -11,6 +11,8 @@ use borrow.Author.Tests.{le-leb, lt-leb, le-ltb, lt-ltb}
 use lib.Dec.{T, leb, ltb, leb→le}
 use lib.ListN.{length, take, drop, get_or}
 use lib.Seq.{get_or-take, get_or-drop, take-take, drop-drop}
+use Rattle.std.specs.Prelude.{Some, None}
+use Rattle.std.specs.Bool.{then_some}
 use Rattle.eit.specs.Limits.{window_seconds, duration_min, duration_max}
 use Rattle.eit.specs.Limits.{start_hours_max, duration_hours_max, minutes_max, seconds_max}
 use Rattle.eit.specs.Fields.{bytes_at, field}
@@ -21,16 +23,15 @@ use Rattle.eit.proofs.Fields.{field_length}
 use Rattle.eit.proofs.Test.{true_is, and_right, and_parts, le_or_lt}
 use Rattle.eit.proofs.TimeLaws.{time_within, time_above, time_only}
 use Rattle.codec.proofs.FieldLaws.{drop_take}
-use Rattle.codec_time.specs.TimeRead.{seconds_if, time_at, duration_at, start_at}
-use Rattle.codec_time.specs.declared.TimeRead.TheVariants.{Seconds, Broken}
+use Rattle.codec_time.specs.TimeRead.{time_at, duration_at, start_at}
 
 -- ---- a test and what it lets through
 
-seconds_only : (b : Bool) (s n : ℕ) → seconds_if b s ≡ Seconds n → T b × (s ≡ n)
+seconds_only : (b : Bool) (s n : ℕ) → then_some b s ≡ Some n → T b × (s ≡ n)
 seconds_only true s n e = (tt, cc)
 seconds_only false s n e = let z : ◌≡◌ {A = ℕ} 0 1 = cc in absurd (omega arith)
 
-broken_only : (b : Bool) (s : ℕ) → seconds_if b s ≡ Broken → b ≡ false
+broken_only : (b : Bool) (s : ℕ) → then_some b s ≡ None → b ≡ false
 broken_only true s e = let z : ◌≡◌ {A = ℕ} 0 1 = cc in absurd (omega arith)
 broken_only false s e = refl
 
@@ -49,7 +50,7 @@ and_true false = refl
 -- ---- three bytes
 
 module _ (most at : ℕ) (bs : List ℕ) where
-  pub time_truncated : length bs < at + 3 → time_at most at bs ≡ Broken
+  pub time_truncated : length bs < at + 3 → time_at most at bs ≡ None
   unfolding time_at
   time_truncated truncated = rw (lt-leb (at + 3) (length bs) truncated)
 
@@ -66,17 +67,13 @@ module _ (most at : ℕ) (bs : List ℕ) where
     same_test : (leb (at + 3) (length bs) && is_time most (bytes_at at 3 bs)) ≡ b
     same_test = rw (le-leb (at + 3) (length bs) fits, first, byte 1 (omega arith), byte 2 (omega arith)) (sym test)
 
-    pub time_if : {n : ℕ}
+    pub time_read : {n : ℕ}
         → n ≡ of_bcd (get_or bs at 0) * 3600 + of_bcd (get_or bs (at + 1) 0) * 60 + of_bcd (get_or bs (at + 2) 0)
-        → b ≡ true → time_at most at bs ≡ Seconds n
+        → then_some b n ≡ time_at most at bs
     unfolding time_at
-    time_if {n} is holds =
+    time_read {n} is =
         let same : seconds_of (bytes_at at 3 bs) ≡ n = rw (first, byte 1 (omega arith), byte 2 (omega arith)) (sym is) in
-        rw (same_test, holds, same)
-
-    pub time_unless : b ≡ false → time_at most at bs ≡ Broken
-    unfolding time_at
-    time_unless fails = rw (same_test, fails)
+        rw (same_test, same)
 
 -- each part of a time has two digits
 pub time_small : (s : ℕ) (t : Time) → t ≡ time_of s → (t.hours < 100) × (t.minutes < 100) × (t.seconds < 100)
@@ -89,7 +86,7 @@ time_small s t is =
 -- ---- a duration
 
 module _ (at : ℕ) (bs : List ℕ) where
-  pub duration_no_time : time_at duration_hours_max at bs ≡ Broken → duration_at at bs ≡ Broken
+  pub duration_no_time : time_at duration_hours_max at bs ≡ None → duration_at at bs ≡ None
   unfolding time_at duration_at
   duration_no_time none =
       let fits : Bool = leb (at + 3) (length bs) in
@@ -98,8 +95,8 @@ module _ (at : ℕ) (bs : List ℕ) where
       rw (and_no fits time least (broken_only (fits && time) (seconds_of (bytes_at at 3 bs)) none))
 
   -- a time of up to 99 hours is a duration if it is in range; it is never too long
-  pub duration_time : (n : ℕ) → time_at duration_hours_max at bs ≡ Seconds n
-      → duration_at at bs ≡ seconds_if (leb duration_min n && leb n duration_max) n
+  pub duration_time : (n : ℕ) → time_at duration_hours_max at bs ≡ Some n
+      → duration_at at bs ≡ then_some (leb duration_min n && leb n duration_max) n
   unfolding time_at duration_at
   duration_time n is =
       let fits : Bool = leb (at + 3) (length bs) in
@@ -113,14 +110,14 @@ module _ (at : ℕ) (bs : List ℕ) where
       rw (true_is fits room, true_is time shown, same, le-leb n duration_max most, and_true (leb duration_min n))
 
   -- what was found in bytes that are there
-  pub no_duration : at + 3 ≤ length bs → duration_at at bs ≡ Broken → is_duration_bytes (bytes_at at 3 bs) ≡ false
+  pub no_duration : at + 3 ≤ length bs → duration_at at bs ≡ None → is_duration_bytes (bytes_at at 3 bs) ≡ false
   unfolding duration_at
   no_duration fits none =
       let test : Bool = is_duration_bytes (bytes_at at 3 bs) in
       and_second (leb (at + 3) (length bs)) test (le-leb (at + 3) (length bs) fits)
       (broken_only (leb (at + 3) (length bs) && test) (seconds_of (bytes_at at 3 bs)) none)
 
-  pub is_duration : {n : ℕ} → duration_at at bs ≡ Seconds n
+  pub is_duration : {n : ℕ} → duration_at at bs ≡ Some n
       → T (is_duration_bytes (bytes_at at 3 bs)) × (seconds_of (bytes_at at 3 bs) ≡ n)
   unfolding duration_at
   is_duration {n} found =
@@ -131,7 +128,7 @@ module _ (at : ℕ) (bs : List ℕ) where
 -- ---- a start: a day and a time of that day
 
 module _ (base at : ℕ) (bs : List ℕ) where
-  pub start_truncated : length bs < at + 5 → start_at base at bs ≡ Broken
+  pub start_truncated : length bs < at + 5 → start_at base at bs ≡ None
   unfolding start_at
   start_truncated truncated = rw (lt-leb (at + 5) (length bs) truncated)
 
@@ -144,7 +141,7 @@ module _ (base at : ℕ) (bs : List ℕ) where
   -- the test and the seconds, by the day and the time
   start_parts : at + 5 ≤ length bs
       → start_at base at bs
-      ≡ seconds_if
+      ≡ then_some
       (is_time start_hours_max (bytes_at (at + 2) 3 bs)
       && (leb base (field at 2 bs)
       && ltb ((field at 2 bs - base) * seconds_of_day + seconds_of (bytes_at (at + 2) 3 bs)) window_seconds))
@@ -156,7 +153,7 @@ module _ (base at : ℕ) (bs : List ℕ) where
     inside : leb (at + 2 + 3) (length bs) ≡ true
     inside = le-leb (at + 2 + 3) (length bs) (omega arith)
 
-    pub start_no_time : time_at start_hours_max (at + 2) bs ≡ Broken → start_at base at bs ≡ Broken
+    pub start_no_time : time_at start_hours_max (at + 2) bs ≡ None → start_at base at bs ≡ None
     unfolding time_at
     start_no_time none =
         let time : Bool = is_time start_hours_max (bytes_at (at + 2) 3 bs) in
@@ -165,9 +162,9 @@ module _ (base at : ℕ) (bs : List ℕ) where
         start_parts fits ∙ rw fails
 
     -- a day and a time that were read
-    module _ {day n : ℕ} (is-day : day ≡ field at 2 bs) (is-time : time_at start_hours_max (at + 2) bs ≡ Seconds n) where
+    module _ {day n : ℕ} (is-day : day ≡ field at 2 bs) (is-time : time_at start_hours_max (at + 2) bs ≡ Some n) where
       start_read : start_at base at bs
-          ≡ seconds_if (leb base day && ltb ((day - base) * seconds_of_day + n) window_seconds)
+          ≡ then_some (leb base day && ltb ((day - base) * seconds_of_day + n) window_seconds)
           ((day - base) * seconds_of_day + n)
       unfolding time_at
       start_read =
@@ -177,27 +174,27 @@ module _ (base at : ℕ) (bs : List ℕ) where
           let (room, shown) = and_parts (leb (at + 2 + 3) (length bs)) time passed in
           start_parts fits ∙ rw (true_is time shown, same, is-day)
 
-      pub start_early : day < base → start_at base at bs ≡ Broken
+      pub start_early : day < base → start_at base at bs ≡ None
       start_early early = start_read ∙ rw (lt-leb base day early)
 
-      pub start_late : base ≤ day → window_seconds ≤ (day - base) * seconds_of_day + n → start_at base at bs ≡ Broken
+      pub start_late : base ≤ day → window_seconds ≤ (day - base) * seconds_of_day + n → start_at base at bs ≡ None
       start_late later late =
           start_read ∙ rw (le-leb base day later, le-ltb ((day - base) * seconds_of_day + n) window_seconds late)
 
       pub start_shown : base ≤ day → (day - base) * seconds_of_day + n < window_seconds
-          → start_at base at bs ≡ Seconds ((day - base) * seconds_of_day + n)
+          → start_at base at bs ≡ Some ((day - base) * seconds_of_day + n)
       start_shown later soon =
           start_read ∙ rw (le-leb base day later, lt-ltb ((day - base) * seconds_of_day + n) window_seconds soon)
 
   -- what was found in bytes that are there
-  pub no_start : at + 5 ≤ length bs → start_at base at bs ≡ Broken → is_start_bytes base (bytes_at at 5 bs) ≡ false
+  pub no_start : at + 5 ≤ length bs → start_at base at bs ≡ None → is_start_bytes base (bytes_at at 5 bs) ≡ false
   unfolding start_at
   no_start fits none =
       let test : Bool = is_start_bytes base (bytes_at at 5 bs) in
       and_second (leb (at + 5) (length bs)) test (le-leb (at + 5) (length bs) fits)
       (broken_only (leb (at + 5) (length bs) && test) (start_of base (bytes_at at 5 bs)) none)
 
-  pub is_start : {n : ℕ} → start_at base at bs ≡ Seconds n
+  pub is_start : {n : ℕ} → start_at base at bs ≡ Some n
       → T (is_start_bytes base (bytes_at at 5 bs)) × (start_of base (bytes_at at 5 bs) ≡ n)
   unfolding start_at
   is_start {n} found =

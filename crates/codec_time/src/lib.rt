@@ -12,14 +12,6 @@ use codec::fields;
 use eit::Time;
 use eit::limits::SECONDS_OF_DAY;
 
-// What the bytes of a time show.
-#[derive(Clone, Copy)]
-pub enum TimeRead {
-    Seconds(u32),
-    // Bytes that are truncated, or that break a rule of what is read.
-    Broken,
-}
-
 // Two BCD digits.
 fn to_bcd(n: u8) -> u8
     requires { n < 100 }
@@ -99,54 +91,41 @@ fn seconds_of(hours: u8, minutes: u8, seconds: u8) -> u32
     of_bcd(hours) as u32 * 3600 + of_bcd(minutes) as u32 * 60 + of_bcd(seconds) as u32
 }
 
-// A time with hours of at most `most`.
-fn read_time(bytes: &[u8], at: usize, most: u8) -> TimeRead
+// The seconds of a time with hours of at most `most`; `None` where bytes are truncated or break a rule of a time.
+fn read_time(bytes: &[u8], at: usize, most: u8) -> Option<u32>
     ensures { result ≡ time_at most at bytes.now }
 {
     if !fields::is_within(bytes.len(), at, 3) {
-        return TimeRead::Broken;
+        return None;
     }
     let hours = bytes[at];
     let minutes = bytes[at + 1];
     let seconds = bytes[at + 2];
-    if is_time(most, hours, minutes, seconds) {
-        TimeRead::Seconds(seconds_of(hours, minutes, seconds))
-    } else {
-        TimeRead::Broken
-    }
+    is_time(most, hours, minutes, seconds).then_some(seconds_of(hours, minutes, seconds))
 }
 
-pub fn read_duration(bytes: &[u8], at: usize) -> TimeRead
+// The seconds of a duration; `None` also where they are out of range.
+pub fn read_duration(bytes: &[u8], at: usize) -> Option<u32>
     ensures { result ≡ duration_at at bytes.now }
 {
-    let TimeRead::Seconds(duration) = read_time(bytes, at, Time::DURATION_HOURS_MAX) else {
-        return TimeRead::Broken;
-    };
-    if Time::is_duration(duration) {
-        TimeRead::Seconds(duration)
-    } else {
-        TimeRead::Broken
-    }
+    let duration = read_time(bytes, at, Time::DURATION_HOURS_MAX)?;
+    Time::is_duration(duration).then_some(duration)
 }
 
-// The seconds are counted from midnight of the base day; before they are tested, they may pass 32 bits.
-pub fn read_start(bytes: &[u8], at: usize, base_day: u32) -> TimeRead
+// The seconds of a start, counted from midnight of the base day; `None` also where they are out of range. Before they
+// are tested, they may pass 32 bits.
+pub fn read_start(bytes: &[u8], at: usize, base_day: u32) -> Option<u32>
     ensures { result ≡ start_at base_day at bytes.now }
 {
     if !fields::is_within(bytes.len(), at, 5) {
-        return TimeRead::Broken;
+        return None;
     }
-    let TimeRead::Seconds(time) = read_time(bytes, at + 2, Time::START_HOURS_MAX) else {
-        return TimeRead::Broken;
-    };
-    let day = fields::read_field(bytes, at, 2);
-    if day < base_day {
-        return TimeRead::Broken;
-    }
-    let start = (day - base_day) as usize * SECONDS_OF_DAY as usize + time as usize;
+    let time = read_time(bytes, at + 2, Time::START_HOURS_MAX)?;
+    let day = fields::read_field(bytes, at, 2).checked_sub(base_day)?;
+    let start = day as usize * SECONDS_OF_DAY as usize + time as usize;
     if start < Time::WINDOW_SECONDS as usize {
-        TimeRead::Seconds(start as u32)
+        Some(start as u32)
     } else {
-        TimeRead::Broken
+        None
     }
 }
