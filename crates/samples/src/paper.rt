@@ -2,18 +2,16 @@
 ghost use Rattle.std.specs.Prelude.{◌≤◌};
 
 use crate::{lists, rows};
-use codec_time::TimeRead;
 use eit::Caller;
 use samples_report::{lines, show};
 use std::io;
 
 // The seconds that bytes showed.
-fn print_read(rt: &impl Print, read: TimeRead) -> io::Result<()> {
+fn print_read(rt: &impl Print, read: Option<u32>) -> io::Result<()> {
     match read {
-        TimeRead::Seconds(seconds) => lines::print_answer(rt, b"read", 0, seconds as usize)?,
-        TimeRead::Broken => lines::print(rt, b"read broken\n")?,
+        Some(seconds) => lines::print_answer(rt, b"read", 0, seconds as usize),
+        None => lines::print(rt, b"read broken\n"),
     }
-    Ok(())
 }
 
 // A start, to bytes and back.
