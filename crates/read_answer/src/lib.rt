@@ -2,9 +2,11 @@
 #![tactic(auto)]
 
 ghost use Rattle.std.specs.Prelude.{◌≡◌};
+ghost use Rattle.std.proofs.Common.{rules};
 ghost use Rattle.read_answer.specs.Outcome.{outcome_of};
 
 use eit::Identity;
+use refusal::Refusal;
 
 #[derive(Clone, Copy, Debug, PartialEq, Eq)]
 pub enum ReadError {
@@ -35,13 +37,14 @@ pub struct FileRead {
     pub count: usize,
 }
 
-impl ReadError {
+impl Refusal for ReadError {
     ghost use Rattle.read_answer.specs.Outcome.{error_number, error_value};
 
-    // 01's number of a refusal.
-    pub fn number(self) -> u32
-        ensures { result ≡ error_number self }
-    {
+    ghost number_by = { error_number };
+
+    ghost value_by = { error_value };
+
+    fn number(self) -> u32 {
         match self {
             ReadError::BaseDay => 1,
             ReadError::Frame(_) => 20,
@@ -55,10 +58,7 @@ impl ReadError {
         }
     }
 
-    // 01's value of a refusal.
-    pub fn value(self) -> usize
-        ensures { result ≡ error_value self }
-    {
+    fn value(self) -> usize {
         match self {
             ReadError::BaseDay => 0,
             ReadError::Frame(offset)
@@ -71,11 +71,13 @@ impl ReadError {
             ReadError::RecordsShort(events) => events,
         }
     }
+
+    ghost never_0 = { Prim.search rules };
 }
 
 // How many events Read returns: none with a refusal.
-pub fn count_of(read: &Result<FileRead, ReadError>) -> usize
-    ensures { result ≡ (outcome_of read.now).count }
+pub fn count_of(read: Result<FileRead, ReadError>) -> usize
+    ensures { result ≡ (outcome_of read).count }
 {
     match read {
         Ok(file) => file.count,
