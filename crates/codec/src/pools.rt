@@ -1,16 +1,25 @@
-// The part of a pool that a record chooses (01, "Event record and sound list"). Nothing is copied.
+// The two lent pools, and the part of one that a record chooses (01, "Event record and sound list"). Nothing is copied.
 ghost use Rattle.std.specs.Prelude.{◌≡◌};
-ghost use Rattle.eit.specs.Pools.{lent_pools, pool_of, in_pool, part, choose};
+ghost use Rattle.eit.specs.Pools.{pool_of, in_pool, part, choose};
 ghost use Rattle.eit.specs.Sound.{has_chain};
 
 use crate::chain;
 use eit::Record;
+use std::marker::Model;
 
-// Marks with 2 choose the series pool, all others the day pool.
-fn pool<'a>(day: &'a [u8], series: &'a [u8], marks: u32) -> &'a [u8]
-    ensures { result.now ≡ pool_of (lent_pools day.now series.now) marks }
-{
-    if marks / 2 % 2 == 1 { series } else { day }
+// 01's term: pool. Descriptor bytes lie in one of two lent pools.
+pub struct Pools<'a> {
+    pub day: &'a [u8],
+    pub series: &'a [u8],
+}
+
+// In contracts a value is the definitions' record of the two pools' bytes.
+impl<'a> Model for Pools<'a> {
+    ghost use Rattle.eit.specs.Pools.{Pools, lent_pools};
+
+    ghost Value = { Pools };
+
+    ghost view = { λ p. lent_pools p.day.now p.series.now };
 }
 
 // Whether a part lies in its pool; the sum does not wrap.
@@ -33,20 +42,32 @@ fn part(pool: &[u8], offset: u32, size: u32) -> &[u8]
     }
 }
 
-// That part of the chosen pool.
-pub fn choose<'a>(day: &'a [u8], series: &'a [u8], marks: u32, offset: u32, size: u32) -> &'a [u8]
-    ensures { result.now ≡ choose (lent_pools day.now series.now) marks offset size }
-{
-    part(pool(day, series, marks), offset, size)
-}
-
-// Whether a record's part lies in its pool and is a chain.
-pub fn has_chain<'a>(event: Record, day: &'a [u8], series: &'a [u8]) -> bool
-    ensures { result ≡ has_chain (lent_pools day.now series.now) event }
-{
-    let chosen = pool(day, series, event.marks);
-    if !is_in_pool(chosen, event.offset, event.chain_length) {
-        return false;
+impl<'a> Pools<'a> {
+    // Marks with 2 choose the series pool, all others the day pool.
+    fn pool(&self, marks: u32) -> &'a [u8]
+        ensures { result.now ≡ pool_of self.now marks }
+    {
+        if marks / 2 % 2 == 1 {
+            self.series
+        } else {
+            self.day
+        }
     }
-    chain::is_chain(choose(day, series, event.marks, event.offset, event.chain_length))
+
+    // That part of the chosen pool.
+    pub fn choose(&self, marks: u32, offset: u32, size: u32) -> &'a [u8]
+        ensures { result.now ≡ choose self.now marks offset size }
+    {
+        part(self.pool(marks), offset, size)
+    }
+
+    // Whether a record's part lies in its pool and is a chain.
+    pub fn has_chain(&self, event: Record) -> bool
+        ensures { result ≡ has_chain self.now event }
+    {
+        if !is_in_pool(self.pool(event.marks), event.offset, event.chain_length) {
+            return false;
+        }
+        chain::is_chain(self.choose(event.marks, event.offset, event.chain_length))
+    }
 }
