@@ -9,23 +9,20 @@ use native.Mathlib.Omega.{arith}
 use lib.Dec.{T}
 use lib.ListN.{length}
 use Rattle.eit.specs.declared.Sizes.{Sizes}
-use Rattle.eit.specs.Limits.{base_day_max, window_seconds}
-use Rattle.eit.specs.Fields.{Bytes}
+use Rattle.eit.specs.Limits.{base_day_max}
 use Rattle.eit.specs.Overwrite.{overwrite}
 use Rattle.eit.specs.Pools.{Pools}
 use Rattle.eit.specs.Records.{EventList, lent_list, records_in}
 use Rattle.eit.specs.Events.{Event, events_in}
 use Rattle.eit.specs.Sound.{sound, events_of}
 use Rattle.eit.specs.declared.Identity.{Identity}
-use Rattle.sections.specs.Every.{Every}
 use Rattle.sections.specs.Section.{section_sizes}
 use Rattle.sections.specs.Encode.{file_bytes}
-use Rattle.sections.proofs.Every.{every_map}
 use Rattle.sections.specs.Each.{each}
 use Rattle.schedule.specs.SectionsOf.{is_unpackable, lowest_unpackable, sections_of}
 use Rattle.schedule.specs.Plan.{section_count, plan}
 use Rattle.schedule.specs.Build.{Built, written, build_events, are_versions, build}
-use Rattle.schedule.proofs.SoundEvents.{EventFacts, SoundEvents, sound_events}
+use Rattle.schedule.proofs.SoundEvents.{SoundStarts, sound_starts}
 use Rattle.schedule.proofs.Packable.{packable_or}
 use Rattle.schedule.proofs.Plan.{plan_sound}
 use Rattle.schedule.proofs.ByIndex.{flat_plan}
@@ -95,9 +92,9 @@ module _ {sizes : Sizes} {pools : Pools} {numbers : List ℕ} {count base : ℕ}
         ∙ events_refused sizes base identity es output counted.lowest
         (index_found (lowest_unpackable sizes es) lowest_found few)
 
-    module _ (day : Bytes pools.day) (series : Bytes pools.series) (None-found : 512 ≤ counted.lowest) where
-      facts : SoundEvents sizes es
-      facts = sound_events pools day series sizes list holds
+    module _ (None-found : 512 ≤ counted.lowest) where
+      facts : SoundStarts es
+      facts = sound_starts sizes pools list holds
 
       none_unpackable : (lowest_unpackable sizes es ≡ none) × ((index : ℕ) → T (not (is_unpackable sizes es index)))
       none_unpackable =
@@ -116,9 +113,6 @@ module _ {sizes : Sizes} {pools : Pools} {numbers : List ℕ} {count base : ℕ}
           ∙ written_short base (sections_of sizes identity es) output (omega (arith, need_found))
           ∙ ap (λ (n : ℕ). record { number = 11; value = n; output = output }) (sym need_found)
 
-      starts : Every (λ (e : Event). e.start < window_seconds) es
-      starts = every_map (λ (e : Event) (f : EventFacts e). f.start) es facts.facts
-
       counts_are : counted.counts ≡ each (section_count sizes es) 0 512
       counts_are =
           ap (λ (c : Counted). c.counts) found
@@ -132,7 +126,7 @@ module _ {sizes : Sizes} {pools : Pools} {numbers : List ℕ} {count base : ℕ}
           (events_are pools numbers count)
           (record {
             rises = facts.rises;
-            starts = starts;
+            starts = facts.starts;
             packs = none_unpackable.1;
             counted = counts_are;
             fits = omega (arith, need_found);

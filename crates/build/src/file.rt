@@ -1,7 +1,6 @@
 // The file written: its segments one behind the other (01, "The file of sections", "Build, Read").
 ghost use Rattle.std.specs.Prelude.{◌≡◌, ◌+◌, ◌≤◌, ◌<◌, length, drop};
 ghost use Rattle.eit.specs.Overwrite.{overwrite};
-ghost use Rattle.eit.specs.Pools.{lent_pools};
 ghost use Rattle.eit.specs.Records.{records_in};
 ghost use Rattle.eit.specs.Events.{events_in};
 ghost use Rattle.sections.specs.Section.{section_sizes};
@@ -16,6 +15,7 @@ ghost use Rattle.build.specs.Writing.{Writable};
 
 use crate::section;
 use build_counts::{count, cut, segment};
+use codec::pools::Pools;
 use codec_crc::CRC_ENTRIES;
 use codec_section::header::SectionHeader;
 use codec_section::segment::{first_section, table_of};
@@ -24,7 +24,7 @@ use eit::{Identity, Sizes};
 
 // The sections of a segment, as many as `sections` says, with the events from `from` to `end`: each takes as many of
 // the next events as fit, and is numbered from the first header's section_number on. Returns the offset behind them.
-fn write_segment<'a>(
+fn write_segment(
     out: &mut [u8],
     at: usize,
     first: SectionHeader,
@@ -33,15 +33,14 @@ fn write_segment<'a>(
     list: &[u32],
     from: usize,
     end: usize,
-    day: &'a [u8],
-    series: &'a [u8],
+    pools: &Pools<'_>,
     room: u16,
     crc_tables: &[u32; CRC_ENTRIES],
 ) -> usize
     requires { (at
         + section_sizes
         (sections_from room (held_header first) sections
-        (events_between (lent_pools day.now series.now) list.now from end))
+        (events_between pools.now list.now from end))
         ≤ length out.old)
         × (first.section_number + sections ≤ 256)
         × (crc_tables.now ≡ right_crc_tables) }
@@ -49,12 +48,12 @@ fn write_segment<'a>(
         ≡ overwrite out.old at
         (file_bytes base_day
         (sections_from room (held_header first) sections
-        (events_between (lent_pools day.now series.now) list.now from end))))
+        (events_between pools.now list.now from end))))
         × (result
         ≡ at
         + section_sizes
         (sections_from room (held_header first) sections
-        (events_between (lent_pools day.now series.now) list.now from end))) }
+        (events_between pools.now list.now from end))) }
 {
     let mut header = first;
     let mut offset = at;
@@ -62,10 +61,10 @@ fn write_segment<'a>(
     let mut k: u8 = 0;
     while k < sections {
         header.section_number = first.section_number + k;
-        let taken = cut::next_cut(list, next, end, day, series, room as usize);
+        let taken = cut::next_cut(list, next, end, pools, room as usize);
         let size = SECTION_OVERHEAD + taken.bytes;
         section::write_section(
-            out, offset, size, header, base_day, list, next, taken.to, day, series, crc_tables,
+            out, offset, size, header, base_day, list, next, taken.to, pools, crc_tables,
         );
         offset += size;
         next = taken.to;
@@ -113,24 +112,23 @@ fn first_header(
 }
 
 // The whole file, by the sections counted in each segment.
-pub fn write_file<'a>(
+pub fn write_file(
     out: &mut [u8],
     base_day: u32,
     identity: Identity,
     list: &[u32],
     count: usize,
-    day: &'a [u8],
-    series: &'a [u8],
+    pools: &Pools<'_>,
     sizes: Sizes,
     counts: &[u8],
 )
-    requires { Writable sizes identity (events_in (lent_pools day.now series.now) (records_in count list.now))
+    requires { Writable sizes identity (events_in pools.now (records_in count list.now))
         counts.now out.old }
     ensures { out.new
         ≡ overwrite out.old 0
         (file_bytes base_day
         (sections_of sizes identity
-        (events_in (lent_pools day.now series.now) (records_in count list.now)))) }
+        (events_in pools.now (records_in count list.now)))) }
 {
     let crc_tables = codec_crc::tables();
     let last_table_id = table_of(segment::last_index(list, count)) as u8;
@@ -155,8 +153,7 @@ pub fn write_file<'a>(
                 list,
                 from,
                 end,
-                day,
-                series,
+                pools,
                 count::room_of(sizes),
                 &crc_tables,
             );

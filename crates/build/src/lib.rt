@@ -3,7 +3,6 @@
 
 ghost use Rattle.std.specs.Prelude.{◌≡◌};
 ghost use Rattle.eit.specs.Sizes.{sizes_of};
-ghost use Rattle.eit.specs.Pools.{lent_pools};
 ghost use Rattle.eit.specs.Records.{lent_list};
 ghost use Rattle.schedule.specs.Plan.{plan};
 ghost use Rattle.schedule.specs.Build.{are_versions, build};
@@ -11,6 +10,7 @@ ghost use Rattle.build_answer.specs.Outcome.{outcome_of};
 
 use build_answer::BuildAnswer;
 use build_counts::count;
+use codec::pools::Pools;
 use eit::limits::{BASE_DAY_MAX, SEGMENTS, TABLE_SEGMENTS, TABLES, VERSION_MAX};
 use eit::{Caller, Identity, Sizes};
 
@@ -18,33 +18,31 @@ mod file;
 mod section;
 
 // Plan under any sizes: the counts of all segments, 254 each if the list is unsound.
-fn plan_within<'a>(
+fn plan_within(
     list: &[u32],
     count: usize,
-    day: &'a [u8],
-    series: &'a [u8],
+    pools: &Pools<'_>,
     sizes: Sizes,
 ) -> [[u8; TABLE_SEGMENTS]; TABLES]
-    ensures { result ≡ plan sizes (lent_pools day.now series.now) (lent_list list.now count) }
+    ensures { result ≡ plan sizes pools.now (lent_list list.now count) }
 {
-    let counted = count::count_sections(list, count, day, series, sizes);
+    let counted = count::count_sections(list, count, pools, sizes);
     let counts = counted.counts;
     build_plan::tables_of(&counts)
 }
 
 // 01's Plan: sixteen tables of thirty-two section counts, each that of the definition.
-pub fn plan<'a>(
+pub fn plan(
     caller: Caller,
     list: &[u32],
     count: usize,
-    day: &'a [u8],
-    series: &'a [u8],
+    pools: &Pools<'_>,
 ) -> [[u8; TABLE_SEGMENTS]; TABLES]
     ensures { result
-        ≡ plan (sizes_of caller) (lent_pools day.now series.now)
+        ≡ plan (sizes_of caller) pools.now
         (lent_list list.now count) }
 {
-    plan_within(list, count, day, series, Sizes::of(caller))
+    plan_within(list, count, pools, Sizes::from(caller))
 }
 
 // Whether every version is at most 31.
@@ -62,17 +60,16 @@ fn are_versions(versions: &[u8]) -> bool
 }
 
 // Build under any sizes. Its refusals in their order, 1, 2, 12, 10, 11, come before anything is written.
-fn build_within<'a>(
+fn build_within(
     list: &[u32],
     count: usize,
-    day: &'a [u8],
-    series: &'a [u8],
+    pools: &Pools<'_>,
     base_day: u32,
     identity: Identity,
     out: &mut [u8],
     sizes: Sizes,
 ) -> BuildAnswer
-    ensures { build sizes (lent_pools day.now series.now) (lent_list list.now count) base_day
+    ensures { build sizes pools.now (lent_list list.now count) base_day
         identity out.old
         ≡ outcome_of result out.new }
 {
@@ -83,7 +80,7 @@ fn build_within<'a>(
     if !are_versions(&versions) {
         return BuildAnswer::Version;
     }
-    let counted = count::count_sections(list, count, day, series, sizes);
+    let counted = count::count_sections(list, count, pools, sizes);
     if !counted.is_sound {
         return BuildAnswer::Unsound;
     }
@@ -96,34 +93,32 @@ fn build_within<'a>(
     }
     let counts = counted.counts;
     file::write_file(
-        out, base_day, identity, list, count, day, series, sizes, &counts,
+        out, base_day, identity, list, count, pools, sizes, &counts,
     );
     BuildAnswer::Done(need)
 }
 
 // 01's Build: number, value and every byte of the output are those of the definition.
-pub fn build<'a>(
+pub fn build(
     caller: Caller,
     list: &[u32],
     count: usize,
-    day: &'a [u8],
-    series: &'a [u8],
+    pools: &Pools<'_>,
     base_day: u32,
     identity: Identity,
     out: &mut [u8],
 ) -> BuildAnswer
-    ensures { build (sizes_of caller) (lent_pools day.now series.now)
+    ensures { build (sizes_of caller) pools.now
         (lent_list list.now count) base_day identity out.old
         ≡ outcome_of result out.new }
 {
     build_within(
         list,
         count,
-        day,
-        series,
+        pools,
         base_day,
         identity,
         out,
-        Sizes::of(caller),
+        Sizes::from(caller),
     )
 }

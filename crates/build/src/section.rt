@@ -2,14 +2,14 @@
 // pool to the output.
 ghost use Rattle.std.specs.Prelude.{◌≡◌, ◌+◌, ◌≤◌, length};
 ghost use Rattle.eit.specs.Overwrite.{overwrite};
-ghost use Rattle.eit.specs.Pools.{lent_pools};
 ghost use Rattle.sections.specs.Section.{event_sizes};
 ghost use Rattle.sections.specs.Encode.{event_loop_bytes, section_bytes};
 ghost use Rattle.codec_crc.specs.CrcTables.{right_crc_tables};
 ghost use Rattle.build_counts.specs.Between.{events_between};
 ghost use Rattle.build.specs.Sections.{section_of, section_size_of};
 
-use codec::{fields, pools};
+use codec::fields;
+use codec::pools::Pools;
 use codec_crc::{CRC_ENTRIES, CRC_FIRST};
 use codec_section::header::SectionHeader;
 use codec_section::{event, header};
@@ -17,30 +17,29 @@ use eit::limits::{CRC_SIZE, EVENT_OVERHEAD, HEADER_SIZE};
 use list_records::records;
 
 // The events from `from` to `to`, written from `at` on. Returns the offset behind them.
-fn write_events<'a>(
+fn write_events(
     out: &mut [u8],
     at: usize,
     base_day: u32,
     list: &[u32],
     from: usize,
     to: usize,
-    day: &'a [u8],
-    series: &'a [u8],
+    pools: &Pools<'_>,
 ) -> usize
-    requires { at + event_sizes (events_between (lent_pools day.now series.now) list.now from to) ≤ length
+    requires { at + event_sizes (events_between pools.now list.now from to) ≤ length
         out.old }
     ensures { out.new
         ≡ overwrite out.old at
         (event_loop_bytes base_day
-        (events_between (lent_pools day.now series.now) list.now from to))
+        (events_between pools.now list.now from to))
         × (result ≡ at + event_sizes
-        (events_between (lent_pools day.now series.now) list.now from to)) }
+        (events_between pools.now list.now from to)) }
 {
     let mut offset = at;
     let mut i = from;
     while i < to {
         let r = records::record_at(list, i);
-        let chain = pools::choose(day, series, r.marks, r.offset, r.chain_length);
+        let chain = pools.choose(r.marks, r.offset, r.chain_length);
         event::write_event(out, offset, base_day, r, chain);
         offset += EVENT_OVERHEAD + chain.len();
         i += 1;
@@ -49,7 +48,7 @@ fn write_events<'a>(
 }
 
 // The section of `size` bytes with the events from `from` to `to`, written from `at` on.
-pub fn write_section<'a>(
+pub fn write_section(
     out: &mut [u8],
     at: usize,
     size: usize,
@@ -58,21 +57,20 @@ pub fn write_section<'a>(
     list: &[u32],
     from: usize,
     to: usize,
-    day: &'a [u8],
-    series: &'a [u8],
+    pools: &Pools<'_>,
     crc_tables: &[u32; CRC_ENTRIES],
 )
-    requires { (size ≡ section_size_of (events_between (lent_pools day.now series.now) list.now from to))
+    requires { (size ≡ section_size_of (events_between pools.now list.now from to))
         × (at + size ≤ length out.old)
         × (crc_tables.now ≡ right_crc_tables) }
     ensures { out.new
         ≡ overwrite out.old at
         (section_bytes base_day
         (section_of header
-        (events_between (lent_pools day.now series.now) list.now from to))) }
+        (events_between pools.now list.now from to))) }
 {
     header::write_header(out, at, size, header);
-    let end = write_events(out, at + HEADER_SIZE, base_day, list, from, to, day, series);
+    let end = write_events(out, at + HEADER_SIZE, base_day, list, from, to, pools);
     let crc = codec_crc::crc_by(crc_tables, CRC_FIRST, &out[at..end]);
     fields::write_field(out, end, CRC_SIZE, crc as usize);
 }

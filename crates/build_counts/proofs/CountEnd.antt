@@ -10,22 +10,18 @@ use lib.Dec.{T}
 use lib.ListN.{length, replicate}
 use lib.Seq.{ext_get_or}
 use Rattle.eit.specs.declared.Sizes.{Sizes}
-use Rattle.eit.specs.Limits.{window_seconds}
 use Rattle.eit.specs.Identity.{zero_identity}
-use Rattle.eit.specs.Fields.{Bytes}
 use Rattle.eit.specs.Pools.{Pools}
 use Rattle.eit.specs.Records.{EventList, lent_list}
 use Rattle.eit.specs.Events.{Event, rising}
 use Rattle.eit.specs.Sound.{sound, events_of}
 use Rattle.eit.proofs.Test.{true_is, false_is, test_or}
-use Rattle.sections.specs.Every.{Every}
 use Rattle.sections.specs.Section.{section_sizes}
-use Rattle.sections.proofs.Every.{every_map}
 use Rattle.sections.specs.Each.{each}
 use Rattle.schedule.specs.SectionsOf.{is_unpackable, lowest_unpackable}
 use Rattle.schedule.specs.Plan.{section_count, plan}
 use Rattle.sections.proofs.Each.{each_length, each_at}
-use Rattle.schedule.proofs.SoundEvents.{EventFacts, SoundEvents, sound_events}
+use Rattle.schedule.proofs.SoundEvents.{SoundStarts, sound_starts}
 use Rattle.schedule.proofs.Plan.{plan_sound, plan_unsound}
 use Rattle.schedule.proofs.ByIndex.{flat_plan, file_by_index, lowest_by_index}
 use Rattle.build_counts.specs.Counting.{need_of, index_or512, counted_of}
@@ -88,14 +84,13 @@ counted_unsound sizes pools list is_false =
 
 -- ---- a sound list
 
-module _ (sizes : Sizes) (pools : Pools) (numbers : List ℕ) (count : ℕ) (day : Bytes pools.day)
-    (series : Bytes pools.series)
+module _ (sizes : Sizes) (pools : Pools) (numbers : List ℕ) (count : ℕ)
     (is_sound_holds : T (sound sizes pools (lent_list numbers count))) where
   abbrev list : EventList
   list = lent_list numbers count
 
-  facts : SoundEvents sizes (held_events pools numbers count)
-  facts = subst (SoundEvents sizes) (events_are pools numbers count) (sound_events pools day series sizes list is_sound_holds)
+  facts : SoundStarts (held_events pools numbers count)
+  facts = subst SoundStarts (events_are pools numbers count) (sound_starts sizes pools list is_sound_holds)
 
   pub sound_rises : T (rising (held_events pools numbers count))
   sound_rises = facts.rises
@@ -134,10 +129,8 @@ module _ (sizes : Sizes) (pools : Pools) (numbers : List ℕ) (count : ℕ) (day
     need_are : need_of sizes (events_of pools list) ≡ need
     unfolding need_of
     need_are =
-        let starts : Every (λ (e : Event). e.start < window_seconds) es =
-        every_map (λ (e : Event) (f : EventFacts e). f.start) es facts.facts in
         ap (need_of sizes) (events_are pools numbers count)
-        ∙ ap section_sizes (file_by_index sizes zero_identity es starts)
+        ∙ ap section_sizes (file_by_index sizes zero_identity es facts.starts)
         ∙ end.bytes_are
         ∙ omega (arith, bytes_end sizes es index none_left)
 

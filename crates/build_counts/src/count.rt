@@ -1,13 +1,13 @@
 // The sections of each segment, counted in one pass (01, "Build, Read").
 ghost use Rattle.std.specs.Prelude.{◌≡◌, T};
 ghost use Rattle.eit.specs.Sizes.{room};
-ghost use Rattle.eit.specs.Pools.{lent_pools};
 ghost use Rattle.eit.specs.Records.{lent_list};
 ghost use Rattle.eit.specs.Sound.{sound};
 ghost use Rattle.build_counts.specs.Between.{events_between};
 ghost use Rattle.build_counts.specs.Counting.{counted_of, packed_of};
 
 use crate::{cut, segment};
+use codec::pools::Pools;
 use eit::Sizes;
 use eit::limits::{SECTION_OVERHEAD, SEGMENT_SECTIONS_MAX, SEGMENTS};
 
@@ -44,16 +44,15 @@ pub fn room_of(sizes: Sizes) -> u16
 }
 
 // The sections of the events from `from` to `end`, which are those of a segment.
-fn count_segment<'a>(
+fn count_segment(
     list: &[u32],
     from: usize,
     end: usize,
-    day: &'a [u8],
-    series: &'a [u8],
+    pools: &Pools<'_>,
     room: u16,
 ) -> Packed
     ensures { result ≡ packed_of room
-        (events_between (lent_pools day.now series.now) list.now from end) }
+        (events_between pools.now list.now from end) }
 {
     if end <= from {
         return Packed {
@@ -65,7 +64,7 @@ fn count_segment<'a>(
     let mut bytes = 0;
     let mut at = from;
     while sections < SEGMENT_SECTIONS_MAX as u8 && at < end {
-        let next = cut::next_cut(list, at, end, day, series, room as usize);
+        let next = cut::next_cut(list, at, end, pools, room as usize);
         bytes += SECTION_OVERHEAD + next.bytes;
         at = next.to;
         sections += 1;
@@ -77,16 +76,15 @@ fn count_segment<'a>(
 }
 
 // The segments of a sound list: those with events stand one behind the other in the list.
-fn count_sound<'a>(
+fn count_sound(
     list: &[u32],
     count: usize,
-    day: &'a [u8],
-    series: &'a [u8],
+    pools: &Pools<'_>,
     sizes: Sizes,
 ) -> Counted
-    requires { T (sound sizes (lent_pools day.now series.now) (lent_list list.now count)) }
+    requires { T (sound sizes pools.now (lent_list list.now count)) }
     ensures { result
-        ≡ counted_of sizes (lent_pools day.now series.now) (lent_list list.now count) }
+        ≡ counted_of sizes pools.now (lent_list list.now count) }
 {
     let mut counts = [0u8; SEGMENTS];
     let mut lowest = SEGMENTS;
@@ -96,7 +94,7 @@ fn count_sound<'a>(
     while index < SEGMENTS {
         if segment::is_inside(list, from, count, index) {
             let end = segment::end_of(list, from, count, index);
-            let packed = count_segment(list, from, end, day, series, room_of(sizes));
+            let packed = count_segment(list, from, end, pools, room_of(sizes));
             counts[index] = packed.sections;
             need += packed.bytes;
             if packed.sections == UNPACKABLE && lowest == SEGMENTS {
@@ -115,17 +113,16 @@ fn count_sound<'a>(
 }
 
 // What Build asks of a list. Of an unsound one nothing is counted.
-pub fn count_sections<'a>(
+pub fn count_sections(
     list: &[u32],
     count: usize,
-    day: &'a [u8],
-    series: &'a [u8],
+    pools: &Pools<'_>,
     sizes: Sizes,
 ) -> Counted
     ensures { result
-        ≡ counted_of sizes (lent_pools day.now series.now) (lent_list list.now count) }
+        ≡ counted_of sizes pools.now (lent_list list.now count) }
 {
-    if !list_sound::is_sound(list, count, day, series, sizes) {
+    if !list_sound::is_sound(list, count, pools, sizes) {
         return Counted {
             is_sound: false,
             counts: [UNSOUND; SEGMENTS],
@@ -133,5 +130,5 @@ pub fn count_sections<'a>(
             need: 0,
         };
     }
-    count_sound(list, count, day, series, sizes)
+    count_sound(list, count, pools, sizes)
 }

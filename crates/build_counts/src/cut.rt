@@ -1,14 +1,13 @@
 // The events that one section takes (01, "Build, Read": "each section takes as many of the segment's next events as
 // fit").
 ghost use Rattle.std.specs.Prelude.{◌≡◌, ◌*◌, drop};
-ghost use Rattle.eit.specs.Pools.{lent_pools};
 ghost use Rattle.eit.specs.Records.{record_size, front_record};
 ghost use Rattle.eit.specs.Events.{event_of};
 ghost use Rattle.sections.specs.Section.{event_size};
 ghost use Rattle.build_counts.specs.Between.{events_between};
 ghost use Rattle.build_counts.specs.Cutting.{cut_of};
 
-use codec::pools;
+use codec::pools::Pools;
 use eit::limits::EVENT_OVERHEAD;
 use list_records::records;
 
@@ -20,32 +19,31 @@ pub struct Cut {
 }
 
 // The bytes of event i.
-pub fn event_size<'a>(list: &[u32], i: usize, day: &'a [u8], series: &'a [u8]) -> usize
+pub fn event_size(list: &[u32], i: usize, pools: &Pools<'_>) -> usize
     ensures { result
         ≡ event_size
-        (event_of (lent_pools day.now series.now)
+        (event_of pools.now
         (front_record (drop (i * record_size) list.now))) }
 {
     let r = records::record_at(list, i);
-    EVENT_OVERHEAD + pools::choose(day, series, r.marks, r.offset, r.chain_length).len()
+    EVENT_OVERHEAD + pools.choose(r.marks, r.offset, r.chain_length).len()
 }
 
 // As many of the events from `from` to `end` as fit in `room` bytes.
-pub fn next_cut<'a>(
+pub fn next_cut(
     list: &[u32],
     from: usize,
     end: usize,
-    day: &'a [u8],
-    series: &'a [u8],
+    pools: &Pools<'_>,
     room: usize,
 ) -> Cut
     ensures { result ≡ cut_of from room
-        (events_between (lent_pools day.now series.now) list.now from end) }
+        (events_between pools.now list.now from end) }
 {
     let mut to = from;
     let mut bytes = 0;
     while to < end {
-        let size = event_size(list, to, day, series);
+        let size = event_size(list, to, pools);
         if room - bytes < size {
             return Cut { to, bytes };
         }

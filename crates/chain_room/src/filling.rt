@@ -1,12 +1,12 @@
 // Greedy packing as one pass (01, "Build, Read": "each section takes as many of the segment's next events as fit"): an
 // event goes into the last section, or into a new one.
 ghost use Rattle.std.specs.Prelude.{◌≡◌};
-ghost use Rattle.eit.specs.Pools.{lent_pools};
 ghost use Rattle.packing.specs.OnePass.{added, filled};
 ghost use Rattle.sections.specs.Section.{event_size};
 ghost use Rattle.build_counts.specs.Between.{events_between};
 
 use build_counts::cut;
+use codec::pools::Pools;
 use packing::Filling;
 
 // One more event, of `size` bytes.
@@ -35,22 +35,21 @@ pub fn add(filling: Filling, size: usize, room: usize) -> Filling
 }
 
 // The pass over the events from `from` to `end`.
-pub fn fill<'a>(
+pub fn fill(
     list: &[u32],
     from: usize,
     end: usize,
-    day: &'a [u8],
-    series: &'a [u8],
+    pools: &Pools<'_>,
     room: usize,
     before: Filling,
 ) -> Filling
     ensures { result ≡ filled event_size room before
-        (events_between (lent_pools day.now series.now) list.now from end) }
+        (events_between pools.now list.now from end) }
 {
     let mut filling = before;
     let mut at = from;
     while at < end {
-        let size = cut::event_size(list, at, day, series);
+        let size = cut::event_size(list, at, pools);
         filling = add(filling, size, room);
         at += 1;
     }

@@ -3,7 +3,6 @@
 
 ghost use Rattle.std.specs.Prelude.{◌≡◌, T};
 ghost use Rattle.eit.specs.Sizes.{sizes_of};
-ghost use Rattle.eit.specs.Pools.{lent_pools};
 ghost use Rattle.eit.specs.Records.{lent_list};
 ghost use Rattle.eit.specs.Sound.{sound, events_of};
 ghost use Rattle.room.specs.ChainRoom.{length_at, chain_room};
@@ -11,6 +10,7 @@ ghost use Rattle.chain_room.specs.Outcome.{outcome_of, fits, length_or0};
 
 use build_counts::count::room_of;
 use build_counts::segment::end_of;
+use codec::pools::Pools;
 use codec_section::segment::segment_index;
 use eit::limits::SEGMENT_SECONDS;
 use eit::{Caller, Sizes, Time};
@@ -65,21 +65,20 @@ pub fn length_of(answer: RoomAnswer) -> u32
 
 // The answer for a sound list. Its segment's events stand one behind the other; if the start is taken, the first event
 // that is not earlier has it.
-fn answer_at<'a>(
+fn answer_at(
     list: &[u32],
     count: usize,
-    day: &'a [u8],
-    series: &'a [u8],
+    pools: &Pools<'_>,
     sizes: Sizes,
     start: u32,
 ) -> RoomAnswer
-    requires { T (sound sizes (lent_pools day.now series.now) (lent_list list.now count)) }
+    requires { T (sound sizes pools.now (lent_list list.now count)) }
     ensures { outcome_of result
         ≡ record {
           number = 0;
           given =
               length_at sizes
-              (events_of (lent_pools day.now series.now) (lent_list list.now count))
+              (events_of pools.now (lent_list list.now count))
               start;
         } }
 {
@@ -92,25 +91,24 @@ fn answer_at<'a>(
     if places::starts_at(list, place, end, start) {
         return RoomAnswer::NoneFits;
     }
-    longest::longest(list, from, place, end, day, series, room_of(sizes))
+    longest::longest(list, from, place, end, pools, room_of(sizes))
 }
 
 // 02's call: number and length are those of the definition.
-pub fn chain_room<'a>(
+pub fn chain_room(
     caller: Caller,
     list: &[u32],
     count: usize,
-    day: &'a [u8],
-    series: &'a [u8],
+    pools: &Pools<'_>,
     start: u32,
 ) -> RoomAnswer
-    ensures { chain_room (sizes_of caller) (lent_pools day.now series.now)
+    ensures { chain_room (sizes_of caller) pools.now
         (lent_list list.now count) start
         ≡ outcome_of result }
 {
-    let sizes = Sizes::of(caller);
-    if !list_sound::is_sound(list, count, day, series, sizes) {
+    let sizes = Sizes::from(caller);
+    if !list_sound::is_sound(list, count, pools, sizes) {
         return RoomAnswer::Unsound;
     }
-    answer_at(list, count, day, series, sizes, start)
+    answer_at(list, count, pools, sizes, start)
 }

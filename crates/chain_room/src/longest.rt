@@ -1,6 +1,5 @@
 // The longest chain of one more event, by halving: a shorter one fits where a longer one does.
 ghost use Rattle.std.specs.Prelude.{◌≡◌, ◌-◌};
-ghost use Rattle.eit.specs.Pools.{lent_pools};
 ghost use Rattle.sections.specs.Section.{event_overhead};
 ghost use Rattle.room.specs.ChainRoom.{largest, never_one};
 ghost use Rattle.build_counts.specs.Between.{events_between};
@@ -8,6 +7,7 @@ ghost use Rattle.chain_room.specs.Outcome.{outcome_of};
 ghost use Rattle.chain_room.specs.Trial.{holds, last_of, longest_between};
 
 use crate::{RoomAnswer, filling};
+use codec::pools::Pools;
 use eit::limits::{EVENT_OVERHEAD, SEGMENT_SECTIONS_MAX};
 use packing::Filling;
 
@@ -23,18 +23,17 @@ fn chain_max(room: u16) -> u16
 
 // How many lengths, from 0 on, the chain of one more event can have: the events before it are packed in `before`, and
 // those from `place` to `end` follow it. Some dozen lengths are tried.
-fn count_lengths<'a>(
+fn count_lengths(
     list: &[u32],
     place: usize,
     end: usize,
-    day: &'a [u8],
-    series: &'a [u8],
+    pools: &Pools<'_>,
     room: u16,
     before: Filling,
 ) -> u16
     ensures { largest
         (holds room before
-        (events_between (lent_pools day.now series.now) list.now place end))
+        (events_between pools.now list.now place end))
         (room - event_overhead)
         ≡ last_of result }
 {
@@ -43,7 +42,7 @@ fn count_lengths<'a>(
     while low < high {
         let tried = low + (high - low) / 2;
         let with = filling::add(before, EVENT_OVERHEAD + tried as usize, room as usize);
-        let all = filling::fill(list, place, end, day, series, room as usize, with);
+        let all = filling::fill(list, place, end, pools, room as usize, with);
         if all.held {
             low = tried + 1;
         } else {
@@ -67,16 +66,15 @@ fn answer_of(lengths: u16) -> RoomAnswer
 }
 
 // The answer for an event at `place` among those from `from` to `end`, which are its segment's.
-pub fn longest<'a>(
+pub fn longest(
     list: &[u32],
     from: usize,
     place: usize,
     end: usize,
-    day: &'a [u8],
-    series: &'a [u8],
+    pools: &Pools<'_>,
     room: u16,
 ) -> RoomAnswer
-    ensures { let lent = events_between (lent_pools day.now series.now) list.now in
+    ensures { let lent = events_between pools.now list.now in
         outcome_of result
         ≡ record { number = 0; given = never_one (longest_between room (lent from place) (lent place end)) } }
 {
@@ -85,6 +83,6 @@ pub fn longest<'a>(
         more: SEGMENT_SECTIONS_MAX - 1,
         free: room as usize,
     };
-    let before = filling::fill(list, from, place, day, series, room as usize, begun);
-    answer_of(count_lengths(list, place, end, day, series, room, before))
+    let before = filling::fill(list, from, place, pools, room as usize, begun);
+    answer_of(count_lengths(list, place, end, pools, room, before))
 }

@@ -1,6 +1,6 @@
 // The two lent pools, and the part of one that a record chooses (01, "Event record and sound list"). Nothing is copied.
 ghost use Rattle.std.specs.Prelude.{◌≡◌};
-ghost use Rattle.eit.specs.Pools.{pool_of, in_pool, part, choose};
+ghost use Rattle.eit.specs.Pools.{lent_pools, pool_of, in_pool, part, choose};
 ghost use Rattle.eit.specs.Sound.{has_chain};
 
 use crate::chain;
@@ -16,10 +16,14 @@ pub struct Pools<'a> {
 // In contracts a value is the definitions' record of the two pools' bytes.
 impl<'a> Model for Pools<'a> {
     ghost use Rattle.eit.specs.Pools.{Pools, lent_pools};
+    ghost use Rattle.eit.specs.Fields.{Bytes};
 
     ghost Value = { Pools };
 
     ghost view = { λ p. lent_pools p.day.now p.series.now };
+
+    // What their types say, for whoever has the value alone.
+    ghost invariant = { λ p. Bytes p.day.now × Bytes p.series.now };
 }
 
 // Whether a part lies in its pool; the sum does not wrap.
@@ -43,6 +47,12 @@ fn part(pool: &[u8], offset: u32, size: u32) -> &[u8]
 }
 
 impl<'a> Pools<'a> {
+    pub fn new(day: &'a [u8], series: &'a [u8]) -> Self
+        ensures { result ≡ lent_pools day.now series.now }
+    {
+        Pools { day, series }
+    }
+
     // Marks with 2 choose the series pool, all others the day pool.
     fn pool(&self, marks: u32) -> &'a [u8]
         ensures { result.now ≡ pool_of self.now marks }

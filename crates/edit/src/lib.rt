@@ -4,11 +4,11 @@
 
 ghost use Rattle.std.specs.Prelude.{◌≡◌};
 ghost use Rattle.eit.specs.Sizes.{sizes_of};
-ghost use Rattle.eit.specs.Pools.{lent_pools};
 ghost use Rattle.eit.specs.Records.{lent_list};
 ghost use Rattle.script.specs.Edit.{edit};
 ghost use Rattle.edit_answer.specs.Outcome.{outcome_of};
 
+use codec::pools::Pools;
 use edit_answer::{EditAnswer, Edited};
 use edit_scan::places::{PLACE_WORDS, PLACES};
 use edit_scan::scan;
@@ -20,20 +20,19 @@ mod part;
 mod run;
 
 // 01's Edit: number, value, count and every number of the list are those of the definition.
-pub fn edit<'a>(
+pub fn edit(
     caller: Caller,
     list: &mut [u32],
     count: usize,
-    day: &'a [u8],
-    series: &'a [u8],
+    pools: &Pools<'_>,
     script: &[u8],
 ) -> Edited
-    ensures { edit (sizes_of caller) (lent_pools day.now series.now)
+    ensures { edit (sizes_of caller) pools.now
         (lent_list list.old count) script.now
         ≡ outcome_of result list.new }
 {
-    let sizes = Sizes::of(caller);
-    if !list_sound::is_sound(list, count, day, series, sizes) {
+    let sizes = Sizes::from(caller);
+    if !list_sound::is_sound(list, count, pools, sizes) {
         return Edited {
             answer: EditAnswer::Unsound,
             count,
@@ -58,9 +57,9 @@ pub fn edit<'a>(
         },
         Scanned::Whole(k) => {
             if k <= PLACES {
-                return run::run_noted(list, count, day, series, sizes, script, 0, k, 0, &mut noted);
+                return run::run_noted(list, count, pools, sizes, script, 0, k, 0, &mut noted);
             }
-            part::run_part(list, count, day, series, sizes, script, 0, k, 0, &mut noted)
+            part::run_part(list, count, pools, sizes, script, 0, k, 0, &mut noted)
         }
     }
 }

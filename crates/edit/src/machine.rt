@@ -8,7 +8,7 @@ ghost use Rattle.edit_index.specs.Index.{slot_limit, lent_index, indexed_list};
 ghost use Rattle.edit.specs.Run.{run_one};
 ghost use Rattle.edit.specs.Indexed.{place_left, Kept, Leaves};
 
-use codec::pools;
+use codec::pools::Pools;
 use edit_answer::{EditAnswer, Edited};
 use edit_index::index::NO_SLOT;
 use edit_index::{index, neighbours, search};
@@ -41,21 +41,20 @@ fn limit_of(list: &[u32], sizes: Sizes) -> usize
 }
 
 // PUT: 5, 9, 6, 30, 8; then the record is put in its place.
-fn put<'a>(
+fn put(
     list: &[u32],
     slots: &mut [u32],
     order: &mut [u64],
     ids: &mut [u16],
     count: usize,
-    day: &'a [u8],
-    series: &'a [u8],
+    pools: &Pools<'_>,
     sizes: Sizes,
     at: usize,
     event: Record,
 ) -> Edited
     requires { Kept list.now (lent_index slots.old order.old ids.old) count × (sizes.event_limit ≤ slot_limit) }
     ensures { Leaves
-        (run_one sizes day.now series.now
+        (run_one sizes pools.now.day pools.now.series
         (indexed_list list.now (lent_index slots.old order.old ids.old) count)
         (model_command at (Command.Put event)))
         result list.now (lent_index slots.new order.new ids.new) }
@@ -66,7 +65,7 @@ fn put<'a>(
             count,
         };
     }
-    if !pools::has_chain(event, day, series) {
+    if !pools.has_chain(event) {
         return Edited {
             answer: EditAnswer::NoChain(at),
             count,
@@ -193,28 +192,27 @@ fn move_to(
 }
 
 // The command at an offset of the script; an UNDO changes nothing.
-pub fn carry_out<'a>(
+pub fn carry_out(
     list: &mut [u32],
     slots: &mut [u32],
     order: &mut [u64],
     ids: &mut [u16],
     count: usize,
-    day: &'a [u8],
-    series: &'a [u8],
+    pools: &Pools<'_>,
     sizes: Sizes,
     script: &[u8],
     at: usize,
 ) -> Edited
     requires { Kept list.old (lent_index slots.old order.old ids.old) count × (sizes.event_limit ≤ slot_limit) }
     ensures { Leaves
-        (run_one sizes day.now series.now
+        (run_one sizes pools.now.day pools.now.series
         (indexed_list list.old (lent_index slots.old order.old ids.old) count)
         (command_of (get_or script.now at 0) at (drop (suc at) script.now)))
         result list.new (lent_index slots.new order.new ids.new) }
 {
     match command::command_at(script, at) {
         Command::Put(event) => put(
-            list, slots, order, ids, count, day, series, sizes, at, event,
+            list, slots, order, ids, count, pools, sizes, at, event,
         ),
         Command::Withdraw(id) => withdraw(list, slots, order, ids, count, at, id),
         Command::Move(id, start) => move_to(list, slots, order, ids, count, at, id, start),

@@ -1,7 +1,6 @@
 // A script of any length is run in parts, each with the UNDOs that are pending behind it (01, "Edit": each UNDO strikes
 // the nearest earlier edit that is not yet struck).
 ghost use Rattle.std.specs.Prelude.{◌≡◌, ◌*◌, ◌≤◌, T, length, take};
-ghost use Rattle.eit.specs.Pools.{lent_pools};
 ghost use Rattle.eit.specs.Records.{lent_list};
 ghost use Rattle.eit.specs.Sound.{sound};
 ghost use Rattle.script.specs.Struck.{pending_before};
@@ -12,6 +11,7 @@ ghost use Rattle.edit_answer.specs.Outcome.{outcome_of};
 ghost use Rattle.edit_index.specs.Index.{slot_limit};
 
 use crate::run;
+use codec::pools::Pools;
 use edit_answer::{EditAnswer, Edited};
 use edit_scan::places::PLACES;
 use edit_scan::{command, places, scan};
@@ -45,11 +45,10 @@ fn pending_before(script: &[u8], at: usize, k: usize, undos: usize) -> usize
 // The live edits among k commands from `at` on, with so many UNDOs pending behind them, on a list that is sound: those
 // of the first half, then those of the second, until a half is short. What strikes in the first is counted by a pass
 // over the second. `noted` is room for the places of a part's UNDOs.
-pub fn run_part<'a>(
+pub fn run_part(
     list: &mut [u32],
     count: usize,
-    day: &'a [u8],
-    series: &'a [u8],
+    pools: &Pools<'_>,
     sizes: Sizes,
     script: &[u8],
     at: usize,
@@ -57,10 +56,10 @@ pub fn run_part<'a>(
     undos: usize,
     noted: &mut [u64],
 ) -> Edited
-    requires { T (sound sizes (lent_pools day.now series.now) (lent_list list.old count))
+    requires { T (sound sizes pools.now (lent_list list.old count))
         × (k ≤ length (commands_at at script.now)) × (sizes.event_limit ≤ slot_limit)
         × (place_limit ≤ 64 * length noted.old) }
-    ensures { run_part sizes day.now series.now (lent_list list.old count) undos k at
+    ensures { run_part sizes pools.now.day pools.now.series (lent_list list.old count) undos k at
         script.now
         ≡ outcome_of result list.new }
 {
@@ -72,19 +71,19 @@ pub fn run_part<'a>(
     }
     if k <= PLACES {
         places::note_undos(script, at, k, noted);
-        return run::run_noted(list, count, day, series, sizes, script, at, k, undos, noted);
+        return run::run_noted(list, count, pools, sizes, script, at, k, undos, noted);
     }
     let h = k / 2;
     let rest = k - h;
     let mid = scan::skip_commands(script, at, h);
     let before = pending_before(script, mid, rest, undos);
     let r = run_part(
-        list, count, day, series, sizes, script, at, h, before, noted,
+        list, count, pools, sizes, script, at, h, before, noted,
     );
     let answer = r.answer;
     if edit_answer::number_of(answer) != 0 {
         return r;
     }
     let n = r.count;
-    run_part(list, n, day, series, sizes, script, mid, rest, undos, noted)
+    run_part(list, n, pools, sizes, script, mid, rest, undos, noted)
 }

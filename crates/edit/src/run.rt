@@ -1,7 +1,6 @@
 // The live edits of a part of a script are carried out in order (01, "Edit"), on an index that is made from the list
 // and written back to it; a refusal leaves the list as the earlier edits made it.
 ghost use Rattle.std.specs.Prelude.{◌≡◌, ℕ, ◌*◌, ◌≤◌, T, length, take};
-ghost use Rattle.eit.specs.Pools.{lent_pools};
 ghost use Rattle.eit.specs.Records.{lent_list, record_size};
 ghost use Rattle.eit.specs.Sound.{sound};
 ghost use Rattle.edit_scan.specs.Commands.{commands_at};
@@ -11,6 +10,7 @@ ghost use Rattle.edit_answer.specs.Outcome.{outcome_of};
 ghost use Rattle.edit_index.specs.Index.{slot_limit, Holds, lent_index, indexed_numbers, indexed_list};
 
 use crate::machine;
+use codec::pools::Pools;
 use codec::seen;
 use edit_answer::{EditAnswer, Edited};
 use edit_index::index;
@@ -21,26 +21,25 @@ use list_records::records::RECORD_SIZE;
 
 // The live edits among k commands from `at` on, by their places, on an index that stands for a sound list; it ends
 // where one is refused.
-fn run_indexed<'a>(
+fn run_indexed(
     list: &mut [u32],
     slots: &mut [u32],
     order: &mut [u64],
     ids: &mut [u16],
     count: usize,
-    day: &'a [u8],
-    series: &'a [u8],
+    pools: &Pools<'_>,
     sizes: Sizes,
     script: &[u8],
     at: usize,
     k: usize,
     live_places: &[u64],
 ) -> Edited
-    requires { T (sound sizes (lent_pools day.now series.now)
+    requires { T (sound sizes pools.now
         (indexed_list list.old (lent_index slots.old order.old ids.old) count))
         × (k ≤ length (commands_at at script.now)) × (k ≤ place_limit) × (sizes.event_limit ≤ slot_limit)
         × Holds (lent_index slots.old order.old ids.old) count × (count * record_size ≤ length list.old) }
     ensures { ((undos : ℕ) → LivePlaces live_places.now undos (take k (commands_at at script.now))
-        → run_part sizes day.now series.now
+        → run_part sizes pools.now.day pools.now.series
         (indexed_list list.old (lent_index slots.old order.old ids.old) count)
         undos k at script.now
         ≡ outcome_of result
@@ -54,7 +53,7 @@ fn run_indexed<'a>(
     while place < k {
         if seen::is_seen(live_places, place as u32) {
             let r = machine::carry_out(
-                list, slots, order, ids, held, day, series, sizes, script, i,
+                list, slots, order, ids, held, pools, sizes, script, i,
             );
             let answer = r.answer;
             if edit_answer::number_of(answer) != 0 {
@@ -73,11 +72,10 @@ fn run_indexed<'a>(
 
 // The edits of k commands from `at` on, with so many UNDOs pending behind them, on a list that is sound; `noted` has
 // the places of the UNDOs among them, and is left with those of the live edits.
-pub fn run_noted<'a>(
+pub fn run_noted(
     list: &mut [u32],
     count: usize,
-    day: &'a [u8],
-    series: &'a [u8],
+    pools: &Pools<'_>,
     sizes: Sizes,
     script: &[u8],
     at: usize,
@@ -85,11 +83,11 @@ pub fn run_noted<'a>(
     undos: usize,
     noted: &mut [u64],
 ) -> Edited
-    requires { T (sound sizes (lent_pools day.now series.now) (lent_list list.old count))
+    requires { T (sound sizes pools.now (lent_list list.old count))
         × (k ≤ length (commands_at at script.now)) × (k ≤ place_limit) × (undos ≤ place_limit)
         × (sizes.event_limit ≤ slot_limit) × (k ≤ 64 * length noted.old)
         × UndoPlaces noted.old (take k (commands_at at script.now)) }
-    ensures { run_part sizes day.now series.now (lent_list list.old count) undos k at
+    ensures { run_part sizes pools.now.day pools.now.series (lent_list list.old count) undos k at
         script.now
         ≡ outcome_of result list.new }
 {
@@ -99,7 +97,7 @@ pub fn run_noted<'a>(
     let mut ids = [NO_SLOT; IDS];
     index::load(list, count, &mut slots, &mut order, &mut ids);
     let r = run_indexed(
-        list, &mut slots, &mut order, &mut ids, count, day, series, sizes, script, at, k, noted,
+        list, &mut slots, &mut order, &mut ids, count, pools, sizes, script, at, k, noted,
     );
     let n = r.count;
     index::store(list, &slots, &order, n);

@@ -79,5 +79,5 @@ fn check_within(file: &[u8], base_day: u32, sizes: Sizes) -> ReadResult
 pub fn check(caller: Caller, file: &[u8], base_day: u32) -> ReadResult
     ensures { check_file (sizes_of caller) base_day file.now ≡ outcome_of result }
 {
-    check_within(file, base_day, Sizes::of(caller))
+    check_within(file, base_day, Sizes::from(caller))
 }

@@ -4,12 +4,12 @@
 
 ghost use Rattle.std.specs.Prelude.{◌≡◌};
 ghost use Rattle.eit.specs.Sizes.{sizes_of};
-ghost use Rattle.eit.specs.Pools.{lent_pools};
 ghost use Rattle.eit.specs.Records.{lent_list};
 ghost use Rattle.schedule.specs.Rebuild.{rebuild};
 ghost use Rattle.rebuild.specs.Outcome.{answer_number, answer_value, outcome_of};
 
 use build_answer::BuildAnswer;
+use codec::pools::Pools;
 use eit::{Caller, Identity};
 use read_answer::ReadAnswer;
 
@@ -47,19 +47,18 @@ pub fn value_of(answer: RebuildAnswer) -> usize
 // 02's further call: number, value and every byte of the output are those of the definition. The new list is built
 // under the previous versions first: then a table that is the same, version and CRC aside, is the same in every byte.
 // Where one differs, the file is built once more under the next versions.
-pub fn rebuild<'a>(
+pub fn rebuild(
     caller: Caller,
     previous: &[u8],
     previous_base_day: u32,
     list: &[u32],
     count: usize,
-    day: &'a [u8],
-    series: &'a [u8],
+    pools: &Pools<'_>,
     base_day: u32,
     out: &mut [u8],
 ) -> RebuildAnswer
     ensures { rebuild (sizes_of caller) previous.now previous_base_day
-        (lent_pools day.now series.now) (lent_list list.now count) base_day
+        pools.now (lent_list list.now count) base_day
         out.old
         ≡ outcome_of result out.new }
 {
@@ -69,7 +68,7 @@ pub fn rebuild<'a>(
         return RebuildAnswer::Previous(answer);
     }
     let identity = read.identity;
-    let built = build::build(caller, list, count, day, series, base_day, identity, out);
+    let built = build::build(caller, list, count, pools, base_day, identity, out);
     if build_answer::number_of(built) != 0 {
         return RebuildAnswer::Built(built);
     }
@@ -84,5 +83,5 @@ pub fn rebuild<'a>(
         triplet,
         versions: next,
     };
-    RebuildAnswer::Built(build::build(caller, list, count, day, series, base_day, changed, out))
+    RebuildAnswer::Built(build::build(caller, list, count, pools, base_day, changed, out))
 }

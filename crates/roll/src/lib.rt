@@ -3,11 +3,11 @@
 
 ghost use Rattle.std.specs.Prelude.{◌≡◌};
 ghost use Rattle.eit.specs.Sizes.{sizes_of};
-ghost use Rattle.eit.specs.Pools.{lent_pools};
 ghost use Rattle.eit.specs.Records.{lent_list};
 ghost use Rattle.window.specs.Roll.{roll};
 ghost use Rattle.roll.specs.Outcome.{answer_number, answer_value, outcome_of};
 
+use codec::pools::Pools;
 use eit::limits::BASE_DAY_MAX;
 use eit::{Caller, Sizes};
 use list_records::records::RECORD_SIZE;
@@ -57,15 +57,14 @@ pub fn value_of(answer: RollAnswer, count: usize) -> usize
 
 // 02's roll: number, value, count, base day and every number of the list are those of the definition.
 #[tactic(auto, using(crate::proofs::RollLaws::stay_few, list_sound::proofs::ForwardLaws::sound_short))]
-pub fn roll<'a>(
+pub fn roll(
     caller: Caller,
     list: &mut [u32],
     count: usize,
-    day: &'a [u8],
-    series: &'a [u8],
+    pools: &Pools<'_>,
     base_day: u32,
 ) -> Rolled
-    ensures { roll (sizes_of caller) (lent_pools day.now series.now)
+    ensures { roll (sizes_of caller) pools.now
         (lent_list list.old count) base_day
         ≡ outcome_of result list.new }
 {
@@ -76,7 +75,7 @@ pub fn roll<'a>(
             base_day,
         };
     }
-    if !list_sound::is_sound(list, count, day, series, Sizes::of(caller)) {
+    if !list_sound::is_sound(list, count, pools, Sizes::from(caller)) {
         return Rolled {
             answer: RollAnswer::Unsound,
             count,

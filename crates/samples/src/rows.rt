@@ -43,12 +43,11 @@ pub fn show_exchanged(
 
 // Two events for broadcast, a second apart, the first with the whole day pool as its chain and the second with the
 // series pool, under a heading.
-pub fn show_pair<'a>(
+pub fn show_pair(
     rt: &impl Print,
     heading: &[u8],
     start: u32,
-    day: &'a [u8],
-    series: &'a [u8],
+    pools: &Pools<'_>,
 ) -> io::Result<()> {
     lines::print_heading(rt, heading)?;
     let mut script = [0u8; 2 * lists::PUT_SIZE];
@@ -61,5 +60,5 @@ pub fn show_pair<'a>(
         2,
         series.len(),
     );
-    show::show_script(rt, Caller::Broadcast, &script, day, series)
+    show::show_script(rt, Caller::Broadcast, &script, pools)
 }

@@ -35,18 +35,17 @@ pub struct Outcome {
 }
 
 // Build, into a lent file. Where it succeeds, the value is a length within the file.
-pub fn build_list<'a>(
+pub fn build_list(
     caller: Caller,
     list: &[u32],
     count: usize,
-    day: &'a [u8],
-    series: &'a [u8],
+    pools: &Pools<'_>,
     identity: Identity,
     file: &mut [u8],
 ) -> Outcome
     ensures { result.number ≡ 0 → result.value ≤ length file.new }
 {
-    let built = build::build(caller, list, count, day, series, BASE_DAY, identity, file);
+    let built = build::build(caller, list, count, pools, BASE_DAY, identity, file);
     Outcome {
         number: build_answer::number_of(built),
         value: build_answer::value_of(built),
@@ -112,15 +111,14 @@ fn is_unsound(tables: [[u8; TABLE_SEGMENTS]; TABLES]) -> bool {
 }
 
 // Plan's counts.
-fn show_plan<'a>(
+fn show_plan(
     rt: &impl Print,
     caller: Caller,
     list: &[u32],
     count: usize,
-    day: &'a [u8],
-    series: &'a [u8],
+    pools: &Pools<'_>,
 ) -> io::Result<()> {
-    let tables = build::plan(caller, list, count, day, series);
+    let tables = build::plan(caller, list, count, pools);
     if is_unsound(tables) {
         lines::print(rt, b"plan 254 in every entry\n")?;
         return Ok(());
@@ -135,19 +133,18 @@ fn show_plan<'a>(
 }
 
 // A list: Build, Plan, and the file with its cuts.
-pub fn show_list<'a>(
+pub fn show_list(
     rt: &impl Print,
     caller: Caller,
     list: &[u32],
     count: usize,
-    day: &'a [u8],
-    series: &'a [u8],
+    pools: &Pools<'_>,
 ) -> io::Result<()> {
     let mut file = [0u8; FILE_SIZE];
-    let built = build_list(caller, list, count, day, series, identity(), &mut file);
+    let built = build_list(caller, list, count, pools, identity(), &mut file);
     let size = built.value;
     lines::print_answer(rt, b"build", built.number, size)?;
-    show_plan(rt, caller, list, count, day, series)?;
+    show_plan(rt, caller, list, count, pools)?;
     if built.number == 0 {
         let made = &file[..size];
         lines::print_cuts(rt, made)?;
@@ -157,21 +154,20 @@ pub fn show_list<'a>(
 }
 
 // A script on an empty list.
-pub fn show_script<'a>(
+pub fn show_script(
     rt: &impl Print,
     caller: Caller,
     script: &[u8],
-    day: &'a [u8],
-    series: &'a [u8],
+    pools: &Pools<'_>,
 ) -> io::Result<()> {
     let mut list = [0u32; LIST_SIZE];
-    let edited = edit::edit(caller, &mut list, 0, day, series, script);
+    let edited = edit::edit(caller, &mut list, 0, pools, script);
     let answer = edited.answer;
     let count = edited.count;
     let number = edit_answer::number_of(answer);
     lines::print_answer(rt, b"edit", number, edit_answer::value_of(answer, count))?;
     if number == 0 {
-        show_list(rt, caller, &list, count, day, series)?;
+        show_list(rt, caller, &list, count, pools)?;
     }
     Ok(())
 }

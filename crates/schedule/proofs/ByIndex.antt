@@ -22,7 +22,7 @@ use Rattle.schedule.specs.SectionsOf.{sections_of}
 use Rattle.schedule.specs.Plan.{tabled}
 use Rattle.sections.proofs.Each.{each_same, each_within, each_shift, each_rows}
 use Rattle.sections.proofs.Each.{joined_none, joined_front, joined_rows, no_lowest, lowest_is}
-use Rattle.schedule.proofs.SoundEvents.{SoundEvents}
+use Rattle.schedule.proofs.SoundEvents.{SoundStarts}
 use Rattle.schedule.proofs.Extent.{segment_in_table, tables_few, is_inside_holds, inside_is}
 use Rattle.schedule.proofs.Held.{table_is, file_is}
 use Rattle.schedule.proofs.Packable.{packable_or}
@@ -103,7 +103,7 @@ module _ (sizes : Sizes) (identity : Identity) (es : List Event) where
 -- ---- the lowest unpackable segment
 
 -- behind the last event's segment none is unpackable
-pub lowest_by_index : (sizes : Sizes) (es : List Event) → SoundEvents sizes es
+pub lowest_by_index : (sizes : Sizes) (es : List Event) → SoundStarts es
     → lowest_unpackable sizes es ≡ lowest (is_unpackable sizes es) 0 512
 lowest_by_index sizes es facts =
     ⊎_elim

@@ -36,7 +36,7 @@ use Rattle.schedule.specs.SectionsOf.{is_unpackable, sections_of}
 use Rattle.schedule.specs.Build.{Built, refusal, written, build_events, are_versions, file_of}
 use Rattle.schedule.specs.Given.{Given, built, events, with_tables, Carries, EightHold}
 use Rattle.schedule.specs.Extent.{last_table, last_table_id_of}
-use Rattle.schedule.proofs.SoundEvents.{EventFacts, SoundEvents, sound_events}
+use Rattle.schedule.proofs.SoundEvents.{EventFacts, SoundEvents, sound_events, starts_of}
 use Rattle.schedule.proofs.Extent.{tables_few}
 use Rattle.schedule.proofs.UnderIdentity.{with_tables_rules, with_tables_same, with_tables_absent}
 use Rattle.schedule.proofs.Held.{sections_events}
@@ -94,7 +94,7 @@ module _ {sizes : Sizes} (g : Given sizes) where
         before,
         λ output. sounds output ∙ events_refused sizes g.base g.identity (events g) output index lowest,
       ))
-      (packable_or sizes (events g) facts)
+      (packable_or sizes (events g) (starts_of sizes (events g) facts))
 
   -- what Build that succeeds has written
   pub writes : (output : List ℕ) → (built g output).number ≡ 0

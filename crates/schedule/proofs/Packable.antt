@@ -17,13 +17,12 @@ use Rattle.packing.proofs.Greedy.{greedy_packable, packable, greedy_count}
 use Rattle.sections.specs.Section.{event_size}
 use Rattle.sections.specs.Every.{Every}
 use Rattle.sections.specs.Count.{segment_events}
-use Rattle.sections.proofs.Every.{every_map}
 use Rattle.sections.proofs.Count.{events_same}
 use Rattle.schedule.specs.Extent.{last_index}
 use Rattle.schedule.specs.SectionsOf.{is_unpackable, lowest_unpackable}
 use Rattle.schedule.specs.Given.{EightHold}
 use Rattle.sections.proofs.Each.{lowest_or}
-use Rattle.schedule.proofs.SoundEvents.{EventFacts, SoundEvents}
+use Rattle.schedule.proofs.SoundEvents.{SoundStarts}
 use Rattle.schedule.proofs.Extent.{start_index, tables_few, last_most}
 
 -- the test of a segment
@@ -64,15 +63,14 @@ beyond_packable sizes index es behind rises =
     held_packable sizes es index ([], record { ordered = sym none-there; all_fit = tt }, omega arith)
 
 -- no segment is unpackable, or one is and none before it
-pub packable_or : (sizes : Sizes) (es : List Event) → SoundEvents sizes es
+pub packable_or : (sizes : Sizes) (es : List Event) → SoundStarts es
     → ((lowest_unpackable sizes es ≡ none) × ((index : ℕ) → T (not (is_unpackable sizes es index))))
     ⊎ ((index : ℕ) × (lowest_unpackable sizes es ≡ some index) × (index < 512) × T (is_unpackable sizes es index)
     × ((lower : ℕ) → lower < index → T (not (is_unpackable sizes es lower))))
 unfolding lowest_unpackable
 packable_or sizes es facts =
     let last : ℕ = last_index 0 es in
-    let few : last / 32 < 16 =
-    tables_few es (every_map (λ (e : Event) (f : EventFacts e). f.start) es facts.facts) in
+    let few : last / 32 < 16 = tables_few es facts.starts in
     ⊎_elim
     (λ (ends, all). inl (
       ends,

@@ -21,6 +21,7 @@ use Rattle.eit.proofs.Pools.{part_bytes}
 use Rattle.eit.proofs.Sound.{range_facts, sound_list, chain_facts, events_length}
 use Rattle.sections.specs.Section.{event_ids}
 use Rattle.sections.specs.Every.{Every}
+use Rattle.sections.proofs.Every.{every_map}
 
 -- an event in a record's range, with a chain of bytes
 pub record EventFacts (e : Event) : Type 0 where
@@ -31,12 +32,34 @@ pub record EventFacts (e : Event) : Type 0 where
   pub bytes : Bytes e.chain
   pub chain : T (is_chain e.chain)
 
+-- the events start one after the other, and within the window
+pub record SoundStarts (es : List Event) : Type 0 where
+  pub rises : T (rising es)
+  pub starts : Every (λ (e : Event). e.start < window_seconds) es
+
 -- what soundness says of the events of a list
 pub record SoundEvents (sizes : Sizes) (es : List Event) : Type 0 where
   pub facts : Every EventFacts es
   pub rises : T (rising es)
   pub differ : T (all_differ (event_ids es))
   pub few : length es ≤ sizes.event_limit
+
+pub starts_of : (sizes : Sizes) (es : List Event) → SoundEvents sizes es → SoundStarts es
+starts_of sizes es facts =
+    record { rises = facts.rises; starts = every_map (λ (e : Event) (f : EventFacts e). f.start) es facts.facts }
+
+valid_starts : (pools : Pools) (rs : List Record) → T (all_valid pools rs)
+    → Every (λ (e : Event). e.start < window_seconds) (events_in pools rs)
+valid_starts pools [] valid = tt
+valid_starts pools (r ∷ rs) valid = ((range_facts r (search tests)).start, valid_starts pools rs (search tests))
+
+-- for these the pools need not be of bytes
+pub sound_starts : (sizes : Sizes) (pools : Pools) (list : EventList) → T (sound sizes pools list)
+    → SoundStarts (events_of pools list)
+unfolding events_of
+sound_starts sizes pools list t =
+    let facts = sound_list sizes pools list t in
+    record { rises = facts.records.rises; starts = valid_starts pools (records_of list) facts.records.valid }
 
 module _ (pools : Pools) (day : Bytes pools.day) (series : Bytes pools.series) where
   pool_bytes : (marks : ℕ) → Bytes (pool_of pools marks)

@@ -12,7 +12,6 @@ use Rattle.eit.specs.declared.Sizes.{Sizes}
 use Rattle.eit.specs.declared.Identity.{Identity}
 use Rattle.eit.specs.Pools.{Pools, lent_pools}
 use Rattle.eit.specs.Records.{lent_list}
-use Rattle.eit.proofs.Fields.{bytes_all}
 use Rattle.schedule.specs.Build.{are_versions}
 use Rattle.schedule.proofs.Build.{build_base, build_version}
 use Rattle.build_counts.specs.Counting.{counted_of}
@@ -24,13 +23,13 @@ use Rattle.build.proofs.build_within.Goals as goal
 pub returns-then-base_day-gt-BASE_DAY_MAX : goal.returns-then-base_day-gt-BASE_DAY_MAX
 returns-then-base_day-gt-BASE_DAY_MAX c =
     let a = c.args in
-    build_base a.sizes (lent_pools a.day.now a.series.now) (lent_list a.list.now a.count) a.base_day a.identity
+    build_base a.sizes a.pools.now (lent_list a.list.now a.count) a.base_day a.identity
     a.out.now c.if-base_day-gt-BASE_DAY_MAX.true
 
 pub returns-then-not-are_versions : goal.returns-then-not-are_versions
 returns-then-not-are_versions c =
     let a = c.args in
-    build_version a.sizes (lent_pools a.day.now a.series.now) (lent_list a.list.now a.count) a.base_day a.identity
+    build_version a.sizes a.pools.now (lent_list a.list.now a.count) a.base_day a.identity
     a.out.now c.if-base_day-gt-BASE_DAY_MAX.false
     (subst (λ (b : Bool). T (not b)) (sym c.if-not-are_versions.true ∙ c.are_versions.ensures) tt)
 
@@ -67,22 +66,19 @@ returns-then-out-need c =
     answer_short
     (asked c.count_sections-counted.ensures c.if-base_day-gt-BASE_DAY_MAX.false c.if-not-are_versions.false
     c.are_versions.ensures)
-    (not-false _ c.if-not-counted.false) (bytes_all _ (λ k. (c.type_inv.day k).fits))
-    (bytes_all _ (λ k. (c.type_inv.series k).fits)) c.if-counted-lt-SEGMENTS.false c.if-out-need.true
+    (not-false _ c.if-not-counted.false) c.if-counted-lt-SEGMENTS.false c.if-out-need.true
 
 pub write_file-requires : goal.write_file-requires
 write_file-requires c =
     answer_writable
     (asked c.count_sections-counted.ensures c.if-base_day-gt-BASE_DAY_MAX.false c.if-not-are_versions.false
     c.are_versions.ensures)
-    (not-false _ c.if-not-counted.false) (bytes_all _ (λ k. (c.type_inv.day k).fits))
-    (bytes_all _ (λ k. (c.type_inv.series k).fits)) c.if-counted-lt-SEGMENTS.false c.if-out-need.false
+    (not-false _ c.if-not-counted.false) c.if-counted-lt-SEGMENTS.false c.if-out-need.false
 
 pub returns : goal.returns
 returns c =
     answer_done
     (asked c.count_sections-counted.ensures c.if-base_day-gt-BASE_DAY_MAX.false c.if-not-are_versions.false
     c.are_versions.ensures)
-    (not-false _ c.if-not-counted.false) (bytes_all _ (λ k. (c.type_inv.day k).fits))
-    (bytes_all _ (λ k. (c.type_inv.series k).fits)) c.if-counted-lt-SEGMENTS.false c.if-out-need.false
+    (not-false _ c.if-not-counted.false) c.if-counted-lt-SEGMENTS.false c.if-out-need.false
     c.write_file.ensures

@@ -11,7 +11,7 @@ pub returns : goal.returns
 returns c =
     let counted = c.count_sections-counted in
     let a = c.args in
-    let pools = lent_pools a.day.now a.series.now in
+    let pools = a.pools.now in
     let list = lent_list a.list.now a.count in
     c.tables_of.ensures
     ∙ plan_of_counts a.sizes pools list counted.result.counts

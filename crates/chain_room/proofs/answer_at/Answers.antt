@@ -13,13 +13,13 @@ use Rattle.chain_room.proofs.answer_at.Goals as goal
 pub returns-then-not-is_start : goal.returns-then-not-is_start
 returns-then-not-is_start c =
     let a = c.args in
-    past_answer a.sizes (lent_pools a.day.now a.series.now) a.list.now a.count a.start c.requires
+    past_answer a.sizes a.pools.now a.list.now a.count a.start c.requires
     (ltb-false a.start window_seconds (sym c.is_start.ensures ∙ c.if-not-is_start.true))
 
 pub returns-then-starts_at : goal.returns-then-starts_at
 returns-then-starts_at c =
     let a = c.args in
-    let pools : Pools = lent_pools a.day.now a.series.now in
+    let pools : Pools = a.pools.now in
     let lent : ℕ → ℕ → List Event = events_between pools a.list.now in
     let from = c.skip_earlier-from.result in
     let is-end : c.end_of-end.result ≡ from + leading (segment_index a.start) (lent from a.count) =
@@ -31,7 +31,7 @@ returns-then-starts_at c =
 pub returns : goal.returns
 returns c =
     let a = c.args in
-    let pools : Pools = lent_pools a.day.now a.series.now in
+    let pools : Pools = a.pools.now in
     let lent : ℕ → ℕ → List Event = events_between pools a.list.now in
     let from = c.skip_earlier-from.result in
     let is-end : c.end_of-end.result ≡ from + leading (segment_index a.start) (lent from a.count) =

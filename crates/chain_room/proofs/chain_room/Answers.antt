@@ -14,7 +14,7 @@ use Rattle.chain_room.proofs.chain_room.Goals as goal
 pub returns-then-not-is_sound : goal.returns-then-not-is_sound
 returns-then-not-is_sound c =
     let a = c.args in
-    let pools : Pools = lent_pools a.day.now a.series.now in
+    let pools : Pools = a.pools.now in
     let list : EventList = lent_list a.list.now a.count in
     let said : c.is_sound.result ≡ sound (sizes_of a.caller) pools list =
     c.is_sound.ensures ∙ ap (λ (s : Sizes). sound s pools list) c.of-sizes.ensures in
@@ -24,7 +24,7 @@ returns-then-not-is_sound c =
 pub returns : goal.returns
 returns c =
     let a = c.args in
-    let pools : Pools = lent_pools a.day.now a.series.now in
+    let pools : Pools = a.pools.now in
     let list : EventList = lent_list a.list.now a.count in
     let said : c.is_sound.result ≡ sound (sizes_of a.caller) pools list =
     c.is_sound.ensures ∙ ap (λ (s : Sizes). sound s pools list) c.of-sizes.ensures in

@@ -30,7 +30,7 @@ pub returns-then-not-is_sound : goal.returns-then-not-is_sound
 returns-then-not-is_sound c =
     let a = c.args in
     under a.caller _ c.of-sizes.ensures _ _ a.script.now _
-    (edit_12 c.of-sizes.result a.day.now a.series.now (lent_list a.list.now a.count) c.is_sound.result
+    (edit_12 c.of-sizes.result a.pools.now.day a.pools.now.series (lent_list a.list.now a.count) c.is_sound.result
     c.is_sound.ensures
     a.script.now
     c.if-not-is_sound.true)
@@ -40,8 +40,8 @@ returns-then-script-eq0 c =
     let a = c.args in
     let list = lent_list a.list.now a.count in
     under a.caller _ c.of-sizes.ensures _ _ a.script.now _
-    (edit_none c.of-sizes.result a.day.now a.series.now list
-    (is_sound_holds c.of-sizes.result a.day.now a.series.now list c.is_sound.result c.is_sound.ensures
+    (edit_none c.of-sizes.result a.pools.now.day a.pools.now.series list
+    (is_sound_holds c.of-sizes.result a.pools.now.day a.pools.now.series list c.is_sound.result c.is_sound.ensures
     c.if-not-is_sound.false)
     a.script.now
     c.if-script-eq0.true)
@@ -50,7 +50,7 @@ pub run_noted-requires : goal.run_noted-requires
 run_noted-requires c =
     let a = c.args in
     let whole = sym c.in-Whole.ensures.0 in (
-      is_sound_holds c.of-sizes.result a.day.now a.series.now (lent_list a.list.now a.count) c.is_sound.result
+      is_sound_holds c.of-sizes.result a.pools.now.day a.pools.now.series (lent_list a.list.now a.count) c.is_sound.result
           c.is_sound.ensures c.if-not-is_sound.false,
       omega (arith, scan_count_is a.script.now c.in-Whole.k whole),
       c.if-k-le-PLACES.true,
@@ -66,17 +66,17 @@ returns-then-k-le-PLACES c =
     let a = c.args in
     let list = lent_list a.list.now a.count in
     let sounds =
-    is_sound_holds c.of-sizes.result a.day.now a.series.now list c.is_sound.result c.is_sound.ensures
+    is_sound_holds c.of-sizes.result a.pools.now.day a.pools.now.series list c.is_sound.result c.is_sound.ensures
     c.if-not-is_sound.false in
     under a.caller _ c.of-sizes.ensures _ _ a.script.now _
-    (edit_goes_on c.of-sizes.result a.day.now a.series.now list sounds a.script.now c.in-Whole.k
+    (edit_goes_on c.of-sizes.result a.pools.now.day a.pools.now.series list sounds a.script.now c.in-Whole.k
     (sym c.in-Whole.ensures.0)
     ∙ c.run_noted.ensures)
 
 pub run_part-requires : goal.run_part-requires
 run_part-requires c =
     let a = c.args in (
-      is_sound_holds c.of-sizes.result a.day.now a.series.now (lent_list a.list.now a.count) c.is_sound.result
+      is_sound_holds c.of-sizes.result a.pools.now.day a.pools.now.series (lent_list a.list.now a.count) c.is_sound.result
           c.is_sound.ensures c.if-not-is_sound.false,
       omega (arith, scan_count_is a.script.now c.in-Whole.k (sym c.in-Whole.ensures.0)),
       capacity a.caller c.of-sizes.result c.of-sizes.ensures,
@@ -88,29 +88,29 @@ returns-in-Broken c =
     let a = c.args in
     let list = lent_list a.list.now a.count in
     let sounds =
-    is_sound_holds c.of-sizes.result a.day.now a.series.now list c.is_sound.result c.is_sound.ensures
+    is_sound_holds c.of-sizes.result a.pools.now.day a.pools.now.series list c.is_sound.result c.is_sound.ensures
     c.if-not-is_sound.false in
     under a.caller _ c.of-sizes.ensures _ _ a.script.now _
-    (edit_3 c.of-sizes.result a.day.now a.series.now list sounds a.script.now _ (sym c.in-Broken.ensures.0))
+    (edit_3 c.of-sizes.result a.pools.now.day a.pools.now.series list sounds a.script.now _ (sym c.in-Broken.ensures.0))
 
 pub returns-in-NothingToUndo : goal.returns-in-NothingToUndo
 returns-in-NothingToUndo c =
     let a = c.args in
     let list = lent_list a.list.now a.count in
     let sounds =
-    is_sound_holds c.of-sizes.result a.day.now a.series.now list c.is_sound.result c.is_sound.ensures
+    is_sound_holds c.of-sizes.result a.pools.now.day a.pools.now.series list c.is_sound.result c.is_sound.ensures
     c.if-not-is_sound.false in
     under a.caller _ c.of-sizes.ensures _ _ a.script.now _
-    (edit_4 c.of-sizes.result a.day.now a.series.now list sounds a.script.now _ (sym c.in-NothingToUndo.ensures.0))
+    (edit_4 c.of-sizes.result a.pools.now.day a.pools.now.series list sounds a.script.now _ (sym c.in-NothingToUndo.ensures.0))
 
 pub returns-else-k-le-PLACES : goal.returns-else-k-le-PLACES
 returns-else-k-le-PLACES c =
     let a = c.args in
     let list = lent_list a.list.now a.count in
     let sounds =
-    is_sound_holds c.of-sizes.result a.day.now a.series.now list c.is_sound.result c.is_sound.ensures
+    is_sound_holds c.of-sizes.result a.pools.now.day a.pools.now.series list c.is_sound.result c.is_sound.ensures
     c.if-not-is_sound.false in
     under a.caller _ c.of-sizes.ensures _ _ a.script.now _
-    (edit_goes_on c.of-sizes.result a.day.now a.series.now list sounds a.script.now c.in-Whole.k
+    (edit_goes_on c.of-sizes.result a.pools.now.day a.pools.now.series list sounds a.script.now c.in-Whole.k
     (sym c.in-Whole.ensures.0)
     ∙ c.run_part.ensures)

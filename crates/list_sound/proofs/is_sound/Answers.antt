@@ -12,7 +12,7 @@ use Rattle.list_sound.proofs.is_sound.Goals.{then-not-is_in_range-via-then-not-i
 pub returns-then-sizes-count : goal.returns-then-sizes-count
 returns-then-sizes-count c =
     let a = c.args in
-    let pools = lent_pools a.day.now a.series.now in
+    let pools = a.pools.now in
     elim c.then-sizes-count.branch [
       | then-sizes-count-via-then-sizes-count w ↦
           sym (sound_many a.sizes pools a.list.now a.count w.if-sizes-count.true)
@@ -30,7 +30,7 @@ returns-then-not-is_in_range c =
     let range = sym c.is_in_range.ensures in
     let stop = pass_stop c.loop-i.invariant r c.loop-i-test.true c.record_at-r.ensures in
     sym
-    (sound_held a.sizes (lent_pools a.day.now a.series.now) a.list.now a.count c.if-sizes-count.false c.if-list-count.false
+    (sound_held a.sizes a.pools.now a.list.now a.count c.if-sizes-count.false c.if-list-count.false
     ∙ elim c.then-not-is_in_range.branch [
       | then-not-is_in_range-via-then-not-is_in_range w ↦ stop (rw (range ∙ w.if-not-is_in_range.true))
       | then-not-is_in_range-via-else-not-is_in_range+then-not-has_chain w ↦
@@ -68,5 +68,5 @@ pub returns : goal.returns
 returns c =
     let a = c.args in
     sym
-    (sound_held a.sizes (lent_pools a.day.now a.series.now) a.list.now a.count c.if-sizes-count.false c.if-list-count.false
+    (sound_held a.sizes a.pools.now a.list.now a.count c.if-sizes-count.false c.if-list-count.false
     ∙ pass_end c.loop-i.invariant c.loop-i-test.false)

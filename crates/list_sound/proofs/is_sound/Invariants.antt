@@ -5,7 +5,4 @@ use Rattle.list_sound.proofs.PassLaws.{Pass}
 use Rattle.list_sound.proofs.is_sound.Given as goal
 
 abbrev pub invariant-loop-i : goal.invariant-loop-i
-invariant-loop-i l = Pass (lent_pools l.day l.series) l.list l.count l.seen l.least l.i
-
-abbrev pub decreases-loop-i : goal.decreases-loop-i
-decreases-loop-i l = l.count - l.i
+invariant-loop-i l = Pass l.pools l.list l.count l.seen l.least l.i

@@ -18,14 +18,14 @@ legal caller = legal_sizes (sizes_of caller) (caller_least caller) (caller_most 
 pub returns-then-number_of-ne0 : goal.returns-then-number_of-ne0
 returns-then-number_of-ne0 c =
     let a = c.args in
-    answer_previous (sizes_of a.caller) a.previous.now a.previous_base_day (lent_pools a.day.now a.series.now)
+    answer_previous (sizes_of a.caller) a.previous.now a.previous_base_day a.pools.now
     (lent_list a.list.now a.count) a.base_day a.out.now c.check-read.result c.check-read.ensures
     (λ zero. c.if-number_of-ne0.true (c.number_of.ensures ∙ zero))
 
 pub returns-then-number_of-ne0-2 : goal.returns-then-number_of-ne0-2
 returns-then-number_of-ne0-2 c =
     let a = c.args in
-    answer_refused (sizes_of a.caller) a.previous.now a.previous_base_day (lent_pools a.day.now a.series.now)
+    answer_refused (sizes_of a.caller) a.previous.now a.previous_base_day a.pools.now
     (lent_list a.list.now a.count) a.base_day a.out.now c.check-read.result c.check-read.ensures
     (bytes_all a.previous.now (λ k. (c.type_inv.previous k).fits))
     (sym c.number_of.ensures ∙ c.if-number_of-ne0.false)
@@ -36,7 +36,7 @@ returns-then-number_of-ne0-2 c =
 inside : goal.slice_bounds-next_versions-end
 inside c =
     let a = c.args in
-    size_inside (sizes_of a.caller) a.previous.now a.previous_base_day (lent_pools a.day.now a.series.now)
+    size_inside (sizes_of a.caller) a.previous.now a.previous_base_day a.pools.now
     (lent_list a.list.now a.count) a.base_day a.out.now c.check-read.result c.check-read.ensures
     (bytes_all a.previous.now (λ k. (c.type_inv.previous k).fits))
     (sym c.number_of.ensures ∙ c.if-number_of-ne0.false)
@@ -53,7 +53,7 @@ slice_bounds-next_versions-end-2 c = sym (length-take-le _ _ (inside c))
 pub returns-then-is_same : goal.returns-then-is_same
 returns-then-is_same c =
     let a = c.args in
-    answer_kept (sizes_of a.caller) a.previous.now a.previous_base_day (lent_pools a.day.now a.series.now)
+    answer_kept (sizes_of a.caller) a.previous.now a.previous_base_day a.pools.now
     (lent_list a.list.now a.count) a.base_day a.out.now c.check-read.result c.check-read.ensures
     (bytes_all a.previous.now (λ k. (c.type_inv.previous k).fits))
     (sym c.number_of.ensures ∙ c.if-number_of-ne0.false)
@@ -65,7 +65,7 @@ returns-then-is_same c =
 pub returns : goal.returns
 returns c =
     let a = c.args in
-    answer_changed (sizes_of a.caller) a.previous.now a.previous_base_day (lent_pools a.day.now a.series.now)
+    answer_changed (sizes_of a.caller) a.previous.now a.previous_base_day a.pools.now
     (lent_list a.list.now a.count) a.base_day a.out.now c.check-read.result c.check-read.ensures
     (bytes_all a.previous.now (λ k. (c.type_inv.previous k).fits))
     (sym c.number_of.ensures ∙ c.if-number_of-ne0.false)

@@ -25,13 +25,13 @@ module _ (given sizes : Sizes) (pools : Pools) (list : EventList) (same : given 
 pub returns-then-base_day-ge-BASE_DAY_MAX : goal.returns-then-base_day-ge-BASE_DAY_MAX
 returns-then-base_day-ge-BASE_DAY_MAX c =
     let a = c.args in
-    roll_last (sizes_of a.caller) (lent_pools a.day.now a.series.now) (lent_list a.list.now a.count) a.base_day
+    roll_last (sizes_of a.caller) a.pools.now (lent_list a.list.now a.count) a.base_day
     c.if-base_day-ge-BASE_DAY_MAX.true
 
 pub returns-then-not-is_sound : goal.returns-then-not-is_sound
 returns-then-not-is_sound c =
     let a = c.args in
-    let pools = lent_pools a.day.now a.series.now in
+    let pools = a.pools.now in
     let list = lent_list a.list.now a.count in
     roll_unsound (sizes_of a.caller) pools list a.base_day c.if-base_day-ge-BASE_DAY_MAX.false
     (failed c.of.result (sizes_of a.caller) pools list c.of.ensures c.is_sound.ensures c.if-not-is_sound.true)
@@ -40,7 +40,7 @@ pub returns : goal.returns
 returns c =
     let a = c.args in
     let sizes = sizes_of a.caller in
-    let pools = lent_pools a.day.now a.series.now in
+    let pools = a.pools.now in
     let list = lent_list a.list.now a.count in
     let is = passed c.of.result sizes pools list c.of.ensures c.is_sound.ensures c.if-not-is_sound.false in
     rolled sizes pools a.list.now a.count a.base_day is c.keep_later-kept.ensures.0

@@ -16,7 +16,7 @@ use Rattle.build.proofs.file.write_file.Goals.{then-sections-gt0, else-sections-
 -- last_table_id
 pub overflow_cast-last_table_id : goal.overflow_cast-last_table_id
 overflow_cast-last_table_id c =
-    let pools = lent_pools c.args.day.now c.args.series.now in
+    let pools = c.args.pools.now in
     omega (
       arith,
       table_small pools _ _ c.requires,
@@ -24,7 +24,7 @@ overflow_cast-last_table_id c =
     )
 
 pub loop-index-init : goal.loop-index-init
-loop-index-init c = file_start (lent_pools c.args.day.now c.args.series.now) _ _ c.requires _ _
+loop-index-init c = file_start c.args.pools.now _ _ c.requires _ _
 
 pub bounds-counts-index : goal.bounds-counts-index
 bounds-counts-index c = omega (arith, counts_length c.requires)
@@ -40,7 +40,7 @@ first_header-header-requires c =
 pub write_segment-at-requires : goal.write_segment-at-requires
 write_segment-at-requires c =
     let a = c.args in
-    let pools : Pools = lent_pools a.day.now a.series.now in
+    let pools : Pools = a.pools.now in
     let turn = c.loop-index in
     let few = c.loop-index-test.true in
     let some = c.if-sections-gt0.true in
@@ -65,7 +65,7 @@ write_segment-at-requires c =
 pub loop-index-preserved : goal.loop-index-preserved
 loop-index-preserved c =
     let a = c.args in
-    let pools : Pools = lent_pools a.day.now a.series.now in
+    let pools : Pools = a.pools.now in
     let turn = c.loop-index in
     let few = c.loop-index-test.true in
     let id = c.table_of-last_table_id.ensures ∙ ap table_of (c.last_index.ensures pools) in
@@ -89,4 +89,4 @@ loop-index-preserved c =
 
 pub returns : goal.returns
 returns c =
-    file_end (lent_pools c.args.day.now c.args.series.now) _ _ c.requires c.loop-index.invariant c.loop-index-test.false
+    file_end c.args.pools.now _ _ c.requires c.loop-index.invariant c.loop-index-test.false

@@ -7,7 +7,7 @@ use Rattle.build.proofs.file.write_file.Given as goal
 
 abbrev pub invariant-loop-index : goal.invariant-loop-index
 invariant-loop-index l =
-    FileSoFar (lent_pools l.day l.series) l.list l.count l.sizes l.identity l.base_day l.fn.out l.out l.last l.at
+    FileSoFar l.pools l.list l.count l.sizes l.identity l.base_day l.fn.out l.out l.last l.at
     l.from l.index
 
 abbrev pub decreases-loop-index : goal.decreases-loop-index

@@ -7,7 +7,7 @@ use Rattle.build.proofs.file.write_segment.Given as goal
 
 abbrev pub invariant-loop-k : goal.invariant-loop-k
 invariant-loop-k l =
-    SegmentSoFar (lent_pools l.day l.series) l.list l.room l.first l.sections l.end l.base_day l.fn.out l.at l.from
+    SegmentSoFar l.pools l.list l.room l.first l.sections l.end l.base_day l.fn.out l.at l.from
     l.out l.header l.offset l.next l.k
 
 abbrev pub decreases-loop-k : goal.decreases-loop-k

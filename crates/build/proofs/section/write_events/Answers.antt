@@ -22,6 +22,6 @@ loop-i-preserved c =
 pub returns : goal.returns
 returns c =
     let a = c.args in
-    let all = events_between (lent_pools a.day.now a.series.now) a.list.now a.from a.to in
+    let all = events_between a.pools.now a.list.now a.from a.to in
     let (written, ends) = events_written c.loop-i.invariant (omega arith) in
     (written, omega (arith, ends, loop_length a.base_day all))

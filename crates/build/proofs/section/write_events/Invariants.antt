@@ -7,7 +7,7 @@ use Rattle.build.proofs.section.write_events.Given as goal
 
 abbrev pub invariant-loop-i : goal.invariant-loop-i
 invariant-loop-i l =
-    EventLoopSoFar l.base_day (lent_pools l.day l.series) l.list l.from l.to l.fn.out l.at l.out l.offset l.i
+    EventLoopSoFar l.base_day l.pools l.list l.from l.to l.fn.out l.at l.out l.offset l.i
 
 abbrev pub decreases-loop-i : goal.decreases-loop-i
 decreases-loop-i l = l.to - l.i

@@ -11,7 +11,7 @@ use Rattle.build.proofs.section.write_section.Goals as goal
 pub returns : goal.returns
 returns c =
     let a = c.args in
-    let es = events_between (lent_pools a.day.now a.series.now) a.list.now a.from a.to in
+    let es = events_between a.pools.now a.list.now a.from a.to in
     let filled = c.write_events-end in
     let bytes = bytes_all filled.new.out (λ k. search rules) in
     section_written a.base_day (section_of a.header es) a.out.now a.at c.requires.0 c.requires.1

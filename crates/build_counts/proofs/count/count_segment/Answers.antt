@@ -15,7 +15,7 @@ overflow_add-bytes c =
     let a = c.args in
     let here = c.loop-sections in
     let next = c.next_cut-next.result in
-    let counted : PackedSoFar (lent_pools a.day.now a.series.now) a.list.now a.from a.end a.room (here.sections + 1)
+    let counted : PackedSoFar a.pools.now a.list.now a.from a.end a.room (here.sections + 1)
     (here.bytes + (section_overhead + next.bytes)) next.to =
     pack_more here.invariant (omega arith) (omega arith) next c.next_cut-next.ensures in
     omega (arith, counted.small, counted.few)
@@ -25,7 +25,7 @@ overflow_add-bytes-in-loop-sections c =
     let a = c.args in
     let here = c.loop-sections in
     let next = c.next_cut-next.result in
-    let counted : PackedSoFar (lent_pools a.day.now a.series.now) a.list.now a.from a.end a.room (here.sections + 1)
+    let counted : PackedSoFar a.pools.now a.list.now a.from a.end a.room (here.sections + 1)
     (here.bytes + (section_overhead + next.bytes)) next.to =
     pack_more here.invariant (omega arith) (omega arith) next c.next_cut-next.ensures in
     omega (arith, counted.small, counted.few)

@@ -7,7 +7,7 @@ use Rattle.build_counts.proofs.count.count_segment.Given as goal
 
 abbrev pub invariant-loop-sections : goal.invariant-loop-sections
 invariant-loop-sections l =
-    PackedSoFar (lent_pools l.day l.series) l.list l.from l.end l.room l.sections l.bytes l.at
+    PackedSoFar l.pools l.list l.from l.end l.room l.sections l.bytes l.at
 
 abbrev pub decreases-loop-sections : goal.decreases-loop-sections
 decreases-loop-sections l = 8 - l.sections

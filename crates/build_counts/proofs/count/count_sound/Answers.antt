@@ -2,7 +2,6 @@
 use Rattle.std.proofs.Common.{◌<◌, sym, ◌∙◌, arith}
 use Rattle.eit.specs.Sizes.{room}
 use Rattle.eit.specs.Pools.{Pools, lent_pools}
-use Rattle.eit.proofs.Fields.{bytes_all}
 use Rattle.build_counts.proofs.CountPass.{count_start, count_past, need_small, count_found, count_fits, count_kept}
 use Rattle.build_counts.proofs.CountEnd.{sound_rises, count_end}
 use Rattle.build_counts.proofs.count.count_sound.Goals as goal
@@ -14,10 +13,8 @@ loop-index-init c = count_start _ _ _ _
 pub overflow_add-need : goal.overflow_add-need
 overflow_add-need c =
     let head = c.loop-index in
-    let pools : Pools = lent_pools c.args.day.now c.args.series.now in
-    let day = bytes_all pools.day (λ k. (c.type_inv.day k).fits) in
-    let series = bytes_all pools.series (λ k. (c.type_inv.series k).fits) in
-    let rises = sound_rises _ _ _ _ day series c.requires in
+    let pools : Pools = c.args.pools.now in
+    let rises = sound_rises _ _ _ _ c.requires in
     let narrow : room c.args.sizes < 0x1_0000 = omega (arith, c.room_of.ensures) in
     let bounded =
     need_small _ _ _ _ rises head.invariant (omega arith)
@@ -29,10 +26,8 @@ overflow_add-need c =
 pub loop-index-preserved : goal.loop-index-preserved
 loop-index-preserved c =
     let head = c.loop-index in
-    let pools : Pools = lent_pools c.args.day.now c.args.series.now in
-    let day = bytes_all pools.day (λ k. (c.type_inv.day k).fits) in
-    let series = bytes_all pools.series (λ k. (c.type_inv.series k).fits) in
-    let rises = sound_rises _ _ _ _ day series c.requires in
+    let pools : Pools = c.args.pools.now in
+    let rises = sound_rises _ _ _ _ c.requires in
     let tested = sym (c.is_inside.ensures pools) in
     let few : head.index < 512 = omega arith in
     elim c.if-is_inside.branch [
@@ -62,7 +57,5 @@ loop-index-preserved c =
 
 pub returns : goal.returns
 returns c =
-    let pools : Pools = lent_pools c.args.day.now c.args.series.now in
-    let day = bytes_all pools.day (λ k. (c.type_inv.day k).fits) in
-    let series = bytes_all pools.series (λ k. (c.type_inv.series k).fits) in
-    count_end _ _ _ _ day series c.requires c.loop-index.invariant c.loop-index-test.false
+    let pools : Pools = c.args.pools.now in
+    count_end _ _ _ _ c.requires c.loop-index.invariant c.loop-index-test.false

@@ -6,7 +6,7 @@ use Rattle.build_counts.proofs.count.count_sound.Given as goal
 
 abbrev pub invariant-loop-index : goal.invariant-loop-index
 invariant-loop-index l =
-    CountedSoFar l.sizes (lent_pools l.day l.series) l.list l.count l.counts l.lowest l.need l.from l.index
+    CountedSoFar l.sizes l.pools l.list l.count l.counts l.lowest l.need l.from l.index
 
 abbrev pub decreases-loop-index : goal.decreases-loop-index
 decreases-loop-index l = 512 - l.index

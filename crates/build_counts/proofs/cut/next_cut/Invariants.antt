@@ -6,7 +6,7 @@ use Rattle.build_counts.proofs.CutLaws.{CutSoFar}
 use Rattle.build_counts.proofs.cut.next_cut.Given as goal
 
 abbrev pub invariant-loop-to : goal.invariant-loop-to
-invariant-loop-to l = CutSoFar (lent_pools l.day l.series) l.list l.from l.end l.room l.to l.bytes
+invariant-loop-to l = CutSoFar l.pools l.list l.from l.end l.room l.to l.bytes
 
 abbrev pub decreases-loop-to : goal.decreases-loop-to
 decreases-loop-to l = l.end - l.to

@@ -6,7 +6,7 @@ use Rattle.chain_room.proofs.filling.fill.Given as goal
 
 abbrev pub invariant-loop-at : goal.invariant-loop-at
 invariant-loop-at l =
-    FilledSoFar (lent_pools l.day l.series) l.list l.from l.end l.room l.fn.before l.filling l.at
+    FilledSoFar l.pools l.list l.from l.end l.room l.fn.before l.filling l.at
 
 abbrev pub decreases-loop-at : goal.decreases-loop-at
 decreases-loop-at l = l.end - l.at

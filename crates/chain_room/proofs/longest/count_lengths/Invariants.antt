@@ -8,7 +8,7 @@ use Rattle.chain_room.proofs.longest.count_lengths.Given as goal
 
 abbrev pub invariant-loop-low : goal.invariant-loop-low
 invariant-loop-low l =
-    Halving l.room l.before (events_between (lent_pools l.day l.series) l.list l.place l.end) l.low l.high
+    Halving l.room l.before (events_between l.pools l.list l.place l.end) l.low l.high
 
 abbrev pub decreases-loop-low : goal.decreases-loop-low
 decreases-loop-low l = l.high - l.low

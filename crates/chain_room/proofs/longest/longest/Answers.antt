@@ -11,7 +11,7 @@ use Rattle.chain_room.proofs.longest.longest.Goals as goal
 pub returns : goal.returns
 returns c =
     let a = c.args in
-    let lent = events_between (lent_pools a.day.now a.series.now) a.list.now in
+    let lent = events_between a.pools.now a.list.now in
     c.answer_of.ensures
     ∙ ap (λ (n : Option ℕ). record { number = 0; given = never_one n })
     (sym c.count_lengths.ensures

@@ -6,9 +6,9 @@ use Rattle.edit.proofs.machine.carry_out.Goals as goal
 
 pub returns-in-Undo : goal.returns-in-Undo
 returns-in-Undo c =
-    leaves_as c.args.sizes c.args.day.now c.args.series.now _ _ _ c.in-Undo.ensures
+    leaves_as c.args.sizes c.args.pools.now.day c.args.pools.now.series _ _ _ c.in-Undo.ensures
     record {
-      says = none_done c.args.sizes (lent_pools c.args.day.now c.args.series.now) _;
+      says = none_done c.args.sizes c.args.pools.now _;
       holds = c.requires.0.holds;
       fits = c.requires.0.fits;
     }

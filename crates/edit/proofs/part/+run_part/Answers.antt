@@ -14,7 +14,7 @@ use Rattle.edit.proofs.part.+run_part.Goals as goal
 pub returns-then-k-undos : goal.returns-then-k-undos
 returns-then-k-undos t c =
     let a = c.args in
-    part_struck a.sizes a.day.now a.series.now (lent_list a.list.now a.count) a.script.now a.undos a.k a.at
+    part_struck a.sizes a.pools.now.day a.pools.now.series (lent_list a.list.now a.count) a.script.now a.undos a.k a.at
     c.if-k-undos.true
 
 pub run_noted-requires : goal.run_noted-requires
@@ -43,7 +43,7 @@ pending_before-before-requires t c =
 pub returns-then-number_of-ne0 : goal.returns-then-number_of-ne0
 returns-then-number_of-ne0 t c =
     let a = c.args in
-    half_ends a.sizes a.day.now a.series.now (lent_list a.list.now a.count) a.script.now a.undos a.k a.at (a.k / 2)
+    half_ends a.sizes a.pools.now.day a.pools.now.series (lent_list a.list.now a.count) a.script.now a.undos a.k a.at (a.k / 2)
     c.skip_commands-mid.result (omega arith) c.skip_commands-mid.ensures c.pending_before-before.result
     c.pending_before-before.ensures _ c.run_part-r.ensures (λ z. c.if-number_of-ne0.true (c.number_of.ensures ∙ z))
 
@@ -52,7 +52,7 @@ run_part-requires t c =
     let a = c.args in (
       omega arith,
       (
-        part_sound a.sizes a.day.now a.series.now (lent_list a.list.now a.count) a.script.now
+        part_sound a.sizes a.pools.now.day a.pools.now.series (lent_list a.list.now a.count) a.script.now
             c.pending_before-before.result (a.k / 2) a.at _ c.run_part-r.ensures c.requires.0,
         half_within a.script.now a.k a.at (a.k / 2) c.skip_commands-mid.result (omega arith)
             c.skip_commands-mid.ensures
@@ -65,7 +65,7 @@ run_part-requires t c =
 pub returns : goal.returns
 returns t c =
     let a = c.args in
-    half_goes_on a.sizes a.day.now a.series.now (lent_list a.list.now a.count) a.script.now a.undos a.k a.at (a.k / 2)
+    half_goes_on a.sizes a.pools.now.day a.pools.now.series (lent_list a.list.now a.count) a.script.now a.undos a.k a.at (a.k / 2)
     c.skip_commands-mid.result (omega arith) c.skip_commands-mid.ensures c.pending_before-before.result
     c.pending_before-before.ensures _ c.run_part-r.ensures (sym c.number_of.ensures ∙ c.if-number_of-ne0.false)
     ∙ c.run_part.ensures

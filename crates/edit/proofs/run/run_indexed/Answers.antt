@@ -15,7 +15,7 @@ use Rattle.edit.proofs.run.run_indexed.Goals.{then-is_seen+else-number_of-ne0, e
 
 pub carry_out-r-requires : goal.carry_out-r-requires
 carry_out-r-requires c = (
-  running_kept c.args.sizes c.args.day.now c.args.series.now _ c.args.live_places.now _ c.loop-place.invariant.1,
+  running_kept c.args.sizes c.args.pools.now.day c.args.pools.now.series _ c.args.live_places.now _ c.loop-place.invariant.1,
   c.requires.3,
 )
 
@@ -26,7 +26,7 @@ returns-then-number_of-ne0 c =
     let among : from.place < length cs =
     omega (arith, c.loop-place-test.true, c.requires.1, length-take c.args.k (commands_at c.args.at c.args.script.now)) in
     let leaves = c.carry_out-r.ensures in (
-      carried_ends c.args.sizes c.args.day.now c.args.series.now _ c.args.live_places.now cs
+      carried_ends c.args.sizes c.args.pools.now.day c.args.pools.now.series _ c.args.live_places.now cs
           from.invariant.1.carried among _
           (stands_split from.invariant.0 c.loop-place-test.true _ refl)
           (sym c.is_seen.ensures ∙ c.if-is_seen.true) _ leaves.says
@@ -61,15 +61,15 @@ loop-place-preserved c =
       stands_next from.invariant.0 some next there,
       elim c.if-is_seen.branch [
         | then-is_seen+else-number_of-ne0 w ↦
-            running_same a.sizes a.day.now a.series.now first a.live_places.now cs w.list-is w.slots-is w.order-is
+            running_same a.sizes a.pools.now.day a.pools.now.series first a.live_places.now cs w.list-is w.slots-is w.order-is
             w.ids-is w.held-is
-            (running_on a.sizes a.day.now a.series.now first a.live_places.now cs from.invariant.1 among _
+            (running_on a.sizes a.pools.now.day a.pools.now.series first a.live_places.now cs from.invariant.1 among _
             (stands_split from.invariant.0 some _ refl) (sym c.is_seen.ensures ∙ w.if-is_seen.true) _ _ _
             w.carry_out-r.ensures w.carry_out-r.auto.list (sym w.number_of.ensures ∙ w.if-number_of-ne0.false))
         | else-is_seen w ↦
-            running_same a.sizes a.day.now a.series.now first a.live_places.now cs w.list-is w.slots-is w.order-is
+            running_same a.sizes a.pools.now.day a.pools.now.series first a.live_places.now cs w.list-is w.slots-is w.order-is
             w.ids-is w.held-is
-            (running_past a.sizes a.day.now a.series.now first a.live_places.now cs from.invariant.1 among _
+            (running_past a.sizes a.pools.now.day a.pools.now.series first a.live_places.now cs from.invariant.1 among _
             (stands_split from.invariant.0 some _ refl) (sym c.is_seen.ensures ∙ w.if-is_seen.false))
       ],
     )
@@ -79,8 +79,8 @@ returns c =
     let a = c.args in
     let run = c.loop-place.invariant.1 in
     let cs : List Command = take a.k (commands_at a.at a.script.now) in (
-      carried_all a.sizes a.day.now a.series.now _ a.live_places.now cs run.carried
+      carried_all a.sizes a.pools.now.day a.pools.now.series _ a.live_places.now cs run.carried
           (omega (arith, c.loop-place-test.false, length-take a.k (commands_at a.at a.script.now))),
       run.fits,
-      running_few a.sizes a.day.now a.series.now _ a.live_places.now cs run,
+      running_few a.sizes a.pools.now.day a.pools.now.series _ a.live_places.now cs run,
     )

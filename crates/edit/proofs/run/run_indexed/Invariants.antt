@@ -10,7 +10,7 @@ use Rattle.edit.proofs.run.run_indexed.Given as goal
 abbrev pub invariant-loop-place : goal.invariant-loop-place
 invariant-loop-place l =
     Stands l.script l.at l.k l.place l.i
-    × Running l.sizes l.day l.series
+    × Running l.sizes l.pools.day l.pools.series
     (indexed_list l.initial.list (lent_index l.initial.slots l.initial.order l.initial.ids) l.count)
     l.live_places
     (take l.k (commands_at l.at l.script))

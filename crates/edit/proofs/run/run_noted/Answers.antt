@@ -35,15 +35,15 @@ run_indexed-r-requires c =
     let a = c.args in
     let list = a.list.now in
     let made : Index = lent_index c.load.new.slots c.load.new.order c.load.new.ids in (
-      subst (λ (list : EventList). T (sound a.sizes (lent_pools a.day.now a.series.now) list))
-          (sym (made_stands a.sizes a.day.now a.series.now list a.count c.requires.4 c.requires.0 begun none made
+      subst (λ (list : EventList). T (sound a.sizes a.pools.now list))
+          (sym (made_stands a.sizes a.pools.now.day a.pools.now.series list a.count c.requires.4 c.requires.0 begun none made
           c.load.ensures))
           c.requires.0,
       c.requires.1,
       c.requires.2,
       c.requires.4,
-      made_holds a.sizes a.day.now a.series.now list a.count c.requires.4 c.requires.0 begun none made c.load.ensures,
-      made_fits a.sizes a.day.now a.series.now list a.count c.requires.4 c.requires.0 begun none made c.load.ensures,
+      made_holds a.sizes a.pools.now.day a.pools.now.series list a.count c.requires.4 c.requires.0 begun none made c.load.ensures,
+      made_fits a.sizes a.pools.now.day a.pools.now.series list a.count c.requires.4 c.requires.0 begun none made c.load.ensures,
     )
 
 pub returns : goal.returns
@@ -59,8 +59,8 @@ returns c =
     let ran = c.run_indexed-r.ensures in
     let end = c.run_indexed-r.new in
     let x : Index = lent_index end.slots end.order end.ids in
-    ap (λ (list : EventList). run_part a.sizes a.day.now a.series.now list a.undos a.k a.at a.script.now)
-    (sym (made_stands a.sizes a.day.now a.series.now list a.count c.requires.4 c.requires.0 begun none made
+    ap (λ (list : EventList). run_part a.sizes a.pools.now.day a.pools.now.series list a.undos a.k a.at a.script.now)
+    (sym (made_stands a.sizes a.pools.now.day a.pools.now.series list a.count c.requires.4 c.requires.0 begun none made
     c.load.ensures))
     ∙ ran.0 a.undos lives
     ∙ ap (outcome_of c.run_indexed-r.result) (sym (c.store.ensures end.ids ∙ stored_is end.list x _ ran.1 ran.2))

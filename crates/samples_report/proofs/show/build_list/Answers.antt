@@ -12,7 +12,7 @@ returns c success =
     omega (
       arith,
       c.build-built.auto.out,
-      built_inside (sizes_of a.caller) (lent_pools a.day.now a.series.now) (lent_list a.list.now a.count) 49_273
+      built_inside (sizes_of a.caller) a.pools.now (lent_list a.list.now a.count) 49_273
           a.identity
           a.file.now _ c.build-built.ensures c.number_of.ensures c.value_of.ensures success,
     )
