@@ -1,6 +1,4 @@
 -- Laws of this crate's definitions, and the proofs of its functions.
--- entries that move by one place
-pub mod ShiftLaws
 -- the order with an entry put in or taken out, and with all slots free
 pub mod OrderLaws
 -- an entry that goes from one place of the order to another

@@ -16,7 +16,8 @@ use Rattle.eit.proofs.OverlapLaws.{overlaps_first, overlaps_beside}
 use Rattle.eit.proofs.Test.{true_is, le_or_lt}
 use Rattle.script.specs.Machine.{zero_record}
 use Rattle.edit_index.specs.Order.{slot_in}
-use Rattle.edit_index.specs.Index.{Index, slot_record, held_records, Holds}
+use Rattle.edit_index.specs.declared.index.Index.{Index}
+use Rattle.edit_index.specs.Index.{slot_record, held_records, Holds}
 use Rattle.edit_index.specs.Neighbours.{other_at, overlaps_at, overlaps_neighbour}
 use Rattle.edit_index.proofs.SlotLaws.{leave, leave_before, leave_behind}
 use Rattle.edit_index.proofs.IndexLaws.{held_length, held_record}
@@ -51,39 +52,39 @@ other_fits own i count within =
     ⊎_elim (λ behind. rw (le-leb own i behind) (omega arith)) (λ before. rw (lt-leb own i before) (omega arith))
     (le_or_lt own i)
 
-module _ (r : Record) (slots order : List ℕ) (count own : ℕ) where
-  pub none_at : (i : ℕ) → count ≤ other_at own i → false ≡ overlaps_at r slots order count own i
+module _ (r : Record) (x : Index) (own : ℕ) where
+  pub none_at : (i : ℕ) → x.count ≤ other_at own i → false ≡ overlaps_at r x own i
   none_at i beyond =
       sym
-      (ap (λ (b : Bool). b && overlap r (slot_record slots (slot_in (get_or order (other_at own i) 0))))
-      (le-ltb (other_at own i) count beyond))
+      (ap (λ (b : Bool). b && overlap r (slot_record x.slots (slot_in (get_or x.order (other_at own i) 0))))
+      (le-ltb (other_at own i) x.count beyond))
 
-  pub some_at : (i : ℕ) → other_at own i < count
-      → overlap r (slot_record slots (slot_in (get_or order (other_at own i) 0))) ≡ overlaps_at r slots order count own i
+  pub some_at : (i : ℕ) → other_at own i < x.count
+      → overlap r (slot_record x.slots (slot_in (get_or x.order (other_at own i) 0))) ≡ overlaps_at r x own i
   some_at i within =
       sym
-      (ap (λ (b : Bool). b && overlap r (slot_record slots (slot_in (get_or order (other_at own i) 0))))
-      (true_is (ltb (other_at own i) count) (lt→ltb (other_at own i) count within)))
+      (ap (λ (b : Bool). b && overlap r (slot_record x.slots (slot_in (get_or x.order (other_at own i) 0))))
+      (true_is (ltb (other_at own i) x.count) (lt→ltb (other_at own i) x.count within)))
 
   -- the one in front alone; the one before the place; the one behind it
   pub next_front : (place : ℕ) → place ≡ 0
-      → overlaps_at r slots order count own 0 ≡ overlaps_neighbour r slots order count own place
+      → overlaps_at r x own 0 ≡ overlaps_neighbour r x own place
   next_front zero none = refl
   next_front (suc p) none = absurd (omega arith)
 
-  pub next_before : (place : ℕ) → (place ≡ 0 → ⊥) → overlaps_at r slots order count own (place - 1) ≡ true
-      → true ≡ overlaps_neighbour r slots order count own place
+  pub next_before : (place : ℕ) → (place ≡ 0 → ⊥) → overlaps_at r x own (place - 1) ≡ true
+      → true ≡ overlaps_neighbour r x own place
   next_before zero some so = absurd (some refl)
   next_before (suc p) some so =
       let e : suc p - 1 ≡ p = omega arith in
-      sym (ap (λ (b : Bool). b || overlaps_at r slots order count own (suc p)) (rw e at so))
+      sym (ap (λ (b : Bool). b || overlaps_at r x own (suc p)) (rw e at so))
 
-  pub next_behind : (place : ℕ) → (place ≡ 0 → ⊥) → overlaps_at r slots order count own (place - 1) ≡ false
-      → overlaps_at r slots order count own place ≡ overlaps_neighbour r slots order count own place
+  pub next_behind : (place : ℕ) → (place ≡ 0 → ⊥) → overlaps_at r x own (place - 1) ≡ false
+      → overlaps_at r x own place ≡ overlaps_neighbour r x own place
   next_behind zero some so = absurd (some refl)
   next_behind (suc p) some so =
       let e : suc p - 1 ≡ p = omega arith in
-      sym (ap (λ (b : Bool). b || overlaps_at r slots order count own (suc p)) (rw e at so))
+      sym (ap (λ (b : Bool). b || overlaps_at r x own (suc p)) (rw e at so))
 
 -- ---- the records of an index, one of them left out
 
@@ -122,26 +123,26 @@ first_at r [] i d within = absurd (omega arith)
 first_at r (s ∷ ss) zero d within = refl
 first_at r (s ∷ ss) (suc i) d within = first_at r ss i d (omega arith)
 
-module _ {x : Index} {count : ℕ} (h : Holds x count) (r : Record) (own : ℕ) where
+module _ {x : Index} (h : Holds x) (r : Record) (own : ℕ) where
   abbrev left : List Record
-  left = leave own (held_records count x)
+  left = leave own (held_records x)
 
-  at_is : (i : ℕ) → overlaps_at r x.slots x.order count own i ≡ overlaps_first r (drop i left)
+  at_is : (i : ℕ) → overlaps_at r x own i ≡ overlaps_first r (drop i left)
   at_is i =
       ⊎_elim
-      (λ (beyond : count ≤ other_at own i).
-      sym (none_at r x.slots x.order count own i beyond)
-      ∙ sym (first_none r left i (leave_beyond own (held_records count x) i (omega (arith, held_length h)))))
-      (λ (within : other_at own i < count).
-      sym (some_at r x.slots x.order count own i within)
+      (λ (beyond : x.count ≤ other_at own i).
+      sym (none_at r x own i beyond)
+      ∙ sym (first_none r left i (leave_beyond own (held_records x) i (omega (arith, held_length h)))))
+      (λ (within : other_at own i < x.count).
+      sym (some_at r x own i within)
       ∙ ap (overlap r)
-      (sym (held_record h (other_at own i) within) ∙ sym (leave_at own (held_records count x) i zero_record))
+      (sym (held_record h (other_at own i) within) ∙ sym (leave_at own (held_records x) i zero_record))
       ∙ sym
-      (first_at r left i zero_record (leave_within own (held_records count x) i (omega (arith, held_length h)))))
-      (le_or_lt count (other_at own i))
+      (first_at r left i zero_record (leave_within own (held_records x) i (omega (arith, held_length h)))))
+      (le_or_lt x.count (other_at own i))
 
   pub neighbour_is : (place : ℕ)
-      → overlaps_neighbour r x.slots x.order count own place
-      ≡ overlaps_beside r place (leave own (held_records count x))
+      → overlaps_neighbour r x own place
+      ≡ overlaps_beside r place (leave own (held_records x))
   neighbour_is zero = at_is 0
   neighbour_is (suc p) = ap₂ ◌||◌ (at_is p) (at_is (suc p))

@@ -6,11 +6,10 @@ use Prim.Native.Nat.{ℕ, zero, suc, ◌+◌, ◌-◌, ◌≤◌, ◌<◌}
 use native.Mathlib.Omega.{arith}
 use borrow.Author.Tests.{lt-ltb, le-ltb, le-leb, lt-leb}
 use lib.ListN.{length, get_or, take, drop, set, length-append, length-take, length-drop}
-use lib.Seq.{take-add, take-take, take_at, drop_at, drop-length, length-take-le}
+use lib.Seq.{take-add, take-take, take_at, drop_at, drop-length, length-take-le, paste, length-paste}
 use Rattle.eit.specs.Overwrite.{overwrite}
 use Rattle.eit.proofs.Overwrite.{over_length, over_after, over_one}
-use Rattle.list_records.proofs.WriteLaws.{over_behind}
-use Rattle.edit_index.proofs.ShiftLaws.{moved_up, moved_down, up_write, down_write}
+use Rattle.list_records.proofs.WriteLaws.{over_behind, over_ahead}
 use Rattle.edit_index.specs.Order.{slots_from, with_entry, without_entry}
 
 -- the rest of a front is the front of the rest
@@ -46,14 +45,17 @@ module _ (order : List ℕ) (count place entry : ℕ) where
     pub with_length : length (with_entry order count place entry) ≡ length order
     with_length = ap length with_is ∙ over_length order place (entry ∷ moved) (omega (arith, moved_length))
 
-    -- what the loop leaves, with the entry written
-    pub with_ends : (moving : List ℕ) (k : ℕ) → k ≡ place → moving ≡ moved_up order k count
-        → length moving ≡ length order
-        → set moving place entry ≡ with_entry order count place entry
-    with_ends moving k ends is size =
-        over_one moving place entry (omega arith)
-        ∙ ap (λ (l : List ℕ). overwrite l place (entry ∷ [])) (is ∙ ap (λ (n : ℕ). moved_up order n count) ends)
-        ∙ up_write order count (omega arith) place (entry ∷ []) there refl
+    -- as the code puts it in: later ones moved up, and then the entry written
+    pub with_ends : set (paste order (place + 1) (drop place order) (count - place)) place entry
+        ≡ with_entry order count place entry
+    with_ends =
+        let up : List ℕ = paste order (place + 1) (drop place order) (count - place) in
+        let size : length up ≡ length order =
+        length-paste order (place + 1) (drop place order) (count - place) (omega arith) (simp length-drop (omega arith)) in
+        over_one up place entry (omega arith)
+        ∙ ap (λ (n : ℕ). overwrite (take (place + 1) order ++ moved ++ drop (place + 1 + n) order) place (entry ∷ []))
+        (sym moved_length)
+        ∙ over_ahead order (place + 1) moved (omega (arith, moved_length)) place (entry ∷ []) (omega arith)
         ∙ sym with_is
 
     -- the entries around the place
@@ -120,17 +122,21 @@ module _ (order : List ℕ) (count place : ℕ) where
     without_length =
         ap length without_is ∙ over_length order place (later ++ taken ∷ []) (omega (arith, written_length))
 
-    -- what the loop leaves, with the entry written
-    pub without_ends : (moving : List ℕ) (k last : ℕ) → k ≡ last → last ≡ count - 1 → moving ≡ moved_down order place k
-        → length moving ≡ length order
-        → set moving last taken ≡ without_entry order count place
-    without_ends moving k last ends is_last is size =
-        let many : last - place ≡ count - suc place = omega arith in
+    -- as the code takes it out: later ones moved down, and then the entry written behind them
+    pub without_ends : set (paste order place (drop (place + 1) order) (count - (place + 1))) (count - 1) taken
+        ≡ without_entry order count place
+    without_ends =
         let next : place + 1 ≡ suc place = omega arith in
-        over_one moving last taken (omega arith)
-        ∙ ap (λ (l : List ℕ). overwrite l last (taken ∷ [])) (is ∙ ap (λ (n : ℕ). moved_down order place n) ends)
-        ∙ down_write order place last (taken ∷ []) (omega arith) (omega arith)
-        ∙ ap₂ (λ (n m : ℕ). overwrite order place (take n (drop m order) ++ taken ∷ [])) many next
+        let down : List ℕ = paste order place (drop (suc place) order) (count - suc place) in
+        let size : length down ≡ length order =
+        length-paste order place (drop (suc place) order) (count - suc place) (omega arith)
+        (simp length-drop (omega arith)) in
+        ap (λ (n : ℕ). set (paste order place (drop n order) (count - n)) (count - 1) taken) next
+        ∙ over_one down (count - 1) taken (omega arith)
+        ∙ ap (λ (n : ℕ). overwrite (take place order ++ later ++ drop (place + n) order) (count - 1) (taken ∷ []))
+        (sym later_length)
+        ∙ over_behind order place later (omega (arith, later_length)) (count - 1) (taken ∷ [])
+        (omega (arith, later_length))
         ∙ sym without_is
 
     pub without_around : (es : List ℕ) → es ≡ take count order

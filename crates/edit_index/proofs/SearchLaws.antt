@@ -5,7 +5,7 @@ use mathlib.Core.Logic.{⊎_elim}
 use mathlib.Core.List.{List, [], ◌∷◌, ◌++◌, map-append}
 use Prim.Native.Nat.{ℕ, suc, ◌+◌, ◌-◌, ◌*◌, ◌≤◌, ◌<◌, min}
 use native.Mathlib.Omega.{arith}
-use lib.ListN.{length, get_or, take, drop, length-take, length-drop, length-map, take-append-drop, drop_of_length-le}
+use lib.ListN.{length, get_or, take, drop, length-drop, length-map, take-append-drop, drop_of_length-le}
 use lib.Seq.{drop-cons, drop-drop, take_all, length-take-le}
 use Rattle.eit.specs.Placing.{placing}
 use Rattle.eit.specs.declared.Place.{Place}
@@ -14,7 +14,6 @@ use Rattle.eit.proofs.Placing.{placing_joined, placing_behind}
 use Rattle.eit.proofs.Test.{le_or_lt}
 use Rattle.edit_index.specs.Order.{slot_numbers, start_in, starts_in}
 use Rattle.edit_index.specs.Search.{passed_of, Passed}
-use Rattle.edit_index.proofs.OrderLaws.{drop_take}
 
 starts_length : (es : List ℕ) → length (starts_in es) ≡ length es
 starts_length es = length-map es start_in
@@ -116,36 +115,16 @@ pass_earlier earlier start le (e ∷ es) =
     rw own (pass_none start (e ∷ es)))
     (le_or_lt (start_in e) earlier)
 
--- ---- the place and how many are looked at, among the first `count` entries, of which p behind `from` are passed
+-- ---- the place and how many are looked at, where those before `from` are passed, and p of the others
 
-module _ (order : List ℕ) (from count many start p : ℕ) (first : many ≡ min count (length order))
-    (so_far : Passed start (take count order) from)
-    (is : p ≡ passed_of start (take (many - from) (drop from order))) where
-  abbrev held : List ℕ
-  held = take count order
+module _ (es : List ℕ) (from start p : ℕ) (so_far : Passed start es from)
+    (is : p ≡ passed_of start (take (length es - from) (drop from es))) where
+  same : from + p ≡ passed_of start es
+  same = pass_rest start es from p so_far is
 
-  held_length : length held ≡ many
-  held_length = length-take count order ∙ sym first
+  pub place_within : from + p ≤ length es
+  place_within = omega (arith, same, passed_length start es)
 
-  held_starts_holds : length (starts_in held) ≡ many
-  held_starts_holds = starts_length held ∙ held_length
-
-  rest_is : take (many - from) (drop from order) ≡ drop from (take count order)
-  rest_is =
-      ⊎_elim
-      (λ (within : count ≤ length order).
-      let all : many - from ≡ count - from = omega arith in
-      ap (λ (n : ℕ). take n (drop from order)) all
-      ∙ sym (drop_take from count order (omega (arith, so_far.0, held_length)) within))
-      (λ (short : length order < count).
-      let size : length (drop from order) ≤ many - from = simp length-drop (omega (arith, first)) in
-      take_all (many - from) (drop from order) size
-      ∙ ap (drop from) (sym (take_all count order (omega arith))))
-      (le_or_lt count (length order))
-
-  same : from + p ≡ (placing start (starts_in (take count order))).place
-  same = omega (arith, is, ap (passed_of start) rest_is, so_far.1)
-
-  pub placed : {looked : ℕ} → looked ≡ min (from + p + 1) many
-      → record { place = from + p; looked = looked } ≡ placing start (starts_in (take count order))
-  placed least = place_is same (omega (arith, same, held_starts_holds, place_search.looked_at start (starts_in held)))
+  pub placed : {looked : ℕ} → looked ≡ min (length es) (from + p + 1)
+      → record { place = from + p; looked = looked } ≡ placing start (starts_in es)
+  placed least = place_is same (omega (arith, same, starts_length es, place_search.looked_at start (starts_in es)))

@@ -18,60 +18,61 @@ use Rattle.script.specs.Machine.{without, zero_record}
 use Rattle.script.proofs.Placing.{without_gone, find_id}
 use Rattle.script.proofs.Places.{find_at, without_position}
 use Rattle.edit_index.specs.Order.{slot_in, start_in, slots_in, starts_in, without_entry}
-use Rattle.edit_index.specs.Index.{Index, slot_limit, id_limit, no_slot, slot_record, held_slots, held_starts}
+use Rattle.edit_index.specs.declared.index.Index.{Index}
+use Rattle.edit_index.specs.Index.{slot_limit, id_limit, no_slot, slot_record, held_slots, held_starts}
 use Rattle.edit_index.specs.Index.{held_records, slot_of, Holds, taken_out}
 use Rattle.edit_index.proofs.OrderLaws.{without_length, without_around, without_behind}
 use Rattle.edit_index.proofs.SlotLaws.{below_moved, differ_moved, map_leave, map_joined, map_at}
 use Rattle.edit_index.proofs.SlotLaws.{slot_none, slot_leave_other}
 use Rattle.edit_index.proofs.IndexLaws.{slots_length, slots_cut, id_place}
 
-module _ {x : Index} {count : ℕ} (h : Holds x count) (id : ℕ) (small : id < id_limit)
-    (a : T (is_among id (ids_of (held_records count x)))) (differ : T (all_differ (ids_of (held_records count x))))
-    (place : ℕ) (is : place ≡ position_of id (held_records count x)) where
+module _ {x : Index} (h : Holds x) (id : ℕ) (small : id < id_limit)
+    (a : T (is_among id (ids_of (held_records x)))) (differ : T (all_differ (ids_of (held_records x))))
+    (place : ℕ) (is : place ≡ position_of id (held_records x)) where
   abbrev left : List ℕ
-  left = without_entry x.order count place
+  left = without_entry x.order x.count place
 
   abbrev ss : List ℕ
-  ss = held_slots count x
+  ss = held_slots x
 
   abbrev rs : List Record
-  rs = held_records count x
+  rs = held_records x
 
   abbrev rest : List ℕ
-  rest = slots_in (drop count x.order)
+  rest = slots_in (drop x.count x.order)
 
   abbrev gone : ℕ
   gone = slot_in (get_or x.order place 0)
 
-  there : place < count
+  there : place < x.count
   there = omega (arith, id_place h id small a)
 
-  within : count ≤ length x.order
+  within : x.count ≤ length x.order
   within = omega (arith, h.few, h.order_size)
 
   -- ---- its order
 
-  around : take (count - 1) left ≡ take place (take count x.order) ++ drop (suc place) (take count x.order)
-  around = without_around x.order count place within there (take count x.order) refl
+  around : take (x.count - 1) left ≡ take place (take x.count x.order) ++ drop (suc place) (take x.count x.order)
+  around = without_around x.order x.count place within there (take x.count x.order) refl
 
-  slots_around : slots_in (take (count - 1) left) ≡ take place ss ++ drop (suc place) ss
-  slots_around = ap slots_in around ∙ map_leave slot_in place (take count x.order)
+  slots_around : slots_in (take (x.count - 1) left) ≡ take place ss ++ drop (suc place) ss
+  slots_around = ap slots_in around ∙ map_leave slot_in place (take x.count x.order)
 
-  starts_around : starts_in (take (count - 1) left)
-      ≡ take place (held_starts count x) ++ drop (suc place) (held_starts count x)
-  starts_around = ap starts_in around ∙ map_leave start_in place (take count x.order)
+  starts_around : starts_in (take (x.count - 1) left)
+      ≡ take place (held_starts x) ++ drop (suc place) (held_starts x)
+  starts_around = ap starts_in around ∙ map_leave start_in place (take x.count x.order)
 
   all_slots : slots_in left ≡ take place ss ++ drop (suc place) ss ++ gone ∷ rest
   all_slots =
-      ap slots_in (sym (take-append-drop (count - 1) left))
-      ∙ map_joined slot_in (take (count - 1) left) (drop (count - 1) left)
+      ap slots_in (sym (take-append-drop (x.count - 1) left))
+      ∙ map_joined slot_in (take (x.count - 1) left) (drop (x.count - 1) left)
       ∙ ap₂ (λ (ns es : List ℕ). ns ++ slots_in es) slots_around
-      (without_behind x.order count place within there)
+      (without_behind x.order x.count place within there)
 
   its_slot : get_or ss place 0 ≡ gone
   its_slot =
-      map_at slot_in (take count x.order) place 0 0 (omega (arith, there, length-take-le count x.order within))
-      ∙ ap slot_in (get_or-take count x.order place 0 there)
+      map_at slot_in (take x.count x.order) place 0 0 (omega (arith, there, length-take-le x.count x.order within))
+      ∙ ap slot_in (get_or-take x.count x.order place 0 there)
 
   old_slots : slots_in x.order ≡ take place ss ++ gone ∷ (drop (suc place) ss ++ rest)
   old_slots =
@@ -83,16 +84,16 @@ module _ {x : Index} {count : ℕ} (h : Holds x count) (id : ℕ) (small : id < 
 
   -- ---- its records
 
-  held_left : held_records (count - 1) (taken_out count place id x) ≡ take place rs ++ drop (suc place) rs
+  held_left : held_records (taken_out place id x) ≡ take place rs ++ drop (suc place) rs
   held_left =
       ap (map (slot_record x.slots)) slots_around ∙ map_leave (slot_record x.slots) place ss
 
-  pub take_out_records : held_records (count - 1) (taken_out count place id x) ≡ without id (held_records count x)
+  pub take_out_records : held_records (taken_out place id x) ≡ without id (held_records x)
   take_out_records =
       held_left ∙ ap (λ (p : ℕ). take p rs ++ drop (suc p) rs) is ∙ sym (without_position id rs a)
 
-  take_out_starts : held_starts (count - 1) (taken_out count place id x)
-      ≡ starts_of (held_records (count - 1) (taken_out count place id x))
+  take_out_starts : held_starts (taken_out place id x)
+      ≡ starts_of (held_records (taken_out place id x))
   take_out_starts =
       starts_around
       ∙ ap (λ (starts : List ℕ). take place starts ++ drop (suc place) starts) h.starts
@@ -111,22 +112,22 @@ module _ {x : Index} {count : ℕ} (h : Holds x count) (id : ℕ) (small : id < 
 
   still_finds : (other : ℕ) → other < id_limit
       → get_or (set x.ids id no_slot) other no_slot
-      ≡ slot_of (slot_record x.slots) other (slots_in (take (count - 1) left))
+      ≡ slot_of (slot_record x.slots) other (slots_in (take (x.count - 1) left))
   still_finds other few = ⊎_elim same apart (eq_or_not other id)
     where
       same : other ≡ id
           → get_or (set x.ids id no_slot) other no_slot
-          ≡ slot_of (slot_record x.slots) other (slots_in (take (count - 1) left))
+          ≡ slot_of (slot_record x.slots) other (slots_in (take (x.count - 1) left))
       same e =
-          let none : T (not (is_among other (ids_of (held_records (count - 1) (taken_out count place id x))))) =
+          let none : T (not (is_among other (ids_of (held_records (taken_out place id x))))) =
           rw (take_out_records, e) (without_gone id rs differ) in
           ap (λ (n : ℕ). get_or (set x.ids id no_slot) n no_slot) e
           ∙ get_or-set_same x.ids id no_slot no_slot (omega (arith, h.ids_size))
-          ∙ sym (slot_none (slot_record x.slots) other (slots_in (take (count - 1) left)) none)
+          ∙ sym (slot_none (slot_record x.slots) other (slots_in (take (x.count - 1) left)) none)
 
       apart : (other ≡ id → ⊥)
           → get_or (set x.ids id no_slot) other no_slot
-          ≡ slot_of (slot_record x.slots) other (slots_in (take (count - 1) left))
+          ≡ slot_of (slot_record x.slots) other (slots_in (take (x.count - 1) left))
       apart ne =
           get_or-set_other x.ids id other no_slot no_slot ne
           ∙ h.found other few
@@ -135,13 +136,13 @@ module _ {x : Index} {count : ℕ} (h : Holds x count) (id : ℕ) (small : id < 
           (ne_test other (slot_record x.slots (get_or ss place 0)).id (λ e. ne (e ∙ its_id))))
           ∙ ap (slot_of (slot_record x.slots) other) (sym slots_around)
 
-  pub take_out_holds : Holds (taken_out count place id x) (count - 1)
+  pub take_out_holds : Holds (taken_out place id x)
   take_out_holds =
       let others : take place ss ++ (drop (suc place) ss ++ rest) ≡ take place ss ++ drop (suc place) ss ++ rest =
       sym (append_assoc (take place ss) (drop (suc place) ss) rest) in
       record {
         slots_size = h.slots_size;
-        order_size = without_length x.order count place within there ∙ h.order_size;
+        order_size = without_length x.order x.count place within there ∙ h.order_size;
         ids_size = length-set x.ids id no_slot ∙ h.ids_size;
         few = omega (arith, h.few);
         below =

@@ -1,12 +1,13 @@
-// The records of an index: looked up by id, put in and taken out, made from the list and written back to it.
-ghost use Rattle.std.specs.Prelude.{◌≡◌, ℕ, ◌-◌, List, length, get_or, set};
-ghost use Rattle.edit_index.specs.Order.{slots_from};
-ghost use Rattle.edit_index.specs.Index.{no_slot, lent_index, added, taken_out, loaded, stored};
+// The index: its records are looked up by id, put in and taken out, made from the list and written back to it. Edit
+// makes it on its stack, in place, and passes it by reference.
+ghost use Rattle.std.specs.Prelude.{◌≡◌, List, ℕ, length, set, take};
+ghost use Rattle.edit_index.specs.Index.{slot_led, record_led, one_more, added, taken_out, emptied, loaded, stored};
 
 use crate::order;
 use eit::Record;
 use eit::limits::EVENTS_MAX;
 use list_records::records;
+use list_records::records::RECORD_SIZE;
 
 // Slots of an index that has room for any list.
 pub const SLOTS: usize = EVENTS_MAX;
@@ -14,15 +15,17 @@ pub const SLOTS: usize = EVENTS_MAX;
 // Ids, 0 to 65,535.
 pub const IDS: usize = 65_536;
 
-// What stands for no slot.
+// What stands for no slot: `ids` has no room for an option (no heap, fixed memory).
 pub const NO_SLOT: u16 = 65_535;
 
-// The slot of the record that has the id; NO_SLOT beyond the ids.
-pub fn slot_of(ids: &[u16], id: u32) -> u16
-    ensures { result ≡ get_or ids.now id no_slot }
-{
-    let i = id as usize;
-    if i < ids.len() { ids[i] } else { NO_SLOT }
+// A record in each slot; the order of the slots by the starts of their records, those of no record behind the others;
+// and the slot of each id's record.
+#[derive(Drop)]
+pub struct Index {
+    pub slots: [u32; SLOTS * RECORD_SIZE],
+    pub order: [u64; SLOTS],
+    pub ids: [u16; IDS],
+    pub count: usize,
 }
 
 // Leads an id to a slot. Beyond the ids, all stays.
@@ -35,79 +38,97 @@ fn set_slot(ids: &mut [u16], id: u32, slot: u16)
     }
 }
 
-// Puts a record in place `place` of `count` records, in the first slot that is free.
-pub fn add(
-    slots: &mut [u32],
-    order: &mut [u64],
-    ids: &mut [u16],
-    count: usize,
-    place: usize,
-    event: Record,
-)
-    ensures { lent_index slots.new order.new ids.new
-        ≡ added count place event (lent_index slots.old order.old ids.old) }
+// One record more, as far as there are slots.
+fn one_more(count: usize) -> usize
+    ensures { result ≡ one_more count }
 {
-    let slot = order::slot_at(order, count);
-    records::write_record(slots, slot as usize, event);
-    order::insert(order, count, place, order::entry_of(event.start, slot));
-    set_slot(ids, event.id, slot);
+    if count < SLOTS { count + 1 } else { count }
 }
 
-// Takes record `place` of `count` records, which has the id, out.
-pub fn take_out(order: &mut [u64], ids: &mut [u16], count: usize, place: usize, id: u32)
-    ensures { (slots : List ℕ) → lent_index slots order.new ids.new
-        ≡ taken_out count place id (lent_index slots order.old ids.old) }
-{
-    order::remove(order, count, place);
-    set_slot(ids, id, NO_SLOT);
-}
-
-// Takes record `from` of `count` records, which has the id, out and puts a record in place `to` of the others, in its
-// slot. Where there is no such record or place, the order is what `move_entry` leaves, and the record goes to the slot
-// that it returns.
-pub fn re_place(
-    slots: &mut [u32],
-    order: &mut [u64],
-    ids: &mut [u16],
-    count: usize,
-    from: usize,
-    to: usize,
-    id: u32,
-    event: Record,
-)
-    ensures { lent_index slots.new order.new ids.new
-        ≡ added (count - 1) to event
-        (taken_out count from id (lent_index slots.old order.old ids.old)) }
-{
-    let slot = order::move_entry(order, count, from, to, event.start);
-    records::write_record(slots, slot as usize, event);
-    set_slot(ids, id, NO_SLOT);
-    set_slot(ids, event.id, slot);
-}
-
-// Makes an index of the list's records, where no id has a slot yet.
-pub fn load(list: &[u32], count: usize, slots: &mut [u32], order: &mut [u64], ids: &mut [u16])
-    ensures { lent_index slots.new order.new ids.new
-        ≡ loaded list.now count
-        (lent_index slots.old (slots_from 0 (length order.old)) ids.old) }
-{
-    order::number_slots(order);
-    let mut i = 0;
-    while i < count {
-        add(slots, order, ids, i, i, records::record_at(list, i));
-        i += 1;
+impl Index {
+    // The entries of its records, in their order.
+    pub fn entries(&self) -> &[u64]
+        ensures { result.now ≡ take self.now.count self.now.order }
+    {
+        &self.order[..self.count.min(SLOTS)]
     }
-}
 
-// Writes the records of an index to the front of the list, in their order.
-pub fn store(list: &mut [u32], slots: &[u32], order: &[u64], count: usize)
-    ensures { (ids : List ℕ) → list.new
-        ≡ stored list.old (lent_index slots.now order.now ids) count }
-{
-    let mut i = 0;
-    while i < count {
-        let slot = order::slot_at(order, i);
-        records::write_record(list, i, records::record_at(slots, slot as usize));
-        i += 1;
+    // The slot of the record that has the id.
+    pub fn slot_of(&self, id: u32) -> Option<u16>
+        ensures { result ≡ slot_led self.now id }
+    {
+        let i = id as usize;
+        if i < IDS && self.ids[i] != NO_SLOT {
+            Some(self.ids[i])
+        } else {
+            None
+        }
+    }
+
+    // The record that has the id.
+    pub fn record_of(&self, id: u32) -> Option<Record>
+        ensures { result ≡ record_led self.now id }
+    {
+        let slot = self.slot_of(id)?;
+        Some(records::record_at(&self.slots, slot as usize))
+    }
+
+    // Puts a record in a place of the others, in the first slot that is free.
+    pub fn add(&mut self, place: usize, event: Record)
+        ensures { self.new ≡ added place event self.old }
+    {
+        let slot = order::slot_at(&self.order, self.count);
+        records::write_record(&mut self.slots, slot as usize, event);
+        order::insert(
+            &mut self.order,
+            self.count,
+            place,
+            order::entry_of(event.start, slot),
+        );
+        set_slot(&mut self.ids, event.id, slot);
+        self.count = one_more(self.count);
+    }
+
+    // Takes the record in a place, which has the id, out.
+    pub fn take_out(&mut self, place: usize, id: u32)
+        ensures { self.new ≡ taken_out place id self.old }
+    {
+        order::remove(&mut self.order, self.count, place);
+        set_slot(&mut self.ids, id, NO_SLOT);
+        self.count = self.count.saturating_sub(1);
+    }
+
+    // Takes the record in place `from`, which has the id, out and puts a record in place `to` of the others, in its
+    // slot. Where there is no such record or place, the order is what `move_entry` leaves, and the record goes to the
+    // slot that it returns.
+    pub fn re_place(&mut self, from: usize, to: usize, id: u32, event: Record)
+        ensures { self.new ≡ added to event (taken_out from id self.old) }
+    {
+        let slot = order::move_entry(&mut self.order, self.count, from, to, event.start);
+        records::write_record(&mut self.slots, slot as usize, event);
+        set_slot(&mut self.ids, id, NO_SLOT);
+        set_slot(&mut self.ids, event.id, slot);
+        self.count = one_more(self.count.saturating_sub(1));
+    }
+
+    // Makes an index of the list's records, where no id has a slot yet.
+    pub fn load(&mut self, list: &[u32], count: usize)
+        ensures { self.new ≡ loaded list.now count (emptied self.old) }
+    {
+        order::number_slots(&mut self.order);
+        self.count = 0;
+        for i in 0..count {
+            self.add(i, records::record_at(list, i));
+        }
+    }
+
+    // Writes its records to the front of the list, in their order.
+    pub fn store(&self, list: &mut [u32])
+        ensures { list.new ≡ stored list.old self.now self.now.count }
+    {
+        for i in 0..self.count {
+            let slot = order::slot_at(&self.order, i);
+            records::write_record(list, i, records::record_at(&self.slots, slot as usize));
+        }
     }
 }

@@ -29,10 +29,8 @@ pub fn slot_at(order: &[u64], i: usize) -> u16
 pub fn number_slots(order: &mut [u64])
     ensures { order.new ≡ slots_from 0 (length order.old) }
 {
-    let mut i = 0;
-    while i < order.len() {
-        order[i] = i as u64;
-        i += 1;
+    for (i, entry) in order.iter_mut().enumerate() {
+        *entry = i as u64;
     }
 }
 
@@ -44,11 +42,7 @@ pub fn insert(order: &mut [u64], count: usize, place: usize, entry: u64)
     if order.len() <= count || count < place {
         return;
     }
-    let mut k = count;
-    while place < k {
-        k -= 1;
-        order[k + 1] = order[k];
-    }
+    order.copy_within(place..count, place + 1);
     order[place] = entry;
 }
 
@@ -61,13 +55,8 @@ pub fn remove(order: &mut [u64], count: usize, place: usize)
         return;
     }
     let entry = order[place];
-    let last = count - 1;
-    let mut k = place;
-    while k < last {
-        order[k] = order[k + 1];
-        k += 1;
-    }
-    order[last] = entry;
+    order.copy_within(place + 1..count, place);
+    order[count - 1] = entry;
 }
 
 // Puts entry `from` of `count` entries in place `to` of the others, with another start, and returns its slot; only the
@@ -90,7 +79,7 @@ pub fn move_entry(order: &mut [u64], count: usize, from: usize, to: usize, start
         return slot;
     }
     remove(order, count, from);
-    let others = if count == 0 { 0 } else { count - 1 };
+    let others = count.saturating_sub(1);
     let slot = slot_at(order, others);
     insert(order, others, to, entry_of(start, slot));
     slot

@@ -4,4 +4,4 @@ use Rattle.edit_index.proofs.OrderLaws.{number_all}
 use Rattle.edit_index.proofs.order.number_slots.Goals as goal
 
 pub returns : goal.returns
-returns c = number_all c.args.order.now c.loop-i.order c.loop-i.i c.loop-i.invariant.1 (omega arith)
+returns c = number_all c.args.order.now c.loop-i.order c.loop-i.i c.loop-i.invariant (omega arith)

@@ -1,7 +1,5 @@
--- `remove` meets its contract: at each turn the entries behind the one taken out have moved down as far as k, and it is
--- written behind them. Assumes nothing.
-use Rattle.std.proofs.Common.{◌-◌, arith, sym, refl}
-use Rattle.edit_index.proofs.ShiftLaws.{down_step}
+-- `remove` meets its contract: the later entries move down, and the entry is written behind them. Assumes nothing.
+use Rattle.std.proofs.Common.{ℕ, ◌-◌, List, arith, sym, set, get_or, ap, ◌∙◌}
 use Rattle.edit_index.proofs.OrderLaws.{without_short, without_beyond, without_ends}
 use Rattle.edit_index.proofs.order.remove.Goals as goal
 use Rattle.edit_index.proofs.order.remove.Goals.{then-order-count-via-then-order-count, then-order-count-via-else-order-count+then-count-place}
@@ -16,16 +14,7 @@ returns-then-order-count c =
           sym (without_beyond d c.args.count c.args.place (omega arith) (omega arith))
     ]
 
-pub loop-k-preserved : goal.loop-k-preserved
-loop-k-preserved c =
-    let loop = c.loop-k in (
-      omega arith,
-      omega arith,
-      down_step c.args.order.now c.args.place loop.order loop.k loop.invariant.2 (omega arith) (omega arith),
-    )
-
 pub returns : goal.returns
 returns c =
-    let loop = c.loop-k in
-    without_ends c.args.order.now c.args.count c.args.place (omega arith) (omega arith) loop.order
-    loop.k (c.args.count - 1) (omega arith) refl loop.invariant.2 (omega arith)
+    ap (λ (l : List ℕ). set l (c.args.count - 1) (get_or c.args.order.now c.args.place 0)) c.copy_within.ensures.after
+    ∙ without_ends c.args.order.now c.args.count c.args.place (omega arith) (omega arith)
