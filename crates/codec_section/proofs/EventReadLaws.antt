@@ -1,33 +1,33 @@
 -- The event at the front of some bytes, test by test: what the code reads from the bytes on is what the event's own
 -- bytes show, since they are a front of these. Assumes nothing.
-use Prim.Native.Nat.{ℕ, ◌+◌, ◌-◌, ◌*◌, ◌/◌, ◌%◌, ◌≤◌, ◌<◌}
-use mathlib.Core.Bool.{Bool, true, false, not, ◌&&◌, ◌||◌}
+use Prim.Native.Nat.{ℕ, ◌+◌, ◌-◌, ◌*◌, ◌/◌, ◌%◌, ◌^◌, ◌≤◌, ◌<◌}
+use mathlib.Core.Bool.{Bool, true, false, ◌&&◌, ◌||◌}
 use mathlib.Core.List.{List}
 use mathlib.Core.Logic.{⊎_elim}
 use mathlib.Core.Path.{◌≡◌, refl, sym, ap, ◌∙◌}
 use native.Mathlib.Omega.{arith}
 use borrow.Author.Tests.{eq-eqb, ne_eqb}
-use lib.Dec.{T, eqb, eqb→eq}
-use lib.ListN.{length, take, drop, length-drop}
+use lib.Dec.{eqb, eqb→eq}
+use lib.ListN.{length, take, drop, get_or, length-drop}
 use lib.Seq.{take_all, take-take, length-take-le}
+use Rattle.std.specs.Prelude.{Some, None, slice_range}
 use Rattle.eit.specs.Fields.{value_of, bytes_at, field}
 use Rattle.eit.specs.Time.{is_start_bytes, is_duration_bytes, seconds_of, start_of}
 use Rattle.eit.specs.Chain.{is_chain}
 use Rattle.eit.specs.Pools.{odd}
 use Rattle.eit.specs.declared.Record.{Record}
-use Rattle.eit.proofs.Test.{true_is, false_is, test_or, or_cases, eq_or_not}
+use Rattle.eit.proofs.Fields.{bytes_all}
+use Rattle.eit.proofs.Test.{true_is, or_cases, eq_or_not}
 use Rattle.sections.specs.Section.{Header, event_overhead}
 use Rattle.sections.specs.Encode.{running_status, bit_of}
 use Rattle.sections.specs.Decode.{status_field, stated_event_size, event_in}
 use Rattle.sections.specs.Offsets.{record_at}
 use Rattle.sections.specs.EventTests.{is_in_segment, is_event}
 use Rattle.sections.proofs.EventBytes.{bit_forth}
-use Rattle.codec.proofs.FieldLaws.{drop_take}
+use Rattle.codec.proofs.FieldLaws.{drop_take, field_read}
 use Rattle.codec_time.specs.TimeRead.{duration_at, start_at}
-use Rattle.codec_time.specs.declared.TimeRead.TheVariants.{Seconds, Broken as NoTime}
-use Rattle.codec_time.proofs.TimeReadLaws.{no_start, is_start, no_duration, is_duration}
+use Rattle.codec_time.proofs.TimeReadLaws.{some_only, none_only, no_start, is_start, no_duration, is_duration}
 use Rattle.codec_section.specs.EventRead.{is_whole_event, front_event, event_read}
-use Rattle.codec_section.specs.declared.event.EventRead.TheVariants.{Whole, Broken}
 
 -- ---- the segment is all that `is_event` asks besides
 
@@ -68,37 +68,26 @@ off_air_is status passed =
 
 module _ (base : ℕ) (bs : List ℕ) where
   pub whole_read : is_whole_event base (front_event bs) ≡ true
-      → event_read base bs ≡ Whole (record_at 0 (event_in base (front_event bs)))
+      → event_read base bs ≡ Some (record_at 0 (event_in base (front_event bs)))
   unfolding event_read
   whole_read holds = rw (event_read, holds)
 
-  pub broken_read : is_whole_event base (front_event bs) ≡ false → event_read base bs ≡ Broken
+  pub broken_read : is_whole_event base (front_event bs) ≡ false → event_read base bs ≡ None
   unfolding event_read
   broken_read fails = rw (event_read, fails)
 
-  pub whole_only : {r : Record} → event_read base bs ≡ Whole r
+  pub whole_only : {r : Record} → event_read base bs ≡ Some r
       → (is_whole_event base (front_event bs) ≡ true) × (r ≡ record_at 0 (event_in base (front_event bs)))
+  unfolding event_read
   whole_only {r} read =
-      ⊎_elim
-      (λ (holds : T (is_whole_event base (front_event bs))).
-      let is : is_whole_event base (front_event bs) ≡ true = true_is _ holds in
-      let shown = whole_read is in
-      (is, cc))
-      (λ (fails : T (not (is_whole_event base (front_event bs)))).
-      let shown = broken_read (false_is _ fails) in
-      let z : ◌≡◌ {A = ℕ} 0 1 = cc in
-      absurd (omega arith))
-      (test_or (is_whole_event base (front_event bs)))
+      let (holds, same) =
+      some_only (is_whole_event base (front_event bs)) (record_at 0 (event_in base (front_event bs))) r read in
+      (true_is (is_whole_event base (front_event bs)) holds, sym same)
 
-  pub broken_only : event_read base bs ≡ Broken → is_whole_event base (front_event bs) ≡ false
+  pub broken_only : event_read base bs ≡ None → is_whole_event base (front_event bs) ≡ false
+  unfolding event_read
   broken_only read =
-      ⊎_elim
-      (λ (holds : T (is_whole_event base (front_event bs))).
-      let shown = whole_read (true_is _ holds) in
-      let z : ◌≡◌ {A = ℕ} 0 1 = cc in
-      absurd (omega arith))
-      (λ (fails : T (not (is_whole_event base (front_event bs)))). false_is _ fails)
-      (test_or (is_whole_event base (front_event bs)))
+      none_only (is_whole_event base (front_event bs)) (record_at 0 (event_in base (front_event bs))) read
 
 -- ---- the bytes of the event are a front of the bytes
 
@@ -106,11 +95,16 @@ and_false : (a : Bool) → (a && false) ≡ false
 and_false true = refl
 and_false false = refl
 
-module _ (base : ℕ) (bs : List ℕ) {word : ℕ} (is_IsWord : word ≡ status_field bs) where
-  size : stated_event_size bs ≡ event_overhead + word % 0x1000
-  size = rw is_IsWord
+-- the word of the status, as it is read
+module _ (base : ℕ) (bs : List ℕ) {word : ℕ} (all : (k : ℕ) → get_or bs k 0 < 256)
+    (read : word ≡ status_field bs % 2 ^ 32) where
+  is_word : word ≡ status_field bs
+  is_word = (field_read bs 10 2 (bytes_all bs all) (omega arith) read).0
 
-  pub event_truncated : length bs < event_overhead + word % 0x1000 → event_read base bs ≡ Broken
+  size : stated_event_size bs ≡ event_overhead + word % 0x1000
+  size = rw is_word
+
+  pub event_truncated : length bs < event_overhead + word % 0x1000 → event_read base bs ≡ None
   unfolding is_whole_event
   event_truncated short =
       let all : front_event bs ≡ bs = take_all (stated_event_size bs) bs (omega arith) in
@@ -124,16 +118,16 @@ module _ (base : ℕ) (bs : List ℕ) {word : ℕ} (is_IsWord : word ≡ status_
         ∙ take-take width (stated_event_size bs - at) (drop at bs) (omega arith)
 
     same_word : status_field (front_event bs) ≡ word
-    same_word = ap value_of (front 10 2 (omega arith)) ∙ sym is_IsWord
+    same_word = ap value_of (front 10 2 (omega arith)) ∙ sym is_word
 
     same_size : length (front_event bs) ≡ stated_event_size (front_event bs)
     same_size =
         length-take-le (stated_event_size bs) bs (omega arith) ∙ size
         ∙ ap (λ (w : ℕ). event_overhead + w % 0x1000) (sym same_word)
 
-    chain_is : drop event_overhead (front_event bs)
+    chain_at : drop event_overhead (front_event bs)
         ≡ take (event_overhead + word % 0x1000 - event_overhead) (drop event_overhead bs)
-    chain_is =
+    chain_at =
         drop_take event_overhead (stated_event_size bs) bs
         ∙ ap (λ (n : ℕ). take (n - event_overhead) (drop event_overhead bs)) size
 
@@ -149,41 +143,37 @@ module _ (base : ℕ) (bs : List ℕ) {word : ℕ} (is_IsWord : word ≡ status_
           front 2 5 (omega arith),
           front 7 3 (omega arith),
           same_word,
-          chain_is,
+          chain_at,
         )
 
-    pub event_no_status : {b : Bool} → b ≡ (eqb (word / 0x2000) 0 || eqb (word / 0x2000) 5) → b ≡ false
-        → event_read base bs ≡ Broken
-    event_no_status test fails =
-        let none = sym test ∙ fails in
+    pub event_no_status : (eqb (word / 0x2000) 0 || eqb (word / 0x2000) 5) ≡ false → event_read base bs ≡ None
+    event_no_status none =
         broken_read base bs
         (whole_is ∙ rw (none, and_false (is_duration_bytes (bytes_at 7 3 bs)))
         (and_false (is_start_bytes base (bytes_at 2 5 bs))))
 
-    pub event_no_start : start_at base 2 bs ≡ NoTime → event_read base bs ≡ Broken
+    pub event_no_start : start_at base 2 bs ≡ None → event_read base bs ≡ None
     event_no_start none = broken_read base bs (whole_is ∙ rw (no_start base 2 bs (omega arith) none))
 
-    pub event_no_duration : duration_at 7 bs ≡ NoTime → event_read base bs ≡ Broken
+    pub event_no_duration : duration_at 7 bs ≡ None → event_read base bs ≡ None
     event_no_duration none =
         broken_read base bs
         (whole_is ∙ rw (no_duration 7 bs (omega arith) none) (and_false (is_start_bytes base (bytes_at 2 5 bs))))
 
-    module _ {start duration : ℕ} {status chain : Bool}
-        (status-test : status ≡ (eqb (word / 0x2000) 0 || eqb (word / 0x2000) 5))
-        (status-holds : status ≡ true)
-        (start_is : start_at base 2 bs ≡ Seconds start)
-        (duration_is : duration_at 7 bs ≡ Seconds duration)
-        (chain-test : chain
-        ≡ is_chain (take (event_overhead + word % 0x1000 - event_overhead) (drop event_overhead bs))) where
-      whole_if : is_whole_event base (front_event bs) ≡ chain
+    module _ {start duration : ℕ} {chain : List ℕ}
+        (status : (eqb (word / 0x2000) 0 || eqb (word / 0x2000) 5) ≡ true)
+        (start_is : start_at base 2 bs ≡ Some start)
+        (duration_is : duration_at 7 bs ≡ Some duration)
+        (chain_is : chain ≡ slice_range bs event_overhead (event_overhead + word % 0x1000)) where
+      whole_if : is_whole_event base (front_event bs) ≡ is_chain chain
       whole_if =
           let (starts, same_start) = is_start base 2 bs start_is in
           let (lasts, same-duration) = is_duration 7 bs duration_is in
           let start-holds = true_is (is_start_bytes base (bytes_at 2 5 bs)) starts in
           let duration-holds = true_is (is_duration_bytes (bytes_at 7 3 bs)) lasts in
-          whole_is ∙ rw (start-holds, duration-holds, ← status-test, status-holds) (sym chain-test)
+          whole_is ∙ rw (start-holds, duration-holds, status, chain_is)
 
-      pub event_no_chain : chain ≡ false → event_read base bs ≡ Broken
+      pub event_no_chain : is_chain chain ≡ false → event_read base bs ≡ None
       event_no_chain fails = broken_read base bs (whole_if ∙ fails)
 
       record_is : {id : ℕ} → id ≡ field 0 2 bs
@@ -202,7 +192,7 @@ module _ (base : ℕ) (bs : List ℕ) {word : ℕ} (is_IsWord : word ≡ status_
           let free : bit_of (odd (status_field (front_event bs) / 0x1000)) ≡ word / 0x1000 % 2 =
           rw same_word (bit_forth (word / 0x1000)) in
           let off : bit_of (eqb (status_field (front_event bs) / 0x2000) 5) ≡ word / 0x2000 / 5 =
-          rw same_word (off_air_is (word / 0x2000) (sym status-test ∙ status-holds)) in
+          rw same_word (off_air_is (word / 0x2000) status) in
           let same_length : length (drop event_overhead (front_event bs)) ≡ word % 0x1000 =
           length-drop event_overhead (front_event bs) ∙ rw (same_size, same_word) (omega arith) in
           λ i. record {
@@ -214,9 +204,9 @@ module _ (base : ℕ) (bs : List ℕ) {word : ℕ} (is_IsWord : word ≡ status_
             chain_length = same_length i;
           }
 
-      pub event_shown : {id : ℕ} → id ≡ field 0 2 bs → chain ≡ true
+      pub event_shown : {id : ℕ} → id ≡ field 0 2 bs % 2 ^ 32 → is_chain chain ≡ true
           → event_read base bs
-          ≡ Whole (record {
+          ≡ Some (record {
             id = id;
             start = start;
             duration = duration;
@@ -224,4 +214,6 @@ module _ (base : ℕ) (bs : List ℕ) {word : ℕ} (is_IsWord : word ≡ status_
             offset = event_overhead;
             chain_length = word % 0x1000;
           })
-      event_shown is-id holds = whole_read base bs (whole_if ∙ holds) ∙ ap Whole (record_is is-id)
+      event_shown is-id holds =
+          whole_read base bs (whole_if ∙ holds)
+          ∙ ap Some (record_is (field_read bs 0 2 (bytes_all bs all) (omega arith) is-id).0)

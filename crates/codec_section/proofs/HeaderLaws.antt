@@ -2,23 +2,22 @@
 -- the header that the bytes show. Assumes nothing.
 use Prim.Native.Nat.{ℕ, ◌+◌, ◌%◌, ◌^◌, ◌≤◌, ◌<◌}
 use mathlib.Core.List.{List, ◌++◌}
-use mathlib.Core.Logic.{⊎_elim}
-use mathlib.Core.Option.{none, some}
-use mathlib.Core.Path.{◌≡◌, refl, ap, ◌∙◌}
+use mathlib.Core.Path.{◌≡◌, refl, sym, ap, ◌∙◌}
 use native.Mathlib.Omega.{arith}
-use borrow.Author.Tests.{le-leb, lt-leb}
+use borrow.Author.Tests.{leb-false}
+use lib.Dec.{leb, leb→le}
 use lib.ListN.{length}
+use Rattle.std.specs.Prelude.{Some, None, option_map}
 use Rattle.eit.specs.Fields.{big_endian}
 use Rattle.eit.proofs.Fields.{big_endian_mod}
-use Rattle.eit.proofs.Test.{le_or_lt}
 use Rattle.sections.specs.Section.{header_size}
 use Rattle.sections.specs.Encode.{length_word, version_byte, header_bytes}
 use Rattle.sections.specs.Decode.{header_in}
 use Rattle.codec.specs.Write.{write_at}
-use Rattle.codec_section.specs.HeaderRead.{held_header, front_bytes, rest_bytes, header_or_none, header_read}
+use Rattle.codec_section.specs.HeaderRead.{held_header, front_bytes, rest_bytes, header_read}
 use Rattle.codec_section.specs.declared.header.SectionHeader.{SectionHeader}
-use Rattle.codec_section.specs.declared.header.HeaderRead.TheVariants.{Header as Read, Short}
 use Rattle.codec.proofs.WriteLaws.{write_then}
+use Rattle.codec_time.proofs.TimeReadLaws.{some_only, none_only}
 
 pub header_joined : (size : ℕ) (h : SectionHeader) → front_bytes size h ++ rest_bytes h ≡ header_bytes size (held_header h)
 unfolding header_bytes
@@ -66,25 +65,12 @@ module _ (d : List ℕ) (at : ℕ) (h : SectionHeader) where
 
 -- what was read, and what it says of the bytes
 module _ (bs : List ℕ) where
-  pub header_only : {h : SectionHeader} → header_or_none (Read h) ≡ header_read bs
+  pub header_only : {h : SectionHeader} → option_map held_header (Some h) ≡ header_read bs
       → (header_size ≤ length bs) × (held_header h ≡ header_in bs)
   header_only {h} read =
-      ⊎_elim
-      (λ (enough : header_size ≤ length bs).
-      let shown : header_read bs ≡ some (header_in bs) = rw (header_read, le-leb header_size (length bs) enough) in
-      (enough, cc))
-      (λ (few : length bs < header_size).
-      let shown : header_read bs ≡ none = rw (header_read, lt-leb header_size (length bs) few) in
-      let z : ◌≡◌ {A = ℕ} 0 1 = cc in
-      absurd (omega arith))
-      (le_or_lt header_size (length bs))
+      let (enough, same) = some_only (leb header_size (length bs)) (header_in bs) (held_header h) (sym read) in
+      (leb→le header_size (length bs) enough, sym same)
 
-  pub short_only : header_or_none Short ≡ header_read bs → length bs < header_size
+  pub short_only : option_map held_header None ≡ header_read bs → length bs < header_size
   short_only read =
-      ⊎_elim
-      (λ (enough : header_size ≤ length bs).
-      let shown : header_read bs ≡ some (header_in bs) = rw (header_read, le-leb header_size (length bs) enough) in
-      let z : ◌≡◌ {A = ℕ} 0 1 = cc in
-      absurd (omega arith))
-      (λ (few : length bs < header_size). few)
-      (le_or_lt header_size (length bs))
+      leb-false header_size (length bs) (none_only (leb header_size (length bs)) (header_in bs) (sym read))

@@ -1,14 +1,14 @@
 -- The event at the front of some bytes (01, "The file of sections"; "Build, Read": marks never have 2). Laws:
 -- proofs/EventWriteLaws.antt, proofs/EventReadLaws.antt. Assumes nothing.
-use Rattle.std.specs.Prelude.{ℕ, ◌/◌, Bool, true, false, ◌&&◌, ◌||◌, List, eqb, length, take, drop}
+use Rattle.std.specs.Prelude.{ℕ, ◌/◌, Bool, ◌&&◌, ◌||◌, List, eqb, length, take, drop, Option}
+use Rattle.std.specs.Bool.{then_some}
 use Rattle.eit.specs.Fields.{bytes_at}
 use Rattle.eit.specs.Time.{is_start_bytes, is_duration_bytes}
 use Rattle.eit.specs.Chain.{is_chain}
+use Rattle.eit.specs.declared.Record.{Record}
 use Rattle.sections.specs.Section.{event_overhead}
 use Rattle.sections.specs.Decode.{status_field, stated_event_size, event_in}
 use Rattle.sections.specs.Offsets.{record_at}
-use Rattle.codec_section.specs.declared.event.EventRead.{EventRead}
-use Rattle.codec_section.specs.declared.event.EventRead.TheVariants.{Whole, Broken}
 
 -- an event's bytes are all there; start, duration and running_status are in range; its chain is one. What `is_event` of
 -- sections asks besides is the segment (`event_whole`)
@@ -24,9 +24,5 @@ abbrev pub front_event : List ℕ → List ℕ
 front_event bs = take (stated_event_size bs) bs
 
 -- the record of that event, with its chain's offset from the event's first byte
-unfoldable pub event_read : ℕ → List ℕ → EventRead
-event_read base bs =
-    elim (is_whole_event base (front_event bs)) [
-      | true ↦ Whole (record_at 0 (event_in base (front_event bs)))
-      | false ↦ Broken
-    ]
+unfoldable pub event_read : ℕ → List ℕ → Option Record
+event_read base bs = then_some (is_whole_event base (front_event bs)) (record_at 0 (event_in base (front_event bs)))

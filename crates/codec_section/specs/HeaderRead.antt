@@ -1,14 +1,12 @@
 -- A section's header as the code has it, and what reading one returns (01, "The file of sections"). Laws:
 -- proofs/HeaderLaws.antt. Assumes nothing.
-use Rattle.std.specs.Prelude.{true, false, List, ◌++◌, ℕ, leb, length}
-use Rattle.std.proofs.Math.Option.{Option, none, some}
+use Rattle.std.specs.Prelude.{List, ◌++◌, ℕ, leb, length, Option}
+use Rattle.std.specs.Bool.{then_some}
 use Rattle.eit.specs.Fields.{big_endian}
 use Rattle.sections.specs.Section.{Header, header_size}
 use Rattle.sections.specs.Encode.{length_word, version_byte}
 use Rattle.sections.specs.Decode.{header_in}
 use Rattle.codec_section.specs.declared.header.SectionHeader.{SectionHeader}
-use Rattle.codec_section.specs.declared.header.HeaderRead.{HeaderRead}
-use Rattle.codec_section.specs.declared.header.HeaderRead.TheVariants.{Header as Read, Short}
 
 -- the header that the code's fields hold
 abbrev pub held_header : SectionHeader → Header
@@ -41,11 +39,6 @@ rest_bytes h =
     ++ big_endian 1 h.segment_last_section_number
     ++ big_endian 1 h.last_table_id
 
--- the header that was read, or none
-abbrev pub header_or_none : HeaderRead → Option Header
-header_or_none (Read h) = some (held_header h)
-header_or_none Short = none
-
 -- the header at the front of some bytes, if there are enough
 abbrev pub header_read : List ℕ → Option Header
-header_read bs = elim (leb header_size (length bs)) [ true ↦ some (header_in bs) | false ↦ none ]
+header_read bs = then_some (leb header_size (length bs)) (header_in bs)

@@ -7,18 +7,8 @@ ghost use Rattle.eit.specs.Events.{event_with};
 ghost use Rattle.codec_section.specs.EventRead.{event_read};
 
 use codec::{chain, fields};
-use codec_time::TimeRead;
 use eit::Record;
 use eit::limits::EVENT_OVERHEAD;
-
-// What bytes show from an event's first byte on.
-#[derive(Clone, Copy)]
-pub enum EventRead {
-    // An event that keeps the rules, its segment aside; the chain's offset is from the event's first byte.
-    Whole(Record),
-    // Bytes that are truncated, or that break a rule.
-    Broken,
-}
 
 // running_status, 5 for off air, and free_CA, above the 12 bits of a chain length.
 fn status_bits(marks: u32) -> usize
@@ -34,11 +24,7 @@ fn write_chain(out: &mut [u8], at: usize, chain: &[u8])
     if !fields::is_within(out.len(), at, chain.len()) {
         return;
     }
-    let mut i = 0;
-    while i < chain.len() {
-        out[at + i] = chain[i];
-        i += 1;
-    }
+    out[at..at + chain.len()].copy_from_slice(chain);
 }
 
 // The event of a record, with the chain that was chosen for it. A field holds only the bits that it has room for:
@@ -64,34 +50,29 @@ fn is_status(status: u32) -> bool
     status == 0 || status == 5
 }
 
-// The event at the front of the bytes, which go on to the end of the event loop.
-pub fn read_event(bytes: &[u8], base_day: u32) -> EventRead
+// The event at the front of the bytes, which go on to the end of the event loop: one that keeps the rules, its segment
+// aside, with its chain's offset from its first byte. `None` where bytes are truncated or break a rule.
+pub fn read_event(bytes: &[u8], base_day: u32) -> Option<Record>
     ensures { result ≡ event_read base_day bytes.now }
 {
     let word = fields::read_field(bytes, 10, 2);
-    let size = EVENT_OVERHEAD + (word % 0x1000) as usize;
-    if bytes.len() < size {
-        return EventRead::Broken;
-    }
+    let chain_length = word % 0x1000;
+    let chain = bytes.get(EVENT_OVERHEAD..EVENT_OVERHEAD + chain_length as usize)?;
     let status = word / 0x2000;
     if !is_status(status) {
-        return EventRead::Broken;
+        return None;
     }
-    let TimeRead::Seconds(start) = codec_time::read_start(bytes, 2, base_day) else {
-        return EventRead::Broken;
-    };
-    let TimeRead::Seconds(duration) = codec_time::read_duration(bytes, 7) else {
-        return EventRead::Broken;
-    };
-    if !chain::is_chain(&bytes[EVENT_OVERHEAD..size]) {
-        return EventRead::Broken;
+    let start = codec_time::read_start(bytes, 2, base_day)?;
+    let duration = codec_time::read_duration(bytes, 7)?;
+    if !chain::is_chain(chain) {
+        return None;
     }
-    EventRead::Whole(Record {
+    Some(Record {
         id: fields::read_field(bytes, 0, 2),
         start,
         duration,
         marks: word / 0x1000 % 2 + status / 5 * 4,
         offset: EVENT_OVERHEAD as u32,
-        chain_length: word % 0x1000,
+        chain_length,
     })
 }

@@ -1,16 +1,16 @@
 // A section's header as bytes, and back (01, "The file of sections").
-ghost use Rattle.std.specs.Prelude.{◌≡◌, ◌+◌, ◌%◌, ◌≤◌, length};
+ghost use Rattle.std.specs.Prelude.{◌≡◌, ◌+◌, ◌%◌, ◌≤◌, length, option_map};
 ghost use Rattle.eit.specs.Fields.{field};
 ghost use Rattle.sections.specs.Encode.{length_word, header_bytes};
 ghost use Rattle.codec.specs.Write.{write_at};
-ghost use Rattle.codec_section.specs.HeaderRead.{held_header, front_bytes, rest_bytes, header_or_none, header_read};
+ghost use Rattle.codec_section.specs.HeaderRead.{held_header, front_bytes, rest_bytes, header_read};
 
 use codec::fields;
 use eit::Triplet;
 use eit::limits::HEADER_SIZE;
 
 // What stands before a section's events, but for section_length and the fixed bits.
-#[derive(Clone, Copy)]
+#[derive(Clone, Copy, PartialEq, Eq)]
 pub struct SectionHeader {
     pub table_id: u8,
     pub section_number: u8,
@@ -19,14 +19,6 @@ pub struct SectionHeader {
     pub last_table_id: u8,
     pub triplet: Triplet,
     pub version: u8,
-}
-
-// What the front of a section shows.
-#[derive(Clone, Copy)]
-pub enum HeaderRead {
-    Header(SectionHeader),
-    // Fewer bytes than a header has.
-    Short,
 }
 
 // Bits 1111, then section_length: the bytes after this field. Of a size that is out of range, the low 16 bits.
@@ -77,38 +69,33 @@ pub fn write_header(out: &mut [u8], at: usize, size: usize, header: SectionHeade
     write_rest(out, at + 6, header);
 }
 
-// Fields of one and of two bytes.
-fn byte_at(bytes: &[u8], at: usize) -> u8
-    ensures { result ≡ field at 1 bytes.now }
-{
-    fields::read_field(bytes, at, 1) as u8
-}
-
+// A field of two bytes.
 fn word_at(bytes: &[u8], at: usize) -> u16
     ensures { result ≡ field at 2 bytes.now }
 {
     fields::read_field(bytes, at, 2) as u16
 }
 
-// The header at the front of the bytes; section_length and the fixed bits are not looked at.
-pub fn read_header(bytes: &[u8]) -> HeaderRead
-    ensures { header_or_none result ≡ header_read bytes.now }
+// The header at the front of the bytes, if there are as many as a header has; section_length and the fixed bits are not
+// looked at.
+pub fn read_header(bytes: &[u8]) -> Option<SectionHeader>
+    ensures { option_map held_header result ≡ header_read bytes.now }
 {
     if bytes.len() < HEADER_SIZE {
-        return HeaderRead::Short;
+        return None;
     }
     let triplet = Triplet {
         service_id: word_at(bytes, 3),
         transport_stream_id: word_at(bytes, 8),
         original_network_id: word_at(bytes, 10),
     };
-    HeaderRead::Header(SectionHeader {
-        table_id: byte_at(bytes, 0),
-        section_number: byte_at(bytes, 6),
-        last_section_number: byte_at(bytes, 7),
-        segment_last_section_number: byte_at(bytes, 12),
-        last_table_id: byte_at(bytes, 13),
+    Some(SectionHeader {
+        table_id: bytes[0],
+        section_number: bytes[6],
+        last_section_number: bytes[7],
+        segment_last_section_number: bytes[12],
+        last_table_id: bytes[13],
         triplet,
-        version: byte_at(bytes, 5) / 2 % 32,
+        version: bytes[5] / 2 % 32,
     })
 }

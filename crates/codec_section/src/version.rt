@@ -10,23 +10,14 @@ use eit::limits::TABLE_FIRST;
 fn table_number(table_id: u8) -> usize
     ensures { result ≡ table_id - table_first }
 {
-    let table = table_id as usize;
-    if table < TABLE_FIRST {
-        return 0;
-    }
-    table - TABLE_FIRST
+    (table_id as usize).saturating_sub(TABLE_FIRST)
 }
 
 // The version of a table; 0 where there is none for it.
 pub fn version_of(versions: &[u8], table_id: u8) -> u8
     ensures { result ≡ table_version versions.now table_id }
 {
-    let table = table_number(table_id);
-    if table < versions.len() {
-        versions[table]
-    } else {
-        0
-    }
+    versions.get(table_number(table_id)).copied().unwrap_or(0)
 }
 
 // Sets the version of a table, where there is one for it.

@@ -27,13 +27,14 @@ use Rattle.codec_time.specs.TimeRead.{time_at, duration_at, start_at}
 
 -- ---- a test and what it lets through
 
-seconds_only : (b : Bool) (s n : ℕ) → then_some b s ≡ Some n → T b × (s ≡ n)
-seconds_only true s n e = (tt, cc)
-seconds_only false s n e = let z : ◌≡◌ {A = ℕ} 0 1 = cc in absurd (omega arith)
+module _ {A : Type 0} where
+  pub some_only : (b : Bool) (x y : A) → then_some b x ≡ Some y → T b × (x ≡ y)
+  some_only true x y e = (tt, cc)
+  some_only false x y e = cc
 
-broken_only : (b : Bool) (s : ℕ) → then_some b s ≡ None → b ≡ false
-broken_only true s e = let z : ◌≡◌ {A = ℕ} 0 1 = cc in absurd (omega arith)
-broken_only false s e = refl
+  pub none_only : (b : Bool) (x : A) → then_some b x ≡ None → b ≡ false
+  none_only true x e = cc
+  none_only false x e = refl
 
 and_no : (a b c : Bool) → (a && b) ≡ false → (a && (b && c)) ≡ false
 and_no true b c e = rw e
@@ -41,7 +42,7 @@ and_no false b c e = refl
 
 and_second : (a b : Bool) → a ≡ true → (a && b) ≡ false → b ≡ false
 and_second true b e fails = fails
-and_second false b e fails = let z : ◌≡◌ {A = ℕ} 0 1 = cc in absurd (omega arith)
+and_second false b e fails = cc
 
 and_true : (a : Bool) → (a && true) ≡ a
 and_true true = refl
@@ -92,7 +93,7 @@ module _ (at : ℕ) (bs : List ℕ) where
       let fits : Bool = leb (at + 3) (length bs) in
       let time : Bool = is_time duration_hours_max (bytes_at at 3 bs) in
       let least : Bool = leb duration_min (seconds_of (bytes_at at 3 bs)) in
-      rw (and_no fits time least (broken_only (fits && time) (seconds_of (bytes_at at 3 bs)) none))
+      rw (and_no fits time least (none_only (fits && time) (seconds_of (bytes_at at 3 bs)) none))
 
   -- a time of up to 99 hours is a duration if it is in range; it is never too long
   pub duration_time : (n : ℕ) → time_at duration_hours_max at bs ≡ Some n
@@ -101,7 +102,7 @@ module _ (at : ℕ) (bs : List ℕ) where
   duration_time n is =
       let fits : Bool = leb (at + 3) (length bs) in
       let time : Bool = is_time duration_hours_max (bytes_at at 3 bs) in
-      let (passed, same) = seconds_only (fits && time) (seconds_of (bytes_at at 3 bs)) n is in
+      let (passed, same) = some_only (fits && time) (seconds_of (bytes_at at 3 bs)) n is in
       let (room, shown) = and_parts fits time passed in
       let three : length (bytes_at at 3 bs) ≡ 3 = field_length bs at 3 (leb→le (at + 3) (length bs) room) in
       let few : seconds_of (bytes_at at 3 bs) < 100 * 3600 =
@@ -115,14 +116,14 @@ module _ (at : ℕ) (bs : List ℕ) where
   no_duration fits none =
       let test : Bool = is_duration_bytes (bytes_at at 3 bs) in
       and_second (leb (at + 3) (length bs)) test (le-leb (at + 3) (length bs) fits)
-      (broken_only (leb (at + 3) (length bs) && test) (seconds_of (bytes_at at 3 bs)) none)
+      (none_only (leb (at + 3) (length bs) && test) (seconds_of (bytes_at at 3 bs)) none)
 
   pub is_duration : {n : ℕ} → duration_at at bs ≡ Some n
       → T (is_duration_bytes (bytes_at at 3 bs)) × (seconds_of (bytes_at at 3 bs) ≡ n)
   unfolding duration_at
   is_duration {n} found =
       let test : Bool = is_duration_bytes (bytes_at at 3 bs) in
-      let (passed, same) = seconds_only (leb (at + 3) (length bs) && test) (seconds_of (bytes_at at 3 bs)) n found in
+      let (passed, same) = some_only (leb (at + 3) (length bs) && test) (seconds_of (bytes_at at 3 bs)) n found in
       (and_right (leb (at + 3) (length bs)) test passed, same)
 
 -- ---- a start: a day and a time of that day
@@ -158,7 +159,7 @@ module _ (base at : ℕ) (bs : List ℕ) where
     start_no_time none =
         let time : Bool = is_time start_hours_max (bytes_at (at + 2) 3 bs) in
         let fails : time ≡ false =
-        sym (ap (λ (b : Bool). b && time) inside) ∙ broken_only (leb (at + 2 + 3) (length bs) && time) _ none in
+        sym (ap (λ (b : Bool). b && time) inside) ∙ none_only (leb (at + 2 + 3) (length bs) && time) _ none in
         start_parts fits ∙ rw fails
 
     -- a day and a time that were read
@@ -170,7 +171,7 @@ module _ (base at : ℕ) (bs : List ℕ) where
       start_read =
           let time : Bool = is_time start_hours_max (bytes_at (at + 2) 3 bs) in
           let (passed, same) =
-          seconds_only (leb (at + 2 + 3) (length bs) && time) (seconds_of (bytes_at (at + 2) 3 bs)) n is-time in
+          some_only (leb (at + 2 + 3) (length bs) && time) (seconds_of (bytes_at (at + 2) 3 bs)) n is-time in
           let (room, shown) = and_parts (leb (at + 2 + 3) (length bs)) time passed in
           start_parts fits ∙ rw (true_is time shown, same, is-day)
 
@@ -192,12 +193,12 @@ module _ (base at : ℕ) (bs : List ℕ) where
   no_start fits none =
       let test : Bool = is_start_bytes base (bytes_at at 5 bs) in
       and_second (leb (at + 5) (length bs)) test (le-leb (at + 5) (length bs) fits)
-      (broken_only (leb (at + 5) (length bs) && test) (start_of base (bytes_at at 5 bs)) none)
+      (none_only (leb (at + 5) (length bs) && test) (start_of base (bytes_at at 5 bs)) none)
 
   pub is_start : {n : ℕ} → start_at base at bs ≡ Some n
       → T (is_start_bytes base (bytes_at at 5 bs)) × (start_of base (bytes_at at 5 bs) ≡ n)
   unfolding start_at
   is_start {n} found =
       let test : Bool = is_start_bytes base (bytes_at at 5 bs) in
-      let (passed, same) = seconds_only (leb (at + 5) (length bs) && test) (start_of base (bytes_at at 5 bs)) n found in
+      let (passed, same) = some_only (leb (at + 5) (length bs) && test) (start_of base (bytes_at at 5 bs)) n found in
       (and_right (leb (at + 5) (length bs)) test passed, same)
