@@ -5,11 +5,11 @@ use mathlib.Core.Bool.{Bool, true, ◌&&◌}
 use mathlib.Core.Path.{◌≡◌, refl, ap, ◌∙◌}
 use native.Mathlib.Omega.{arith}
 use lib.Dec.{T, eqb, eqb→eq}
+use Rattle.std.specs.Prelude.{Some}
 use Rattle.eit.proofs.Test.{and_left, and_right, and_parts, and_both}
 use Rattle.calendar.specs.Date.{date_within, date_of}
 use Rattle.calendar.specs.Calendar.{next_date, Dates, FollowsOn}
 use Rattle.calendar.specs.declared.Date.{Date}
-use Rattle.calendar.specs.declared.Dated.TheVariants.{On}
 use Rattle.calendar.proofs.DateLaws.{date_inside}
 
 pub dates : Dates
@@ -109,4 +109,4 @@ follows_on mjd least less =
     let followed : T (is_followed mjd) =
     rw place at (followed_at 73_048 15_079 (mjd - 15_079) all_followed (omega arith)) in
     date_inside (mjd + 1) (omega arith) (omega arith)
-    ∙ ap On (same_date (date_within (mjd + 1)) (next_date (date_within mjd)) followed)
+    ∙ ap Some (same_date (date_within (mjd + 1)) (next_date (date_within mjd)) followed)

@@ -1,10 +1,8 @@
 -- The Gregorian calendar, and what `date_of` is worth: some days, and that each day has the date after that of the day
 -- before. Assumes nothing.
-use Rattle.std.specs.Prelude.{ℕ, ◌+◌, ◌-◌, ◌%◌, ◌≤◌, ◌<◌, [], ◌∷◌, Bool, true, false, ◌&&◌, ◌||◌, not, ◌≡◌, eqb, ltb, get_or}
+use Rattle.std.specs.Prelude.{ℕ, ◌+◌, ◌-◌, ◌%◌, ◌≤◌, ◌<◌, [], ◌∷◌, Bool, true, false, ◌&&◌, ◌||◌, not, ◌≡◌, eqb, ltb, get_or, Option, Some, None}
 use Rattle.calendar.specs.Date.{first_day, last_day, date_within, date_of}
 use Rattle.calendar.specs.declared.Date.{Date}
-use Rattle.calendar.specs.declared.Dated.{Dated}
-use Rattle.calendar.specs.declared.Dated.TheVariants.{On, Outside}
 
 -- ---- the calendar
 
@@ -34,12 +32,12 @@ next_date date =
 
 -- each day of the annex's range but the first has the date after that of the day before
 abbrev pub FollowsOn : Type 0
-FollowsOn = (mjd : ℕ) → first_day ≤ mjd → mjd < last_day → date_of (mjd + 1) ≡ On (next_date (date_within mjd))
+FollowsOn = (mjd : ℕ) → first_day ≤ mjd → mjd < last_day → date_of (mjd + 1) ≡ Some (next_date (date_within mjd))
 
 -- ---- some days
 
-abbrev pub on : ℕ → ℕ → ℕ → Dated
-on year month day = On (record { year = year; month = month; day = day })
+abbrev pub on : ℕ → ℕ → ℕ → Option Date
+on year month day = Some (record { year = year; month = month; day = day })
 
 pub record Dates : Type 0 where
   -- the annex's own example, and document 01's day
@@ -48,8 +46,8 @@ pub record Dates : Type 0 where
   -- the limits, and the day before and after
   pub first : date_of 15_079 ≡ on 1900 3 1
   pub last : date_of 88_127 ≡ on 2100 2 28
-  pub before : date_of 15_078 ≡ Outside
-  pub after : date_of 88_128 ≡ Outside
+  pub before : date_of 15_078 ≡ None
+  pub after : date_of 88_128 ≡ None
   -- a leap day, and the turn of a year
   pub leap : date_of 51_603 ≡ on 2000 2 29
   pub leap_next : date_of 51_604 ≡ on 2000 3 1

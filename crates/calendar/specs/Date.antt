@@ -1,9 +1,8 @@
 -- The date of a Modified Julian Date (EN 300 468, annex C): the annex's formulas in whole numbers, each decimal
 -- fraction taken away by a factor. Laws: proofs/DateLaws.antt, proofs/CalendarLaws.antt. Assumes nothing.
-use Rattle.std.specs.Prelude.{ℕ, ◌+◌, ◌-◌, ◌*◌, ◌/◌, Bool, true, false, ◌&&◌, ◌||◌, eqb, leb}
+use Rattle.std.specs.Prelude.{ℕ, ◌+◌, ◌-◌, ◌*◌, ◌/◌, ◌&&◌, ◌||◌, eqb, leb, if◌then◌else◌, Option}
+use Rattle.std.specs.Bool.{then_some}
 use Rattle.calendar.specs.declared.Date.{Date}
-use Rattle.calendar.specs.declared.Dated.{Dated}
-use Rattle.calendar.specs.declared.Dated.TheVariants.{On, Outside}
 
 -- where the formulas hold: from 1900-03-01 to 2100-02-28
 abbrev pub first_day : ℕ
@@ -28,12 +27,9 @@ months_in days = (days * 10_000 - 149_561_000) / 306_001
 abbrev pub day_of : ℕ → ℕ
 day_of days = days - 14_956 - months_in days * 306_001 / 10_000
 
-abbrev pub one_if : Bool → ℕ
-one_if test = elim test [ true ↦ 1 | false ↦ 0 ]
-
 -- K = 1 if M' = 14 or M' = 15, else K = 0
 abbrev pub later_year : ℕ → ℕ
-later_year months = one_if (eqb months 14 || eqb months 15)
+later_year months = if eqb months 14 || eqb months 15 then 1 else 0
 
 -- Y = Y' + K, in years from 1900 on; M = M' − 1 − K × 12
 abbrev pub date_by : ℕ → ℕ → ℕ → ℕ → Date
@@ -46,8 +42,5 @@ date_within mjd =
     date_by (years_in mjd) months (day_of days) (later_year months)
 
 -- the date of a day; outside the range, none
-abbrev pub dated_if : Bool → ℕ → Dated
-dated_if holds mjd = elim holds [ true ↦ On (date_within mjd) | false ↦ Outside ]
-
-unfoldable pub date_of : ℕ → Dated
-date_of mjd = dated_if (leb first_day mjd && leb mjd last_day) mjd
+unfoldable pub date_of : ℕ → Option Date
+date_of mjd = then_some (leb first_day mjd && leb mjd last_day) (date_within mjd)

@@ -4,20 +4,13 @@
 ghost use Rattle.std.specs.Prelude.{◌≡◌, ◌≤◌};
 ghost use Rattle.calendar.specs.Date.{first_day, last_day, date_within, date_of};
 
-#[derive(Clone, Copy)]
+#[derive(Clone, Copy, Debug, PartialEq, Eq)]
 pub struct Date {
     pub year: u32,
     // 1 to 12.
     pub month: u32,
     // 1 to 31.
     pub day: u32,
-}
-
-#[derive(Clone, Copy)]
-pub enum Dated {
-    On(Date),
-    // A day before 1900-03-01 or after 2100-02-28, where the annex does not hold.
-    Outside,
 }
 
 // The annex's first day, 1900-03-01, and its last, 2100-02-28.
@@ -35,7 +28,7 @@ fn date_within(mjd: u32) -> Date
     let days = mjd - years * 1_461 / 4;
     let months = (days * 10_000 - 149_561_000) / 306_001;
     // Months 14 and 15, January and February, are of the year after.
-    let k = months / 14;
+    let k = u32::from(months == 14 || months == 15);
     Date {
         year: 1_900 + years + k,
         month: months - 1 - k * 12,
@@ -43,12 +36,13 @@ fn date_within(mjd: u32) -> Date
     }
 }
 
-// The date of a day, where the annex holds.
-pub fn date_of(mjd: u32) -> Dated
+// The date of a day; `None` before 1900-03-01 and after 2100-02-28, where the annex does not hold.
+#[tactic(auto, unfolding(crate::specs::Date::date_of))]
+pub fn date_of(mjd: u32) -> Option<Date>
     ensures { result ≡ date_of mjd }
 {
     if mjd < FIRST_DAY || LAST_DAY < mjd {
-        return Dated::Outside;
+        return None;
     }
-    Dated::On(date_within(mjd))
+    Some(date_within(mjd))
 }

@@ -1,7 +1,6 @@
 // The lines on standard output.
 ghost use Rattle.std.specs.Prelude.{◌≤◌};
 
-use calendar::Dated;
 use codec::fields;
 use eit::limits::TABLE_SEGMENTS;
 use plan_listing::events;
@@ -143,12 +142,12 @@ pub fn print_date(rt: &impl Print, mjd: u32) -> io::Result<()> {
     print(rt, b"MJD")?;
     print_next(rt, mjd as usize)?;
     match calendar::date_of(mjd) {
-        Dated::On(date) => {
+        Some(date) => {
             print_next(rt, date.year as usize)?;
             print_two(rt, date.month)?;
             print_two(rt, date.day)?;
         }
-        Dated::Outside => print(rt, b" outside")?,
+        None => print(rt, b" outside")?,
     }
     print(rt, b"\n")
 }
