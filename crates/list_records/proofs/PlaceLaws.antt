@@ -40,3 +40,6 @@ module _ (start : ℕ) (list : List ℕ) (count many : ℕ) where
   passed_all i end few so_far =
       place_is (omega arith) (omega arith)
       ∙ sym (so_far ∙ from_end start i starts (omega (arith, starts_are many list)))
+
+-- the search, one record at a time
+pub ruleset passes = (passed_none, passed_later, passed_more, passed_all)

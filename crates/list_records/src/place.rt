@@ -11,24 +11,22 @@ use eit::Place;
 fn records_lent(list: &[u32], count: usize) -> usize
     ensures { result ≡ records_lent (lent_list list.now count) }
 {
-    let held = list.len() / RECORD_SIZE;
-    if count < held { count } else { held }
+    count.min(list.len() / RECORD_SIZE)
 }
 
 // The place before the first record that starts later, and how many records are looked at.
+#[tactic(auto, using(crate::proofs::PlaceLaws::passes))]
 pub fn place_in(list: &[u32], count: usize, start: u32) -> Place
     ensures { result ≡ placing_in start (lent_list list.now count) }
 {
     let many = records_lent(list, count);
-    let mut i = 0;
-    while i < many {
+    for i in 0..many {
         if start < list[i * RECORD_SIZE + 1] {
             return Place {
                 place: i,
                 looked: i + 1,
             };
         }
-        i += 1;
     }
     Place {
         place: many,

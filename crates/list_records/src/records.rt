@@ -12,17 +12,18 @@ pub const RECORD_SIZE: usize = 6;
 fn number_at(list: &[u32], k: usize) -> u32
     ensures { result ≡ get_or list.now k 0 }
 {
-    if k < list.len() { list[k] } else { 0 }
+    list.get(k).copied().unwrap_or(0)
 }
 
 // Record i: six numbers, each 0 where the buffer ends before it.
 pub fn record_at(list: &[u32], i: usize) -> Record
     ensures { result ≡ front_record (drop (i * record_size) list.now) }
 {
-    let mut rest = &list[0..0];
-    if i <= list.len() / RECORD_SIZE {
-        rest = &list[i * RECORD_SIZE..];
-    }
+    let rest = if i <= list.len() / RECORD_SIZE {
+        &list[i * RECORD_SIZE..]
+    } else {
+        &[]
+    };
     Record {
         id: number_at(rest, 0),
         start: number_at(rest, 1),
@@ -34,17 +35,20 @@ pub fn record_at(list: &[u32], i: usize) -> Record
 }
 
 // Writes record i. Where there is no room for it, all stays.
+#[tactic(auto, unfolding(crate::specs::Written::record_written))]
 pub fn write_record(list: &mut [u32], i: usize, event: Record)
     ensures { list.new ≡ record_written list.old i event }
 {
-    if list.len() / RECORD_SIZE <= i {
-        return;
+    if i < list.len() / RECORD_SIZE {
+        let at = i * RECORD_SIZE;
+        let numbers = [
+            event.id,
+            event.start,
+            event.duration,
+            event.marks,
+            event.offset,
+            event.chain_length,
+        ];
+        list[at..at + RECORD_SIZE].copy_from_slice(&numbers);
     }
-    let at = i * RECORD_SIZE;
-    list[at] = event.id;
-    list[at + 1] = event.start;
-    list[at + 2] = event.duration;
-    list[at + 3] = event.marks;
-    list[at + 4] = event.offset;
-    list[at + 5] = event.chain_length;
 }
