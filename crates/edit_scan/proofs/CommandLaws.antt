@@ -10,6 +10,7 @@ use mathlib.Core.List.{List, [], ◌∷◌}
 use Prim.Native.Nat.{ℕ, zero, suc, ◌+◌, ◌-◌, ◌*◌, ◌/◌, ◌%◌, ◌^◌, ◌≤◌, ◌<◌}
 use native.Mathlib.Nat.{zero-add}
 use native.Mathlib.Omega.{arith}
+use Rattle.std.specs.Prelude.{None, Some, Result, Ok, Err}
 use lib.Dec.{T, eqb, ltb, leb, ltb→lt}
 use lib.ListN.{length, get_or, drop, length-drop, drop_of_length-le}
 use lib.Seq.{drop-cons, drop-drop}
@@ -18,10 +19,10 @@ use Rattle.eit.proofs.Test.{and_left, and_right, true_is, false_is, test_or, le_
 use Rattle.script.specs.Form.{Edit, Command, do_edit, undo, is_command, operand_bytes, command_of, is_whole}
 use Rattle.script.specs.Form.{Form, commands, broken, before, form_from, form_of, offset_of}
 use Rattle.script.proofs.Form.{whole_room, form_whole, form_broken, by_code, before_only}
-use Rattle.edit_scan.specs.Commands.{form_found, is_whole_at, whole_from, commands_at}
+use Rattle.edit_scan.specs.Commands.{form_found, is_whole_at, whole_code_at, whole_from, commands_at}
 use Rattle.edit_scan.specs.Places.{is_undo}
-use Rattle.edit_scan.specs.declared.scan.Form as scanned
-use Rattle.edit_scan.specs.declared.scan.Form.TheVariants.{Whole, Broken}
+use Rattle.edit_scan.specs.declared.scan.ScriptError.{ScriptError}
+use Rattle.edit_scan.specs.declared.scan.ScriptError.TheVariants.{Broken}
 
 -- ---- the commands of a script with a form
 
@@ -73,9 +74,9 @@ whole_none : (code at : ℕ) (bs : List ℕ) → T (not (is_whole code bs)) → 
 whole_none code at bs t = rw (whole_from, false_is (is_whole code bs) t)
 
 -- the form of the rest of a script that has n commands in front
-abbrev pub form_after : ℕ → Form → scanned.Form
-form_after n (commands cs) = Whole (n + length cs)
-form_after n (broken at) = Broken at
+abbrev pub form_after : ℕ → Form → Result ℕ ScriptError
+form_after n (commands cs) = Ok (n + length cs)
+form_after n (broken at) = Err (Broken at)
 
 pub after_none : (form : Form) → form_found form ≡ form_after 0 form
 after_none (commands cs) = rw zero-add
@@ -84,7 +85,7 @@ after_none (broken at) = refl
 after_more : (n : ℕ) (c : Command) (form : Form) → form_after n (before c form) ≡ form_after (n + 1) form
 after_more n c (commands cs) =
     let one : n + suc (length cs) ≡ n + 1 + length cs = omega arith in
-    ap Whole one
+    ap Ok one
 after_more n c (broken at) = refl
 
 module _ (at : ℕ) (script : List ℕ) where
@@ -103,25 +104,24 @@ module _ (at : ℕ) (script : List ℕ) where
       rw length-drop at (whole_room (get_or script at 0) (drop (suc at) script) (whole_is whole)) in
       omega (arith, whole_here whole)
 
-  -- what the code's tests say
-  pub whole_beyond : length script ≤ at → is_whole_at at script ≡ false
-  whole_beyond h = rw (le-ltb at (length script) h)
+  -- what the code is told: the byte there, of a whole command
+  pub code_is : (code : ℕ) → Some code ≡ whole_code_at at script → code ≡ get_or script at 0
+  code_is code e =
+      ⊎_elim (λ whole. cc (true_is (is_whole_at at script) whole)) (λ t. cc (false_is (is_whole_at at script) t))
+      (test_or (is_whole_at at script))
 
-  pub whole_unknown : at < length script → is_command (get_or script at 0) ≡ false → is_whole_at at script ≡ false
-  whole_unknown h e = rw (lt-ltb at (length script) h, e)
+  pub whole_holds : (code : ℕ) → Some code ≡ whole_code_at at script → T (is_whole_at at script)
+  whole_holds code e =
+      ⊎_elim (λ whole. whole) (λ t. absurd (cc (false_is (is_whole_at at script) t))) (test_or (is_whole_at at script))
 
-  pub whole_known : at < length script
-      → is_command (get_or script at 0) ≡ true
-      → is_whole_at at script ≡ leb (operand_bytes (get_or script at 0)) (length script - at - 1)
-  whole_known h e =
-      let left : length script - suc at ≡ length script - at - 1 = omega arith in
-      rw (lt-ltb at (length script) h, e, length-drop, left)
+  -- and the offset behind its operands, as the code goes on
+  pub next_is : (code next : ℕ) → Some code ≡ whole_code_at at script → next ≡ at + (1 + operand_bytes code)
+      → next ≡ at + (1 + operand_bytes (get_or script at 0))
+  next_is code next told e = e ∙ ap (λ (k : ℕ). at + (1 + operand_bytes k)) (code_is code told)
 
-  pub whole_holds : (r : Bool) → r ≡ is_whole_at at script → r ≡ true → T (is_whole_at at script)
-  whole_holds r e t = rw (sym e ∙ t) tt
-
-  pub whole_fails : (r : Bool) → r ≡ is_whole_at at script → r ≡ false → T (not (is_whole_at at script))
-  whole_fails r e t = rw (sym e ∙ t) tt
+  pub whole_fails : None ≡ whole_code_at at script → T (not (is_whole_at at script))
+  whole_fails e =
+      ⊎_elim (λ whole. absurd (cc (true_is (is_whole_at at script) whole))) (λ t. t) (test_or (is_whole_at at script))
 
   -- a byte of the script with no whole command at it
   truncated_is : at < length script → T (not (is_whole_at at script))
@@ -176,13 +176,10 @@ module _ (at : ℕ) (script : List ℕ) where
         same,
       )
 
-  pub form_next : (next : ℕ)
-      → next ≡ at + (1 + operand_bytes (get_or script at 0))
-      → T (is_whole_at at script)
-      → (n : ℕ)
+  pub form_next : (code next : ℕ) → Some code ≡ whole_code_at at script → next ≡ at + (1 + operand_bytes code) → (n : ℕ)
       → form_after n (form_from 0 at (drop at script)) ≡ form_after (n + 1) (form_from 0 next (drop next script))
-  form_next next e whole n =
-      ap (form_after n) (form_here next e whole)
+  form_next code next told e n =
+      ap (form_after n) (form_here next (next_is code next told e) (whole_holds code told))
       ∙ after_more n (command_of (get_or script at 0) at (drop (suc at) script)) (form_from 0 next (drop next script))
 
   pub form_stop : at < length script → T (not (is_whole_at at script)) → form_from 0 at (drop at script) ≡ broken at
@@ -208,10 +205,12 @@ module _ (at : ℕ) (script : List ℕ) (whole : T (is_whole_at at script)) wher
       let code : ℕ = get_or script at 0 in
       and_left (is_command code) (leb (operand_bytes code) (length (drop (suc at) script))) (whole_is at script whole)
 
-  pub is_undo_holds : is_undo (command_of (get_or script at 0) at (drop (suc at) script)) ≡ eqb (get_or script at 0) 0x04
-  is_undo_holds =
+  pub is_undo_holds : (code : ℕ) → code ≡ get_or script at 0
+      → is_undo (command_of (get_or script at 0) at (drop (suc at) script)) ≡ eqb code 0x04
+  is_undo_holds code is =
       by_code (λ (k : ℕ). is_undo (command_of k at (drop (suc at) script)) ≡ eqb k 0x04) refl refl refl refl
       (get_or script at 0) known
+      ∙ ap (λ (k : ℕ). eqb k 0x04) (sym is)
 
   pub offset_is : offset_of (command_of (get_or script at 0) at (drop (suc at) script)) ≡ at
   offset_is =
@@ -233,20 +232,3 @@ module _ (at : ℕ) (script : List ℕ) (next : ℕ) (e : next ≡ at + (1 + ope
   commands_undo h =
       commands_next at script next e whole
       ∙ ap (λ (c : Command). c ∷ commands_at next script) (undo_of at (drop (suc at) script) (get_or script at 0) h)
-
--- any other byte than those of the edits
-module _ (code : ℕ) (p : code ≡ 0x01 → ⊥) (w : code ≡ 0x02 → ⊥) (m : code ≡ 0x03 → ⊥) where
-  pub other_operands : operand_bytes code ≡ 0
-  other_operands = rw (operand_bytes, ne_eqb code 0x01 p, ne_eqb code 0x02 w, ne_eqb code 0x03 m)
-
-  pub other_command : (at : ℕ) (bs : List ℕ) → command_of code at bs ≡ undo at
-  other_command at bs = rw (command_of, ne_eqb code 0x01 p, ne_eqb code 0x02 w, ne_eqb code 0x03 m)
-
--- each code's operand bytes, packed in one number of eight bits for each
-pub packed_operands : (code : ℕ) → code ≤ 0x04 → 0x00_06_02_11_00 / 2 ^ (8 * code) % 256 ≡ operand_bytes code
-packed_operands zero h = refl
-packed_operands (suc zero) h = refl
-packed_operands (suc (suc zero)) h = refl
-packed_operands (suc (suc (suc zero))) h = refl
-packed_operands (suc (suc (suc (suc zero)))) h = refl
-packed_operands (suc (suc (suc (suc (suc code))))) h = absurd (omega arith)

@@ -8,12 +8,13 @@ use native.Mathlib.Omega.{arith}
 use lib.Dec.{T, eqb}
 use lib.ListN.{length, get_or, take, drop}
 use lib.Seq.{take-nil}
+use Rattle.std.specs.Prelude.{Some}
 use Rattle.codec.specs.Seen.{is_seen}
 use Rattle.script.specs.Form.{Edit, Command, do_edit, undo, operand_bytes, command_of}
 use Rattle.script.specs.Struck.{unstruck, unstruck_in, strike}
 use Rattle.edit_scan.specs.Places.{is_undo, begins_undo, UndoPlaces, with_place, undos_noted, striking_noted}
-use Rattle.edit_scan.specs.Commands.{is_whole_at, commands_at}
-use Rattle.edit_scan.proofs.CommandLaws.{commands_next, commands_stop, is_undo_holds}
+use Rattle.edit_scan.specs.Commands.{is_whole_at, whole_code_at, commands_at}
+use Rattle.edit_scan.proofs.CommandLaws.{whole_holds, code_is, next_is, commands_next, commands_stop, is_undo_holds}
 use Rattle.edit_scan.proofs.PartLaws.{take_more}
 use Rattle.edit_scan.proofs.PlaceLaws.{place_length, place_same, place_other}
 
@@ -67,16 +68,15 @@ module _ (places : List ℕ) (i k : ℕ) (script : List ℕ) (at : ℕ) where
   pub noted_stop : T (not (is_whole_at at script)) → undos_noted places i (take k (commands_at at script)) ≡ places
   noted_stop t = rw (commands_stop at script t, take-nil) refl
 
-  pub noted_all : k ≡ 0 → undos_noted places i (take k (commands_at at script)) ≡ places
-  noted_all none = rw none refl
-
-  pub noted_next : (next : ℕ) → next ≡ at + (1 + operand_bytes (get_or script at 0)) → T (is_whole_at at script) → 0 < k
+  pub noted_next : (code next : ℕ) → Some code ≡ whole_code_at at script → next ≡ at + (1 + operand_bytes code) → 0 < k
       → undos_noted places i (take k (commands_at at script))
-      ≡ undos_noted (with_place places i (eqb (get_or script at 0) 0x04)) (i + 1) (take (k - 1) (commands_at next script))
-  noted_next next e whole some =
+      ≡ undos_noted (with_place places i (eqb code 0x04)) (i + 1) (take (k - 1) (commands_at next script))
+  noted_next code next told e some =
       let one : suc i ≡ i + 1 = omega arith in
       let c : Command = command_of (get_or script at 0) at (drop (suc at) script) in
-      ap (λ (cs : List Command). undos_noted places i (take k cs)) (commands_next at script next e whole)
+      let whole = whole_holds at script code told in
+      ap (λ (cs : List Command). undos_noted places i (take k cs))
+      (commands_next at script next (next_is at script code next told e) whole)
       ∙ ap (undos_noted places i) (take_more k c (commands_at next script) some)
       ∙ ap₂ (λ (b : Bool) (n : ℕ). undos_noted (with_place places i b) n (take (k - 1) (commands_at next script)))
-      (is_undo_holds at script whole) one
+      (is_undo_holds at script whole code (code_is at script code told)) one

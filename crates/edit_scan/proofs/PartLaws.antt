@@ -8,10 +8,11 @@ use Prim.Native.Nat.{ℕ, zero, suc, ◌+◌, ◌-◌, ◌≤◌, ◌<◌}
 use native.Mathlib.Omega.{arith}
 use lib.Dec.{T}
 use lib.ListN.{length, get_or, drop, take, length-drop}
+use Rattle.std.specs.Prelude.{Some}
 use Rattle.eit.proofs.Test.{true_is, false_is, test_or}
 use Rattle.script.specs.Form.{Command, operand_bytes, is_whole}
-use Rattle.edit_scan.specs.Commands.{is_whole_at, whole_from, commands_at, offset_behind}
-use Rattle.edit_scan.proofs.CommandLaws.{commands_next, commands_stop}
+use Rattle.edit_scan.specs.Commands.{is_whole_at, whole_code_at, whole_from, commands_at, offset_behind}
+use Rattle.edit_scan.proofs.CommandLaws.{whole_holds, next_is, commands_next, commands_stop}
 
 -- ---- how many commands
 
@@ -76,12 +77,13 @@ module _ (script : List ℕ) where
 
   -- ---- one command on, as the code goes
 
-  module _ (at next : ℕ) (e : next ≡ at + (1 + operand_bytes (get_or script at 0))) (whole : T (is_whole_at at script)) where
-    pub count_next : length (commands_at at script) ≡ suc (length (commands_at next script))
-    count_next = ap length (commands_next at script next e whole)
+  pub count_next : (at next : ℕ) → next ≡ at + (1 + operand_bytes (get_or script at 0)) → T (is_whole_at at script)
+      → length (commands_at at script) ≡ suc (length (commands_at next script))
+  count_next at next e whole = ap length (commands_next at script next e whole)
 
-    pub behind_next : (k : ℕ) → 0 < k → offset_behind k at script ≡ offset_behind (k - 1) next script
-    behind_next zero h = absurd (omega arith)
-    behind_next (suc k) h =
-        let less : suc k - 1 ≡ k = omega arith in
-        rw (less, e) (behind_more k at whole)
+  pub behind_next : (at code next : ℕ) → Some code ≡ whole_code_at at script → next ≡ at + (1 + operand_bytes code)
+      → (k : ℕ) → 0 < k → offset_behind k at script ≡ offset_behind (k - 1) next script
+  behind_next at code next told e zero h = absurd (omega arith)
+  behind_next at code next told e (suc k) h =
+      let less : suc k - 1 ≡ k = omega arith in
+      rw (less, next_is at script code next told e) (behind_more k at (whole_holds at script code told))

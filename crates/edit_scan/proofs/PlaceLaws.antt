@@ -33,10 +33,6 @@ module _ (word j : ℕ) where
   held s =
       ⊎_elim (λ h. h) (λ less. absurd (s (ap (λ (n : ℕ). n % 2) (div-eq_of_lt less)))) (le_or_lt (2 ^ j) word)
 
-  pub bit_within : bit_in word j ≤ word
-  bit_within =
-      ⊎_elim (λ z. omega (arith, no_bit z)) (λ s. omega (arith, a_bit s, held s)) (eq_or_not (word / 2 ^ j % 2) 0)
-
   -- the word without the bit: what it is, and how the word comes back
   lacks_none : word / 2 ^ j % 2 ≡ 0 → with_bit word j false ≡ word
   lacks_none z = omega (arith, no_bit z)

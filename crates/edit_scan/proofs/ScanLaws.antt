@@ -5,34 +5,35 @@ use mathlib.Core.List.{List}
 use Prim.Native.Nat.{ℕ}
 use native.Mathlib.Omega.{arith}
 use lib.ListN.{length}
+use Rattle.std.specs.Prelude.{Ok, Err}
 use Rattle.script.specs.Form.{Edit, Command, Form, commands, broken, form_of}
 use Rattle.script.specs.Struck.{Unstruck, unstruck, nothing_at, unstruck_in, live}
 use Rattle.script.proofs.Struck.{struck_live}
 use Rattle.edit_scan.specs.Commands.{strikes_found, scan_found, commands_at}
-use Rattle.edit_scan.specs.declared.scan.Scanned.TheVariants.{Broken, NothingToUndo, Whole}
+use Rattle.edit_scan.specs.declared.scan.ScriptError.TheVariants.{Broken, NothingToUndo}
 use Rattle.edit_scan.proofs.CommandLaws.{commands_are}
 use Rattle.edit_scan.proofs.StrikeLaws.{struck_never}
 
 -- ---- of any form and any UNDOs
 
-struck_nothing : (k at : ℕ) (u : Unstruck) → strikes_found k u ≡ NothingToUndo at → u ≡ nothing_at at
+struck_nothing : (k at : ℕ) (u : Unstruck) → strikes_found k u ≡ Err (NothingToUndo at) → u ≡ nothing_at at
 struck_nothing k at (unstruck es) e = let never : ◌≡◌ {A = ℕ} 0 1 = cc in absurd (omega arith)
 struck_nothing k at (nothing_at there) e = cc
 
-struck_whole : (n k : ℕ) (u : Unstruck) → strikes_found n u ≡ Whole k → (es : List Edit) × (u ≡ unstruck es) × (k ≡ n)
+struck_whole : (n k : ℕ) (u : Unstruck) → strikes_found n u ≡ Ok k → (es : List Edit) × (u ≡ unstruck es) × (k ≡ n)
 struck_whole n k (unstruck es) e = (es, refl, cc)
 struck_whole n k (nothing_at there) e = let never : ◌≡◌ {A = ℕ} 0 1 = cc in absurd (omega arith)
 
-found_broken : (form : Form) (at : ℕ) → scan_found form ≡ Broken at → form ≡ broken at
+found_broken : (form : Form) (at : ℕ) → scan_found form ≡ Err (Broken at) → form ≡ broken at
 found_broken (commands cs) at e = absurd (struck_never (length cs) at (unstruck_in cs) e)
 found_broken (broken there) at e = cc
 
-found_nothing : (form : Form) (at : ℕ) → scan_found form ≡ NothingToUndo at
+found_nothing : (form : Form) (at : ℕ) → scan_found form ≡ Err (NothingToUndo at)
     → (cs : List Command) × (form ≡ commands cs) × (unstruck_in cs ≡ nothing_at at)
 found_nothing (commands cs) at e = (cs, refl, struck_nothing (length cs) at (unstruck_in cs) e)
 found_nothing (broken there) at e = let never : ◌≡◌ {A = ℕ} 0 1 = cc in absurd (omega arith)
 
-found_whole : (form : Form) (k : ℕ) → scan_found form ≡ Whole k
+found_whole : (form : Form) (k : ℕ) → scan_found form ≡ Ok k
     → (cs : List Command) × (form ≡ commands cs) × (es : List Edit) × (unstruck_in cs ≡ unstruck es) × (k ≡ length cs)
 found_whole (commands cs) k e =
     let (es, is, count) = struck_whole (length cs) k (unstruck_in cs) e in
@@ -41,12 +42,12 @@ found_whole (broken at) k e = let never : ◌≡◌ {A = ℕ} 0 1 = cc in absurd
 
 -- ---- 3 over the script
 
-pub scan_broken_is : (script : List ℕ) (at : ℕ) → scan_found (form_of script) ≡ Broken at → form_of script ≡ broken at
+pub scan_broken_is : (script : List ℕ) (at : ℕ) → scan_found (form_of script) ≡ Err (Broken at) → form_of script ≡ broken at
 scan_broken_is script at e = found_broken (form_of script) at e
 
 -- ---- 4 over the script
 
-module _ (script : List ℕ) (at : ℕ) (e : scan_found (form_of script) ≡ NothingToUndo at) where
+module _ (script : List ℕ) (at : ℕ) (e : scan_found (form_of script) ≡ Err (NothingToUndo at)) where
   pub scan_undone_form : form_of script ≡ commands (commands_at 0 script)
   scan_undone_form =
       let (cs, form, _) = found_nothing (form_of script) at e in
@@ -59,7 +60,7 @@ module _ (script : List ℕ) (at : ℕ) (e : scan_found (form_of script) ≡ Not
 
 -- ---- a script of k commands, each UNDO of which has something to strike
 
-module _ (script : List ℕ) (k : ℕ) (e : scan_found (form_of script) ≡ Whole k) where
+module _ (script : List ℕ) (k : ℕ) (e : scan_found (form_of script) ≡ Ok k) where
   pub scan_whole_form : form_of script ≡ commands (commands_at 0 script)
   scan_whole_form =
       let (cs, form, es, struck, count) = found_whole (form_of script) k e in

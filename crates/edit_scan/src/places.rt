@@ -31,12 +31,12 @@ pub fn note_undos(script: &[u8], at: usize, k: usize, places: &mut [u64])
     ensures { places.new ≡ undos_noted places.old 0 (take k (commands_at at script.now)) }
 {
     let mut i = at;
-    let mut place = 0;
-    while place < k && command::is_whole_at(script, i) {
-        let code = script[i];
+    for place in 0..k {
+        let Some(code) = command::code_at(script, i) else {
+            return;
+        };
         i += 1 + command::operand_bytes(code);
         set_place(places, place, code == command::UNDO);
-        place += 1;
     }
 }
 
@@ -46,9 +46,7 @@ pub fn mark_live(places: &mut [u64], k: u32, undos: u32)
     ensures { places.new ≡ live_marked places.old undos k }
 {
     let mut pending = undos as u64;
-    let mut place = k;
-    while 0 < place {
-        place -= 1;
+    for place in (0..k).rev() {
         let undo = seen::is_seen(places, place) as u64;
         let is_live = pending + undo == 0;
         set_place(places, place as usize, is_live);

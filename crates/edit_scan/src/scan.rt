@@ -7,68 +7,57 @@ ghost use Rattle.edit_scan.specs.Places.{striking_noted};
 
 use crate::{command, places};
 
-// The form of a script.
-#[derive(Clone, Copy)]
-pub enum Form {
-    // How many commands it has.
-    Whole(usize),
-    // The offset of the first unknown command or truncated operand.
+// What is wrong with a script, and the offset of the command where it is.
+#[derive(Clone, Copy, Debug, PartialEq, Eq)]
+pub enum ScriptError {
+    // 3: an unknown command or a truncated operand; the first.
     Broken(usize),
-}
-
-// What a pass over a script finds.
-#[derive(Clone, Copy)]
-pub enum Scanned {
-    // 3 and its offset: that of the first unknown command or truncated operand.
-    Broken(usize),
-    // 4 and its offset: that of the first UNDO that has nothing to strike.
+    // 4: an UNDO with nothing to strike; the first.
     NothingToUndo(usize),
-    // How many commands it has.
-    Whole(usize),
 }
 
-// A script is whole if its whole commands reach its end.
-pub fn form_of(script: &[u8]) -> Form
+// How many commands a script has: it is whole if its whole commands reach its end.
+pub fn form_of(script: &[u8]) -> Result<usize, ScriptError>
     ensures { result ≡ form_found (form_of script.now) }
 {
     let mut count: usize = 0;
     let mut at = 0;
-    while command::is_whole_at(script, at) {
+    while let Some(code) = command::code_at(script, at) {
         count += 1;
-        at += 1 + command::operand_bytes(script[at]);
+        at += 1 + command::operand_bytes(code);
     }
     if at < script.len() {
-        return Form::Broken(at);
+        return Err(ScriptError::Broken(at));
     }
-    Form::Whole(count)
+    Ok(count)
 }
 
 // 3 over the script, and else 4 at an UNDO.
-fn unless_broken(script: &[u8], undo_at: usize) -> Scanned
+fn unless_broken(script: &[u8], undo_at: usize) -> ScriptError
     ensures { result ≡ nothing_found undo_at (form_of script.now) }
 {
-    if let Form::Broken(broken_at) = form_of(script) {
-        return Scanned::Broken(broken_at);
+    match form_of(script) {
+        Ok(_) => ScriptError::NothingToUndo(undo_at),
+        Err(broken) => broken,
     }
-    Scanned::NothingToUndo(undo_at)
 }
 
-// Notes for each command whether it is an UNDO, and looks whether each UNDO has something to strike: `kept` counts the
-// edits that are not yet struck, one more for an edit and one less for an UNDO, with no branch between the two that the
-// processor would have to guess. The next offset, for which the next turn waits, comes before the set is written.
-pub fn scan(script: &[u8], places: &mut [u64]) -> Scanned
+// How many commands a script has, if each UNDO has something to strike. Notes for each command whether it is an UNDO:
+// `kept` counts the edits that are not yet struck, one more for an edit and one less for an UNDO, with no branch between
+// the two that the processor would have to guess. The next offset, for which the next turn waits, comes before the set
+// is written.
+pub fn scan(script: &[u8], places: &mut [u64]) -> Result<usize, ScriptError>
     ensures { (result ≡ scan_found (form_of script.now))
         × (places.new ≡ striking_noted 0 places.old 0 (commands_at 0 script.now)) }
 {
     let mut count: usize = 0;
     let mut kept: usize = 0;
     let mut at = 0;
-    while command::is_whole_at(script, at) {
-        let code = script[at];
+    while let Some(code) = command::code_at(script, at) {
         let is_undo = code == command::UNDO;
         let undo = is_undo as usize;
         if kept < undo {
-            return unless_broken(script, at);
+            return Err(unless_broken(script, at));
         }
         kept = kept + 1 - 2 * undo;
         at += 1 + command::operand_bytes(code);
@@ -76,9 +65,9 @@ pub fn scan(script: &[u8], places: &mut [u64]) -> Scanned
         count += 1;
     }
     if at < script.len() {
-        return Scanned::Broken(at);
+        return Err(ScriptError::Broken(at));
     }
-    Scanned::Whole(count)
+    Ok(count)
 }
 
 // The offset behind k whole commands from `at` on, or behind as many as there are.
@@ -86,13 +75,11 @@ pub fn skip_commands(script: &[u8], at: usize, k: usize) -> usize
     ensures { result ≡ offset_behind k at script.now }
 {
     let mut i = at;
-    let mut left = k;
-    while 0 < left {
-        if !command::is_whole_at(script, i) {
+    for _ in 0..k {
+        let Some(code) = command::code_at(script, i) else {
             return i;
-        }
-        i += 1 + command::operand_bytes(script[i]);
-        left -= 1;
+        };
+        i += 1 + command::operand_bytes(code);
     }
     i
 }

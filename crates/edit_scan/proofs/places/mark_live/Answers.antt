@@ -10,7 +10,6 @@ loop-place-preserved c =
     let from = c.loop-place in
     let b = c.is_seen-undo.result in
     record {
-      few = omega arith;
       room = omega (arith, there_few from.pending b);
       marked = from.invariant.marked
           ∙ marked_step from.places from.pending from.place c.loop-place-test.true b c.is_seen-undo.ensures

@@ -6,10 +6,10 @@ use Rattle.edit_scan.specs.Commands.{form_found}
 use Rattle.edit_scan.proofs.CommandLaws.{form_after}
 use Rattle.edit_scan.proofs.scan.form_of.Given as goal
 
-abbrev pub invariant-loop-count : goal.invariant-loop-count
-invariant-loop-count l =
+abbrev pub invariant-loop-code : goal.invariant-loop-code
+invariant-loop-code l =
     (l.count ≤ l.at)
     × (form_found (form_of l.script) ≡ form_after l.count (form_from 0 l.at (drop l.at l.script)))
 
-abbrev pub decreases-loop-count : goal.decreases-loop-count
-decreases-loop-count l = length l.script - l.at
+abbrev pub decreases-loop-code : goal.decreases-loop-code
+decreases-loop-code l = length l.script - l.at
