@@ -26,10 +26,10 @@ pub fn form_of(script: &[u8]) -> Result<usize, ScriptError>
         count += 1;
         at += 1 + command::operand_bytes(code);
     }
-    if at < script.len() {
-        return Err(ScriptError::Broken(at));
+    if script.len() <= at {
+        return Ok(count);
     }
-    Ok(count)
+    Err(ScriptError::Broken(at))
 }
 
 // 3 over the script, and else 4 at an UNDO.

@@ -15,6 +15,6 @@ loop-code-preserved c =
     let next : ℕ = from.at + (1 + c.operand_bytes.result) in (
       omega arith,
       from.invariant.1
-      ∙ form_next from.at c.args.script.now c.in-Some.code next c.in-Some.ensures
-      (ap (λ (n : ℕ). from.at + (1 + n)) c.operand_bytes.ensures) from.count,
+          ∙ form_next from.at c.args.script.now c.in-Some.code next c.in-Some.ensures
+          (ap (λ (n : ℕ). from.at + (1 + n)) c.operand_bytes.ensures) from.count,
     )

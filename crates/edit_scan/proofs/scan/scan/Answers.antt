@@ -29,9 +29,9 @@ returns-then-kept-undo c =
     let told = c.in-Some.ensures in
     let short = c.if-kept-undo.true in (
       ap Err c.unless_broken.ensures
-      ∙ scan_nothing from.kept from.count from.at script c.in-Some.code next told refl short from.invariant.found,
+          ∙ scan_nothing from.kept from.count from.at script c.in-Some.code next told refl short from.invariant.found,
       sym (from.invariant.noted
-      ∙ striking_nothing from.kept from.count from.at script c.in-Some.code next told refl short from.places),
+          ∙ striking_nothing from.kept from.count from.at script c.in-Some.code next told refl short from.places),
     )
 
 pub loop-code-preserved : goal.loop-code-preserved
