@@ -1,22 +1,17 @@
 -- The header of the section before, and that of a section that passes (01, "The file of sections"). Assumes nothing.
-use Rattle.std.specs.Prelude.{Bool, true, false, ◌&&◌, ◌||◌, List, ℕ, eqb, ltb}
+use Rattle.std.specs.Prelude.{Bool, true, false, ◌&&◌, ◌||◌, List, ℕ, eqb, ltb, Some, None}
+use Rattle.std.specs.Prelude.{Option as Kept}
 use Rattle.std.proofs.Math.Option.{Option, none, some}
 use Rattle.sections.specs.Section.{Header, table_version}
 use Rattle.sections.specs.Decode.{header_in}
 use Rattle.sections.specs.HeaderTests.{is_table, has_fixed_bits, is_same_file}
 use Rattle.codec_section.specs.HeaderRead.{held_header}
-use Rattle.read_checks.specs.declared.header.HeaderBefore.{HeaderBefore}
-use Rattle.read_checks.specs.declared.header.HeaderBefore.TheVariants.{Header as Behind, Nothing}
-use Rattle.read_checks.specs.declared.header.HeaderCheck.{HeaderCheck}
-use Rattle.read_checks.specs.declared.header.HeaderCheck.TheVariants.{Header as Passing, Refused}
+use Rattle.codec_section.specs.declared.header.SectionHeader.{SectionHeader}
 
-abbrev pub header_before : HeaderBefore → Option Header
-header_before (Behind h) = some (held_header h)
-header_before Nothing = none
-
-abbrev pub passed_header : HeaderCheck → Option Header
-passed_header (Passing h) = some (held_header h)
-passed_header Refused = none
+-- no section stands before the first one; of a section that does not pass, no header is kept
+abbrev pub header_before : Kept SectionHeader → Option Header
+header_before (Some h) = some (held_header h)
+header_before None = none
 
 -- the section's version is that of its table, or the table has not come: it is past that of the section before
 abbrev pub is_table_version : Option Header → List ℕ → Header → Bool

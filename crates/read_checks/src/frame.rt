@@ -21,13 +21,10 @@ pub fn is_framed(section: &[u8], sizes: Sizes) -> bool
     ensures { result ≡ is_framed sizes section.now }
 {
     let size = section.len();
-    if size != read_walk::stated_size(section) {
-        return false;
-    }
-    if size < SECTION_OVERHEAD || (sizes.section_limit as usize) < size {
-        return false;
-    }
-    is_table(fields::read_field(section, 0, 1))
+    size == read_walk::stated_size(section)
+        && SECTION_OVERHEAD <= size
+        && size <= sizes.section_limit as usize
+        && is_table(fields::read_field(section, 0, 1))
 }
 
 // 21: over the whole section CRC_32 leaves 0, by the lent tables.

@@ -2,30 +2,13 @@
 // W-208).
 ghost use Rattle.std.specs.Prelude.{◌≡◌};
 ghost use Rattle.codec_section.specs.HeaderRead.{held_header};
-ghost use Rattle.sections.specs.HeaderTests.{has_fixed_bits, is_triplet, is_same_file};
-ghost use Rattle.read_checks.specs.HeaderBefore.{header_before, passed_header, is_table_version, checked_header};
+ghost use Rattle.sections.specs.HeaderTests.{has_fixed_bits, is_same_file};
+ghost use Rattle.read_checks.specs.HeaderBefore.{header_before, is_table_version, checked_header};
 
 use crate::frame;
 use codec::fields;
 use codec_section::header::{HeaderRead, SectionHeader};
 use codec_section::{header, version};
-use eit::Triplet;
-
-// The header of the section before.
-#[derive(Clone, Copy)]
-pub enum HeaderBefore {
-    Header(SectionHeader),
-    // No section stands before the first one.
-    Nothing,
-}
-
-// What 22 finds of a section.
-#[derive(Clone, Copy)]
-pub enum HeaderCheck {
-    // It passes, and this is its header.
-    Header(SectionHeader),
-    Refused,
-}
 
 // Bits 1111 before section_length; bits 11 before the version, and current_next 1 behind it.
 fn has_fixed_bits(section: &[u8]) -> bool
@@ -35,57 +18,41 @@ fn has_fixed_bits(section: &[u8]) -> bool
     fields::read_field(section, 1, 2) / 0x1000 == 0xF && version / 64 == 3 && version % 2 == 1
 }
 
-// Whether the triplet that a section shows is this one.
-fn is_triplet(shown: Triplet, triplet: Triplet) -> bool
-    ensures { result ≡ is_triplet triplet shown }
-{
-    shown.service_id == triplet.service_id
-        && shown.transport_stream_id == triplet.transport_stream_id
-        && shown.original_network_id == triplet.original_network_id
-}
-
 // Triplet and last_table_id are those of the section before.
-fn is_same_file(before: HeaderBefore, header: SectionHeader) -> bool
+fn is_same_file(before: Option<SectionHeader>, header: SectionHeader) -> bool
     ensures { result ≡ is_same_file (header_before before) (held_header header) }
 {
-    match before {
-        HeaderBefore::Nothing => true,
-        HeaderBefore::Header(last) => {
-            is_triplet(header.triplet, last.triplet) && header.last_table_id == last.last_table_id
-        }
-    }
+    before.is_none_or(|last| {
+        header.triplet == last.triplet && header.last_table_id == last.last_table_id
+    })
 }
 
 // The version is that of the section's table, if the table has come: tables come one behind the other, so it has come
 // unless it is past that of the section before.
-fn is_table_version(before: HeaderBefore, versions: &[u8], header: SectionHeader) -> bool
+fn is_table_version(before: Option<SectionHeader>, versions: &[u8], header: SectionHeader) -> bool
     ensures { result ≡ is_table_version (header_before before) versions.now (held_header header) }
 {
-    match before {
-        HeaderBefore::Nothing => true,
-        HeaderBefore::Header(last) => {
-            last.table_id < header.table_id
-                || header.version == version::version_of(versions, header.table_id)
-        }
-    }
+    before.is_none_or(|last| {
+        last.table_id < header.table_id
+            || header.version == version::version_of(versions, header.table_id)
+    })
 }
 
 // 22: the header of a section whose fixed bits, identity and last_table_id pass, with the versions of the tables so
 // far.
-pub fn check_header(before: HeaderBefore, versions: &[u8], section: &[u8]) -> HeaderCheck
-    ensures { passed_header result ≡ checked_header (header_before before) versions.now section.now }
+pub fn check_header(
+    before: Option<SectionHeader>,
+    versions: &[u8],
+    section: &[u8],
+) -> Option<SectionHeader>
+    ensures { header_before result ≡ checked_header (header_before before) versions.now section.now }
 {
     let HeaderRead::Header(shown) = header::read_header(section) else {
-        return HeaderCheck::Refused;
+        return None;
     };
-    if !has_fixed_bits(section) || !frame::is_table(shown.last_table_id as u32) {
-        return HeaderCheck::Refused;
-    }
-    if !is_same_file(before, shown) {
-        return HeaderCheck::Refused;
-    }
-    if !is_table_version(before, versions, shown) {
-        return HeaderCheck::Refused;
-    }
-    HeaderCheck::Header(shown)
+    let passes = has_fixed_bits(section)
+        && frame::is_table(shown.last_table_id as u32)
+        && is_same_file(before, shown)
+        && is_table_version(before, versions, shown);
+    passes.then_some(shown)
 }

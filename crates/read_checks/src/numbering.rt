@@ -6,7 +6,6 @@ ghost use Rattle.std.proofs.Math.Option.{some};
 ghost use Rattle.sections.specs.HeaderTests.{is_numbered, is_at, is_next, has_right_numbering};
 ghost use Rattle.read_checks.specs.HeaderBefore.{header_before};
 
-use crate::header::HeaderBefore;
 use codec_section::header::SectionHeader;
 use codec_section::segment::first_of;
 use eit::limits::{SEGMENT_SECTIONS_MAX, TABLE_FIRST};
@@ -59,19 +58,18 @@ fn is_behind(last: SectionHeader, header: SectionHeader) -> bool
 }
 
 // The numbers behind the section before; the first section is section 0 of the first table.
-fn is_next(before: HeaderBefore, header: SectionHeader) -> bool
+fn is_next(before: Option<SectionHeader>, header: SectionHeader) -> bool
     ensures { result ≡ is_next (header_before before) (held_header header) }
 {
     match before {
-        HeaderBefore::Nothing => header.table_id as usize == TABLE_FIRST
-            && header.section_number == 0,
-        HeaderBefore::Header(last) => is_behind(last, header),
+        None => header.table_id as usize == TABLE_FIRST && header.section_number == 0,
+        Some(last) => is_behind(last, header),
     }
 }
 
 // 23: the section's numbers, how they follow those before, and no table past last_table_id.
 #[tactic(auto, unfolding(sections::specs::HeaderTests::has_right_numbering))]
-pub fn has_right_numbering(before: HeaderBefore, header: SectionHeader) -> bool
+pub fn has_right_numbering(before: Option<SectionHeader>, header: SectionHeader) -> bool
     ensures { result ≡ has_right_numbering (header_before before) (held_header header) }
 {
     is_numbered(header) && is_next(before, header) && header.table_id <= header.last_table_id
