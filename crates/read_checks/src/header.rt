@@ -1,13 +1,13 @@
 // A section's header beside those before it: fixed bits, identity, last_table_id (01, "The file of sections"; 02,
 // W-208).
-ghost use Rattle.std.specs.Prelude.{◌≡◌};
+ghost use Rattle.std.specs.Prelude.{◌≡◌, option_map};
 ghost use Rattle.codec_section.specs.HeaderRead.{held_header};
 ghost use Rattle.sections.specs.HeaderTests.{has_fixed_bits, is_same_file};
 ghost use Rattle.read_checks.specs.HeaderBefore.{header_before, is_table_version, checked_header};
 
 use crate::frame;
 use codec::fields;
-use codec_section::header::{HeaderRead, SectionHeader};
+use codec_section::header::SectionHeader;
 use codec_section::{header, version};
 
 // Bits 1111 before section_length; bits 11 before the version, and current_next 1 behind it.
@@ -45,11 +45,9 @@ pub fn check_header(
     versions: &[u8],
     section: &[u8],
 ) -> Option<SectionHeader>
-    ensures { header_before result ≡ checked_header (header_before before) versions.now section.now }
+    ensures { option_map held_header result ≡ checked_header (header_before before) versions.now section.now }
 {
-    let HeaderRead::Header(shown) = header::read_header(section) else {
-        return None;
-    };
+    let shown = header::read_header(section)?;
     let passes = has_fixed_bits(section)
         && frame::is_table(shown.last_table_id as u32)
         && is_same_file(before, shown)

@@ -1,6 +1,5 @@
 -- `is_framed` meets its contract: the table that was read is that of the first byte. Assumes nothing.
 use native.Mathlib.Omega.{arith}
-use Rattle.std.proofs.lemmas.Grind.{common_steps}
 use Rattle.eit.proofs.Fields.{bytes_all}
 use Rattle.sections.specs.HeaderTests.{is_framed}
 use Rattle.codec.proofs.FieldLaws.{field_read}
@@ -11,4 +10,4 @@ unfolding is_framed
 returns-then-size-sizes c =
     let bytes = bytes_all c.args.section.now (λ k. (c.type_inv.section k).fits) in
     let table = (field_read c.args.section.now 0 1 bytes (omega arith) c.read_field.ensures).0 in
-    grind (arith, common_steps, table)
+    rw (is_framed, ← table) (grind arith)
