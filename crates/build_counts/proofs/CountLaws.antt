@@ -93,7 +93,7 @@ module _ (sizes : Sizes) (es : List Event) (rises : T (rising es)) (index : ℕ)
       ∙ ap (λ (ps : List (List Event)). length ps) (parts_are sizes es index)))
       (test_or (is_unpackable sizes es index))
 
-  pub unpackable_is : is_unpackable sizes es index ≡ eqb (section_count sizes es index) 255
+  unpackable_is : is_unpackable sizes es index ≡ eqb (section_count sizes es index) 255
   unpackable_is =
       ⊎_elim
       (λ fails. true_is (is_unpackable sizes es index) fails
@@ -114,7 +114,7 @@ module _ (sizes : Sizes) (es : List Event) (rises : T (rising es)) (index : ℕ)
 -- outside the range there is nothing to count
 module _ (sizes : Sizes) (es : List Event) (rises : T (rising es)) (index : ℕ)
     (outside : T (not (is_inside es index))) where
-  pub outside_packable : T (not (is_unpackable sizes es index))
+  outside_packable : T (not (is_unpackable sizes es index))
   outside_packable =
       ⊎_elim
       (λ fails. absurd
@@ -124,3 +124,14 @@ module _ (sizes : Sizes) (es : List Event) (rises : T (rising es)) (index : ℕ)
 
   pub bytes_outside : segment_bytes sizes es index ≡ 0
   bytes_outside = ap section_sizes (part_outside sizes zero_identity es index outside)
+
+-- a segment's entry in Plan is 255 exactly if it is unpackable
+pub full_is : (sizes : Sizes) (es : List Event) → T (rising es) → (index : ℕ)
+    → is_unpackable sizes es index ≡ eqb (section_count sizes es index) 255
+full_is sizes es rises index =
+    ⊎_elim
+    (λ inside. unpackable_is sizes es rises index inside)
+    (λ outside.
+    false_is (is_unpackable sizes es index) (outside_packable sizes es rises index outside)
+    ∙ sym (ne_eqb _ 255 (λ e. omega (arith, count_outside sizes es index outside))))
+    (test_or (is_inside es index))

@@ -1,6 +1,7 @@
 -- What one section takes, event by event: the next event is taken if it fits in what is left of the room.
 -- Assumes nothing.
 use mathlib.Core.Path.{◌≡◌, refl, sym, ap, ap₂, ◌∙◌}
+use mathlib.Core.Logic.{⊎_elim}
 use mathlib.Core.List.{List, [], ◌∷◌}
 use Prim.Native.Nat.{ℕ, suc, ◌+◌, ◌-◌, ◌*◌, ◌≤◌, ◌<◌}
 use native.Mathlib.Omega.{arith}
@@ -9,6 +10,7 @@ use lib.ListN.{drop}
 use Rattle.eit.specs.Pools.{Pools}
 use Rattle.eit.specs.Records.{record_size, front_record}
 use Rattle.eit.specs.Events.{Event, event_of}
+use Rattle.eit.proofs.Test.{le_or_lt}
 use Rattle.packing.specs.Greedy.{fit}
 use Rattle.sections.specs.Section.{event_size}
 use Rattle.build_counts.specs.Between.{events_between}
@@ -55,12 +57,28 @@ pass_start {pools} {numbers} {from} {end} {room} =
 
 module _ {pools : Pools} {numbers : List ℕ} {from end room to bytes : ℕ}
     (so_far : CutSoFar pools numbers from end room to bytes) where
-  pub pass_end : end ≤ to → record { to = to; bytes = bytes } ≡ cut_of from room (events_between pools numbers from end)
-  pass_end behind =
+  -- the place reached is `end`, or `from` if that is behind it
+  pub pass_end : end ≤ to → (from ≤ end → to ≤ end) → {last : ℕ} → (from ≤ end → last ≡ end) → (end < from → last ≡ from)
+      → record { to = last; bytes = bytes } ≡ cut_of from room (events_between pools numbers from end)
+  pass_end behind within {last} there here =
+      let done : record { to = to; bytes = bytes } ≡ cut_of from room (events_between pools numbers from end) =
       sym
       (so_far.same
       ∙ ap (λ (es : List Event). added bytes (cut_of to (room - bytes) es)) (between_end pools numbers to end behind)
-      ∙ cut_end to (room - bytes) bytes)
+      ∙ cut_end to (room - bytes) bytes) in
+      let same : last ≡ to =
+      ⊎_elim
+      (λ before. omega (arith, there before, within before))
+      (λ past.
+      let none : events_between pools numbers from end ≡ [] = between_end pools numbers from end (omega arith) in
+      omega (
+        arith,
+        here past,
+        ap (λ (c : Cut). c.to) done,
+        ap (λ (es : List Event). fit event_size room es) none,
+      ))
+      (le_or_lt from end) in
+      rw same done
 
   module _ (inside : to < end) (size : ℕ)
       (is-size : size ≡ event_size (event_of pools (front_record (drop (to * record_size) numbers)))) where

@@ -1,5 +1,6 @@
 -- The events that start in a segment, one after the other, and the last event of all. Assumes nothing.
 use mathlib.Core.Path.{◌≡◌, refl, sym, ap, ◌∙◌}
+use mathlib.Core.Logic.{⊎_elim}
 use mathlib.Core.List.{List}
 use Prim.Native.Nat.{ℕ, zero, suc, ◌+◌, ◌-◌, ◌*◌, ◌/◌, ◌%◌, ◌≤◌, ◌<◌}
 use native.Mathlib.Omega.{arith}
@@ -10,6 +11,7 @@ use lib.Seq.{drop-drop}
 use Rattle.eit.specs.Pools.{Pools}
 use Rattle.eit.specs.Records.{record_size, front_record, records_in}
 use Rattle.eit.specs.Events.{events_in}
+use Rattle.eit.proofs.Test.{le_or_lt}
 use Rattle.sections.specs.Segment.{segment_index}
 use Rattle.schedule.specs.Extent.{table_segments, last_index}
 use Rattle.build_counts.specs.Between.{events_between, leading, is_next_inside}
@@ -27,11 +29,22 @@ pub lead_start : (numbers : List ℕ) (from count index : ℕ) → LeadSoFar num
 lead_start numbers from count index = record { same = λ pools. refl }
 
 module _ {numbers : List ℕ} {from count index end : ℕ} (so_far : LeadSoFar numbers from count index end) where
-  pub lead_end : count ≤ end → (pools : Pools) → end ≡ from + leading index (events_between pools numbers from count)
-  lead_end behind pools =
-      let none_left : leading index (events_between pools numbers end count) ≡ 0 =
-      ap (leading index) (between_end pools numbers end count behind) in
-      omega (arith, so_far.same pools)
+  -- the place reached is `count`, or `from` if that is behind it
+  pub lead_end : count ≤ end → (from ≤ count → end ≤ count) → {last : ℕ} → (from ≤ count → last ≡ count)
+      → (count < from → last ≡ from) → (pools : Pools)
+      → last ≡ from + leading index (events_between pools numbers from count)
+  lead_end behind within there here pools =
+      ⊎_elim
+      (λ before.
+      omega (
+        arith,
+        there before,
+        within before,
+        so_far.same pools,
+        ap (leading index) (between_end pools numbers end count behind),
+      ))
+      (λ past. omega (arith, here past, ap (leading index) (between_end pools numbers from count (omega arith))))
+      (le_or_lt from count)
 
   module _ (inside : end < count) (here : ℕ)
       (is-here : here ≡ segment_index (front_record (drop (end * record_size) numbers)).start) where

@@ -1,8 +1,9 @@
 -- The sections of a segment and of all segments, with the bytes that they need (01, "Build, Read"). Laws:
 -- proofs/PackLaws.antt, proofs/CountLaws.antt. Assumes nothing.
-use Rattle.std.specs.Prelude.{ℕ, ◌+◌, true, false, length}
+use Rattle.std.specs.Prelude.{ℕ, ◌+◌, true, false, length, Option, None, Some}
 use mathlib.Core.List.{List, [], ◌∷◌, flatten}
-use Rattle.std.proofs.Math.Option.{Option, none, some}
+use Rattle.std.proofs.Math.Option as maybe
+use Rattle.std.proofs.Math.Option.{none, some}
 use Rattle.eit.specs.Sizes.{section_overhead}
 use Rattle.eit.specs.declared.Sizes.{Sizes}
 use Rattle.eit.specs.Identity.{zero_identity}
@@ -37,22 +38,20 @@ unfoldable pub need_of : Sizes → List Event → ℕ
 unfolding sections_of
 need_of sizes es = section_sizes (sections_of sizes zero_identity es)
 
--- a segment index, 512 for none
-abbrev pub index_or512 : Option ℕ → ℕ
-index_or512 none = 512
-index_or512 (some index) = index
+-- a segment index as the code has it
+abbrev pub index_found : maybe.Option ℕ → Option ℕ
+index_found none = None
+index_found (some index) = Some index
 
--- what Build asks of a list before it writes. Of an unsound list there is Plan alone
-unfoldable pub counted_of : Sizes → Pools → EventList → Counted
+-- what Build asks of a list before it writes: of an unsound one nothing
+unfoldable pub counted_of : Sizes → Pools → EventList → Option Counted
 unfolding plan lowest_unpackable need_of
 counted_of sizes pools list =
-    let counts = flatten (plan sizes pools list) in
     elim (sound sizes pools list) [
-      | false ↦ record { is_sound = false; counts = counts; lowest = 512; need = 0 }
-      | true ↦ record {
-        is_sound = true;
-        counts = counts;
-        lowest = index_or512 (lowest_unpackable sizes (events_of pools list));
+      | false ↦ None
+      | true ↦ Some (record {
+        counts = flatten (plan sizes pools list);
+        lowest = index_found (lowest_unpackable sizes (events_of pools list));
         need = need_of sizes (events_of pools list);
-      }
+      })
     ]

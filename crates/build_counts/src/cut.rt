@@ -30,25 +30,20 @@ pub fn event_size(list: &[u32], i: usize, pools: &Pools<'_>) -> usize
 }
 
 // As many of the events from `from` to `end` as fit in `room` bytes.
-pub fn next_cut(
-    list: &[u32],
-    from: usize,
-    end: usize,
-    pools: &Pools<'_>,
-    room: usize,
-) -> Cut
+pub fn next_cut(list: &[u32], from: usize, end: usize, pools: &Pools<'_>, room: usize) -> Cut
     ensures { result ≡ cut_of from room
         (events_between pools.now list.now from end) }
 {
-    let mut to = from;
     let mut bytes = 0;
-    while to < end {
+    for to in from..end {
         let size = event_size(list, to, pools);
         if room - bytes < size {
             return Cut { to, bytes };
         }
         bytes += size;
-        to += 1;
     }
-    Cut { to, bytes }
+    Cut {
+        to: end.max(from),
+        bytes,
+    }
 }

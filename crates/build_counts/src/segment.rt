@@ -15,8 +15,7 @@ use list_records::records;
 fn segment_of_record(list: &[u32], i: usize) -> usize
     ensures { result ≡ segment_index (front_record (drop (i * record_size) list.now)).start }
 {
-    let r = records::record_at(list, i);
-    segment::segment_index(r.start)
+    segment::segment_index(records::record_at(list, i).start)
 }
 
 // The place behind the events from `from` on that start in the segment. The pools do not matter: only starts are looked
@@ -24,14 +23,12 @@ fn segment_of_record(list: &[u32], i: usize) -> usize
 pub fn end_of(list: &[u32], from: usize, count: usize, index: usize) -> usize
     ensures { (pools : Pools) → result ≡ from + leading index (events_between pools list.now from count) }
 {
-    let mut end = from;
-    while end < count {
+    for end in from..count {
         if segment_of_record(list, end) != index {
             return end;
         }
-        end += 1;
     }
-    end
+    count.max(from)
 }
 
 // Whether the segment is inside the range of its table, the events from `from` on being those that start in it or

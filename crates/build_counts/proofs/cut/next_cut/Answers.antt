@@ -1,5 +1,6 @@
 -- `next_cut` meets its contract: before each turn what is taken so far, with what the rest of the room takes of the
 -- rest, is the cut. Assumes nothing.
+use Rattle.std.proofs.Common.{arith}
 use Rattle.build_counts.proofs.CutLaws.{pass_end, pass_stop, pass_more}
 use Rattle.build_counts.proofs.cut.next_cut.Goals as goal
 
@@ -14,4 +15,4 @@ loop-to-preserved c =
     c.if-room-bytes.false
 
 pub returns : goal.returns
-returns c = pass_end c.loop-to.invariant c.loop-to-test.false
+returns c = pass_end c.loop-to.invariant c.loop-to-test.false (λ before. omega arith) (omega arith) (λ behind. omega arith)

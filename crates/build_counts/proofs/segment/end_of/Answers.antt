@@ -1,4 +1,5 @@
 -- `end_of` meets its contract: so far all events start in the segment. Assumes nothing.
+use Rattle.std.proofs.Common.{arith}
 use Rattle.build_counts.proofs.SegmentLaws.{lead_end, lead_stop, lead_more}
 use Rattle.build_counts.proofs.segment.end_of.Goals as goal
 
@@ -13,4 +14,6 @@ loop-end-preserved c =
     c.if-segment_of_record-index.false
 
 pub returns : goal.returns
-returns c = lead_end c.loop-end.invariant c.loop-end-test.false
+returns c =
+    lead_end c.loop-end.invariant c.loop-end-test.false (λ before. omega arith) (λ before. omega arith)
+    (λ behind. omega arith)
