@@ -9,20 +9,13 @@ const FORBIDDEN_TAG: u8 = 0xFF;
 pub fn is_chain(bytes: &[u8]) -> bool
     ensures { result ≡ is_chain bytes.now }
 {
-    let mut at = 0;
-    while at < bytes.len() {
-        if bytes.len() - at < 2 {
+    let mut rest = bytes;
+    while let [tag, length, ..] = rest {
+        let size = 2 + usize::from(*length);
+        if *tag == FORBIDDEN_TAG || rest.len() < size {
             return false;
         }
-        if bytes[at] == FORBIDDEN_TAG {
-            return false;
-        }
-        let n = bytes[at + 1] as usize;
-        at += 2;
-        if bytes.len() - at < n {
-            return false;
-        }
-        at += n;
+        rest = &rest[size..];
     }
-    true
+    rest.is_empty()
 }

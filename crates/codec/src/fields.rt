@@ -18,15 +18,9 @@ pub fn read_field(bytes: &[u8], at: usize, width: usize) -> u32
         return 0;
     }
     let rest = &bytes[at..];
-    let mut n = rest.len();
-    if width < n {
-        n = width;
-    }
     let mut value: u32 = 0;
-    let mut i = 0;
-    while i < n {
-        value = (value << 8) + rest[i] as u32;
-        i += 1;
+    for byte in &rest[..width.min(rest.len())] {
+        value = (value << 8) + u32::from(*byte);
     }
     value
 }
@@ -39,9 +33,7 @@ pub fn write_field(out: &mut [u8], at: usize, width: usize, value: usize)
         return;
     }
     let mut rest = value;
-    let mut left = width;
-    while 0 < left {
-        left -= 1;
+    for left in (0..width).rev() {
         out[at + left] = (rest % 256) as u8;
         rest /= 256;
     }

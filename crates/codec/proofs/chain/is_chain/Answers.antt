@@ -1,27 +1,27 @@
--- `codec::chain::is_chain` meets its contract: a turn is `chain_goes_on` at the descriptor that begins at `at`, and each
--- way out has its step. Assumes nothing.
-use Rattle.std.proofs.Common.{arith}
-use mathlib.Core.Path.{sym, ◌∙◌}
-use Rattle.codec.proofs.ChainSteps.{chain_end, chain_short, chain_forbidden, chain_runs_out, chain_goes_on}
+-- `codec::chain::is_chain` meets its contract: a turn is `chain_goes_on` at the descriptor that begins the bytes that are
+-- left, and each way out has its step. Assumes nothing.
+use Rattle.std.proofs.Common.{◌+◌, sym, ◌∙◌, ap, arith}
+use Rattle.codec.proofs.ChainSteps.{chain_ends, chain_forbidden, chain_runs_out, chain_goes_on}
+use Rattle.codec.proofs.FieldLaws.{rest_whole}
+use Rattle.eit.specs.Chain.{is_chain}
 use Rattle.codec.proofs.chain.is_chain.Goals as goal
+use Rattle.codec.proofs.chain.is_chain.Goals.{then-tag-via-then-tag, then-tag-via-else-tag+then-rest-size}
 
-pub returns-then-bytes-at-lt2 : goal.returns-then-bytes-at-lt2
-returns-then-bytes-at-lt2 c =
-    sym (c.loop-at.invariant.1 ∙ chain_short _ c.loop-at.at (omega arith) (omega arith))
+pub returns-then-tag : goal.returns-then-tag
+returns-then-tag c =
+    let rest = c.loop-rest.rest.now in
+    let some = c.in-len2-up.len_at_least in
+    sym (c.loop-rest.invariant ∙ elim c.then-tag.branch [
+      | then-tag-via-then-tag w ↦ chain_forbidden rest some w.if-tag.true
+      | then-tag-via-else-tag+then-rest-size w ↦ chain_runs_out rest some (omega (arith, c.from-size.ensures))
+    ])
 
-pub returns-then-bytes-at : goal.returns-then-bytes-at
-returns-then-bytes-at c =
-    sym (c.loop-at.invariant.1 ∙ chain_forbidden _ c.loop-at.at (omega arith) c.if-bytes-at.true)
-
-pub returns-then-bytes-at-2 : goal.returns-then-bytes-at-2
-returns-then-bytes-at-2 c =
-    sym (c.loop-at.invariant.1 ∙ chain_runs_out _ c.loop-at.at (omega arith) (omega arith))
-
-pub loop-at-preserved : goal.loop-at-preserved
-loop-at-preserved c = (
-  omega arith,
-  c.loop-at.invariant.1 ∙ chain_goes_on _ c.loop-at.at (omega arith) c.if-bytes-at.false (omega arith),
-)
+pub loop-rest-preserved : goal.loop-rest-preserved
+loop-rest-preserved c =
+    let rest = c.loop-rest.rest.now in
+    c.loop-rest.invariant
+    ∙ chain_goes_on rest c.in-len2-up.len_at_least c.if-tag.false (omega (arith, c.from-size.ensures))
+    ∙ rw (sym c.from-size.ensures) (ap is_chain (sym (rest_whole rest (2 + c.from-size.result))))
 
 pub returns : goal.returns
-returns c = sym (c.loop-at.invariant.1 ∙ chain_end _ c.loop-at.at (omega arith))
+returns c = c.is_empty.ensures ∙ chain_ends c.loop-rest.rest.now c.in_default.len_below ∙ sym c.loop-rest.invariant

@@ -1,10 +1,10 @@
--- `codec::chain::is_chain`: the bytes are a chain exactly if those from `at` on are. The measure is the bytes left.
-use Rattle.std.proofs.Common.{length, ◌-◌, ◌≡◌, ◌≤◌, drop}
+-- `codec::chain::is_chain`: the bytes are a chain exactly if those that are left are. The measure is their number.
+use Rattle.std.proofs.Common.{◌≡◌, length}
 use Rattle.eit.specs.Chain.{is_chain}
 use Rattle.codec.proofs.chain.is_chain.Given as goal
 
-abbrev pub invariant-loop-at : goal.invariant-loop-at
-invariant-loop-at l = (l.at ≤ length l.bytes) × (is_chain l.bytes ≡ is_chain (drop l.at l.bytes))
+abbrev pub invariant-loop-rest : goal.invariant-loop-rest
+invariant-loop-rest l = is_chain l.bytes ≡ is_chain l.rest
 
-abbrev pub decreases-loop-at : goal.decreases-loop-at
-decreases-loop-at l = length l.bytes - l.at
+abbrev pub decreases-loop-rest : goal.decreases-loop-rest
+decreases-loop-rest l = length l.rest

@@ -3,11 +3,7 @@ use Rattle.std.proofs.Common.{arith}
 use Rattle.codec.proofs.FieldLaws.{read_more}
 use Rattle.codec.proofs.fields.read_field.Goals as goal
 
-pub loop-i-preserved : goal.loop-i-preserved
-loop-i-preserved c =
-    let turn = c.loop-i in (
-      omega arith,
-      turn.invariant.1,
-      turn.invariant.2,
-      read_more _ turn.i turn.value (omega arith) (omega arith) turn.invariant.3,
-    )
+pub loop-byte-preserved : goal.loop-byte-preserved
+loop-byte-preserved c =
+    let turn = c.loop-byte in
+    rw c.from.ensures (read_more _ turn.byte-index turn.value (omega arith) (omega (arith, c.from.ensures)) turn.invariant)

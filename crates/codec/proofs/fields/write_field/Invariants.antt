@@ -11,6 +11,3 @@ invariant-loop-left l =
     × (length l.out ≡ length l.fn.out)
     × (l.out ≡ overwrite l.fn.out (l.at + l.left) (big_endian (l.width - l.left) l.value))
     × (l.rest ≡ l.value / 256 ^ (l.width - l.left))
-
-abbrev pub decreases-loop-left : goal.decreases-loop-left
-decreases-loop-left l = l.left
