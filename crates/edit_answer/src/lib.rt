@@ -3,18 +3,18 @@
 #![tactic(auto)]
 
 ghost use Rattle.std.specs.Prelude.{◌≡◌};
-ghost use Rattle.edit_answer.specs.Outcome.{answer_number, answer_value};
+ghost use Rattle.std.proofs.Common.{rules};
+ghost use Rattle.edit_answer.specs.Outcome.{outcome_value};
 
-#[derive(Clone, Copy)]
-pub enum EditAnswer {
-    // The edits are carried out.
-    Done,
+use edit_scan::scan::ScriptError;
+use refusal::Refusal;
+
+#[derive(Clone, Copy, Debug, PartialEq, Eq)]
+pub enum EditError {
     // 12: the list is unsound.
     Unsound,
-    // 3: an unknown command or a truncated operand.
-    BrokenScript(usize),
-    // 4: an UNDO with nothing to strike.
-    NothingToUndo(usize),
+    // 3 and 4: the script itself.
+    Script(ScriptError),
     // 5: a value out of range.
     OutOfRange(usize),
     // 6: the id is present (PUT), or absent (WITHDRAW, MOVE).
@@ -27,43 +27,57 @@ pub enum EditAnswer {
     Overlap(usize),
 }
 
-// The answer, and the count then held.
-#[derive(Clone, Copy)]
-pub struct Edited {
-    pub answer: EditAnswer,
-    pub count: usize,
-}
+impl From<ScriptError> for EditError {
+    ghost use Rattle.edit_answer.specs.declared.EditError.TheVariants.{Script};
 
-// The papers' number of an answer.
-pub fn number_of(answer: EditAnswer) -> u32
-    ensures { result ≡ answer_number answer }
-{
-    match answer {
-        EditAnswer::Done => 0,
-        EditAnswer::Unsound => 12,
-        EditAnswer::BrokenScript(_) => 3,
-        EditAnswer::NothingToUndo(_) => 4,
-        EditAnswer::OutOfRange(_) => 5,
-        EditAnswer::WrongId(_) => 6,
-        EditAnswer::ListFull(_) => 8,
-        EditAnswer::NoChain(_) => 9,
-        EditAnswer::Overlap(_) => 30,
+    ghost from_gives = { λ error result. result ≡ Script error };
+
+    fn from(error: ScriptError) -> EditError {
+        EditError::Script(error)
     }
 }
 
-// The papers' value of an answer, with the count then held.
-pub fn value_of(answer: EditAnswer, count: usize) -> usize
-    ensures { result ≡ answer_value count answer }
+impl Refusal for EditError {
+    ghost use Rattle.edit_answer.specs.Outcome.{error_number, error_value};
+
+    ghost number_by = { error_number };
+
+    ghost value_by = { error_value };
+
+    fn number(self) -> u32 {
+        match self {
+            EditError::Unsound => 12,
+            EditError::Script(ScriptError::Broken(_)) => 3,
+            EditError::Script(ScriptError::NothingToUndo(_)) => 4,
+            EditError::OutOfRange(_) => 5,
+            EditError::WrongId(_) => 6,
+            EditError::ListFull(_) => 8,
+            EditError::NoChain(_) => 9,
+            EditError::Overlap(_) => 30,
+        }
+    }
+
+    fn value(self) -> usize {
+        match self {
+            EditError::Unsound => 0,
+            EditError::Script(ScriptError::Broken(at) | ScriptError::NothingToUndo(at))
+            | EditError::OutOfRange(at)
+            | EditError::WrongId(at)
+            | EditError::ListFull(at)
+            | EditError::NoChain(at)
+            | EditError::Overlap(at) => at,
+        }
+    }
+
+    ghost never_0 = { Prim.search rules };
+}
+
+// The papers' value of an outcome, with the count then held: on success that count.
+pub fn value_of(outcome: Result<(), EditError>, count: usize) -> usize
+    ensures { result ≡ outcome_value count outcome }
 {
-    match answer {
-        EditAnswer::Done => count,
-        EditAnswer::Unsound => 0,
-        EditAnswer::BrokenScript(at) => at,
-        EditAnswer::NothingToUndo(at) => at,
-        EditAnswer::OutOfRange(at) => at,
-        EditAnswer::WrongId(at) => at,
-        EditAnswer::ListFull(at) => at,
-        EditAnswer::NoChain(at) => at,
-        EditAnswer::Overlap(at) => at,
+    match outcome {
+        Ok(()) => count,
+        Err(error) => error.value(),
     }
 }
