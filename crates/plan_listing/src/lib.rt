@@ -26,11 +26,8 @@ pub fn write_listing(out: &mut [u8], file: &[u8]) -> usize
     ensures { Fills out.old 0 (listing file.now) out.new result }
 {
     let mut to = write_text(out, 0, b"table section events\n");
-    let mut offset = 0;
-    while offset < file.len() {
-        let section = read_walk::read_section(file, offset);
+    for (_, section) in read_walk::sections(file) {
         to = write_line(out, to, section);
-        offset = read_walk::next_offset(file, offset);
     }
     let end = write_text(out, to, b"bytes ");
     write_number(out, end, file.len(), b'\n')

@@ -1,14 +1,16 @@
 // The walk over the sections of a file (01, "Build, Read": "The walk is a reader that carries the borrowed file and an
-// offset"). Who walks keeps the file and an offset, reads the section there through `read_section`, and advances
-// through `next_offset` alone. A loop cannot hold the reader itself, so each of the two makes it anew.
+// offset").
 #![tactic(auto)]
 
 ghost use Rattle.std.specs.Prelude.{◌≡◌};
+ghost use Rattle.std.specs.Iterator.{at_most};
 ghost use Rattle.sections.specs.Decode.{stated_section_size, event_loop};
 ghost use Rattle.read_walk.specs.SectionAt.{section_at, section_end};
+ghost use Rattle.read_walk.specs.Walks.{Walks, bytes_left};
 
 use codec::fields;
-use eit::limits::{CRC_SIZE, HEADER_SIZE};
+
+pub mod events;
 
 // How many bytes the section at the front of the bytes has, by section_length: the bytes after its field.
 pub fn stated_size(bytes: &[u8]) -> usize
@@ -21,16 +23,8 @@ pub fn stated_size(bytes: &[u8]) -> usize
 pub fn section_at(file: &[u8], offset: usize) -> &[u8]
     ensures { result.now ≡ section_at file.now offset }
 {
-    if file.len() <= offset {
-        return &file[0..0];
-    }
-    let rest = &file[offset..];
-    let size = stated_size(rest);
-    if rest.len() < size {
-        rest
-    } else {
-        &rest[..size]
-    }
+    let rest = &file[offset.min(file.len())..];
+    &rest[..stated_size(rest).min(rest.len())]
 }
 
 // The offset behind the section at an offset; where the file has ended, the offset itself.
@@ -40,58 +34,61 @@ pub fn section_end(file: &[u8], offset: usize) -> usize
     offset + section_at(file, offset).len()
 }
 
-// A reader that carries the borrowed file and an offset.
+// A reader that carries the borrowed file and an offset: it gives each section from there on, and where it begins.
 #[derive(Clone, Copy)]
 pub struct SectionReader<'a> {
     pub file: &'a [u8],
     pub offset: usize,
 }
 
+impl<'a> Iterator for SectionReader<'a> {
+    type Item = (usize, &'a [u8]);
+
+    ghost next_gives = { Walks };
+
+    ghost remaining = { λ s. at_most (bytes_left s) };
+
+    fn next(&mut self) -> Option<(usize, &'a [u8])> {
+        let file = self.file;
+        let offset = self.offset;
+        if file.len() <= offset {
+            return None;
+        }
+        self.offset = section_end(file, offset);
+        Some((offset, section_at(file, offset)))
+    }
+}
+
 // A reader at an offset of a file.
-pub fn reader_at<'a>(file: &'a [u8], offset: usize) -> SectionReader<'a>
+pub fn sections_from(file: &[u8], offset: usize) -> SectionReader<'_>
     ensures { (result.file ≡ file.entry) × (result.offset ≡ offset) }
 {
     SectionReader { file, offset }
 }
 
-// The section at the reader's offset.
-pub fn section<'a>(reader: SectionReader<'a>) -> &'a [u8]
-    ensures { result.now ≡ section_at reader.entry.file.now reader.entry.offset }
+// All sections of a file.
+pub fn sections(file: &[u8]) -> SectionReader<'_>
+    ensures { (result.file ≡ file.entry) × (result.offset ≡ 0) }
 {
-    section_at(reader.file, reader.offset)
+    sections_from(file, 0)
 }
 
-// The reader behind its section.
-pub fn behind<'a>(reader: SectionReader<'a>) -> SectionReader<'a>
-    ensures { (result.file ≡ reader.entry.file)
-        × (result.offset ≡ section_end reader.entry.file.now reader.entry.offset) }
-{
-    SectionReader {
-        file: reader.file,
-        offset: section_end(reader.file, reader.offset),
-    }
-}
-
-// The section at an offset of a file, through the reader: the form that 01 names, with plain parameters.
-pub fn read_section<'a>(file: &'a [u8], offset: usize) -> &'a [u8]
+// The section at an offset of a file.
+pub fn read_section(file: &[u8], offset: usize) -> &[u8]
     ensures { result.now ≡ section_at file.now offset }
 {
-    section(reader_at(file, offset))
+    section_at(file, offset)
 }
 
-// The offset of the reader behind the section at an offset of a file: where the walk goes on.
-pub fn next_offset<'a>(file: &'a [u8], offset: usize) -> usize
+// The offset behind the section at an offset of a file: where the walk goes on.
+pub fn next_offset(file: &[u8], offset: usize) -> usize
     ensures { result ≡ section_end file.now offset }
 {
-    behind(reader_at(file, offset)).offset
+    section_end(file, offset)
 }
 
-// The bytes between a section's header and its CRC_32; none where they would be fewer.
 pub fn event_loop(section: &[u8]) -> &[u8]
     ensures { result.now ≡ event_loop section.now }
 {
-    if section.len() < HEADER_SIZE + CRC_SIZE {
-        return &section[0..0];
-    }
-    &section[HEADER_SIZE..section.len() - CRC_SIZE]
+    events::event_loop(section)
 }
