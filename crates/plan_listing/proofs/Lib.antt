@@ -1,7 +1,5 @@
 -- texts written one behind the other are one text written
 pub mod FillLaws
--- the events of a section, counted one by one
-pub mod EventCount
 -- the kit's digits are these
 pub mod DecimalLaws
 -- the lines of a listing, section by section
