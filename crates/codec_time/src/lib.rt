@@ -4,7 +4,7 @@
 
 ghost use Rattle.std.specs.Prelude.{◌≡◌, ◌&&◌, ◌+◌, ◌*◌, ◌<◌};
 ghost use Rattle.eit.specs.Limits.{minutes_max, seconds_max};
-ghost use Rattle.eit.specs.Time.{time_of, to_bcd, time_bytes, start_bytes, duration_bytes, is_bcd, of_bcd, is_bcd_up_to};
+ghost use Rattle.eit.specs.Time.{time_of, to_bcd, time_bytes, start_bytes, duration_bytes, is_bcd, of_bcd, is_bcd_up_to, is_time, seconds_of};
 ghost use Rattle.codec.specs.Write.{write_at};
 ghost use Rattle.codec_time.specs.TimeRead.{time_at, duration_at, start_at};
 
@@ -28,9 +28,8 @@ fn write_time(out: &mut [u8], at: usize, seconds: u32)
         return;
     }
     let time = Time::from_seconds(seconds);
-    out[at] = to_bcd(time.hours);
-    out[at + 1] = to_bcd(time.minutes);
-    out[at + 2] = to_bcd(time.seconds);
+    let digits = [to_bcd(time.hours), to_bcd(time.minutes), to_bcd(time.seconds)];
+    out[at..at + 3].copy_from_slice(&digits);
 }
 
 pub fn write_duration(out: &mut [u8], at: usize, duration: u32)
@@ -76,32 +75,28 @@ fn is_bcd_up_to(most: u8, byte: u8) -> bool
     is_bcd(byte) && of_bcd(byte) <= most
 }
 
-// Whether three bytes are six BCD digits hhmmss with hours of at most `most`.
-fn is_time(most: u8, hours: u8, minutes: u8, seconds: u8) -> bool
-    ensures { result ≡ (is_bcd_up_to most hours && (is_bcd_up_to minutes_max minutes && is_bcd_up_to seconds_max seconds)) }
+// Whether they are six BCD digits hhmmss with hours of at most `most`.
+fn is_time(most: u8, digits: &[u8; 3]) -> bool
+    ensures { result ≡ is_time most digits.now }
 {
-    is_bcd_up_to(most, hours)
-        && (is_bcd_up_to(Time::MINUTES_MAX, minutes) && is_bcd_up_to(Time::SECONDS_MAX, seconds))
+    is_bcd_up_to(most, digits[0])
+        && (is_bcd_up_to(Time::MINUTES_MAX, digits[1]) && is_bcd_up_to(Time::SECONDS_MAX, digits[2]))
 }
 
 // The seconds of six BCD digits hhmmss.
-fn seconds_of(hours: u8, minutes: u8, seconds: u8) -> u32
-    ensures { result ≡ of_bcd hours * 3600 + of_bcd minutes * 60 + of_bcd seconds }
+fn seconds_of(digits: &[u8; 3]) -> u32
+    ensures { result ≡ seconds_of digits.now }
 {
-    of_bcd(hours) as u32 * 3600 + of_bcd(minutes) as u32 * 60 + of_bcd(seconds) as u32
+    of_bcd(digits[0]) as u32 * 3600 + of_bcd(digits[1]) as u32 * 60 + of_bcd(digits[2]) as u32
 }
 
 // The seconds of a time with hours of at most `most`; `None` where bytes are truncated or break a rule of a time.
+#[tactic(auto, unfolding(crate::specs::TimeRead::time_at))]
 fn read_time(bytes: &[u8], at: usize, most: u8) -> Option<u32>
     ensures { result ≡ time_at most at bytes.now }
 {
-    if !fields::is_within(bytes.len(), at, 3) {
-        return None;
-    }
-    let hours = bytes[at];
-    let minutes = bytes[at + 1];
-    let seconds = bytes[at + 2];
-    is_time(most, hours, minutes, seconds).then_some(seconds_of(hours, minutes, seconds))
+    let digits = bytes.get(at..)?.first_chunk()?;
+    is_time(most, digits).then_some(seconds_of(digits))
 }
 
 // The seconds of a duration; `None` also where they are out of range.
