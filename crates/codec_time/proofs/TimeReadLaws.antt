@@ -1,28 +1,26 @@
 -- What the bytes of a time show, by the parts that the code reads one after the other: the three bytes of a time, and
 -- of a start its day before them. Assumes nothing.
-use Prim.Native.Nat.{ℕ, ◌+◌, ◌-◌, ◌*◌, ◌≤◌, ◌<◌}
+use Prim.Native.Nat.{ℕ, ◌+◌, ◌-◌, ◌*◌, ◌%◌, ◌^◌, ◌≤◌, ◌<◌}
 use mathlib.Core.Bool.{Bool, true, false, ◌&&◌}
 use mathlib.Core.List.{List}
-use mathlib.Core.Logic.{⊎_elim}
 use mathlib.Core.Path.{◌≡◌, refl, sym, ap, ◌∙◌}
-use native.Mathlib.Nat.{add-zero}
 use native.Mathlib.Omega.{arith}
 use borrow.Author.Tests.{le-leb, lt-leb, le-ltb, lt-ltb}
 use lib.Dec.{T, leb, ltb, leb→le}
 use lib.ListN.{length, take, drop, get_or}
-use lib.Seq.{get_or-take, get_or-drop, take-take, drop-drop}
+use lib.Seq.{take-take, drop-drop}
 use Rattle.std.specs.Prelude.{Some, None}
 use Rattle.std.specs.Bool.{then_some}
+use Rattle.std.proofs.Common.{Fits, w8}
 use Rattle.eit.specs.Limits.{window_seconds, duration_min, duration_max}
-use Rattle.eit.specs.Limits.{start_hours_max, duration_hours_max, minutes_max, seconds_max}
+use Rattle.eit.specs.Limits.{start_hours_max, duration_hours_max}
 use Rattle.eit.specs.Fields.{bytes_at, field}
-use Rattle.eit.specs.Time.{time_of, seconds_of_day, of_bcd, is_bcd_up_to, is_time, seconds_of, is_duration_bytes, start_of}
+use Rattle.eit.specs.Time.{seconds_of_day, is_time, seconds_of, is_duration_bytes, start_of}
 use Rattle.eit.specs.Time.{is_start_bytes}
-use Rattle.eit.specs.declared.Time.{Time}
-use Rattle.eit.proofs.Fields.{field_length}
-use Rattle.eit.proofs.Test.{true_is, and_right, and_parts, le_or_lt}
-use Rattle.eit.proofs.TimeLaws.{time_within, time_above, time_only}
-use Rattle.codec.proofs.FieldLaws.{drop_take}
+use Rattle.eit.proofs.Fields.{bytes_all, field_length}
+use Rattle.eit.proofs.Test.{true_is, and_right, and_parts}
+use Rattle.eit.proofs.TimeLaws.{time_only}
+use Rattle.codec.proofs.FieldLaws.{drop_take, field_exact}
 use Rattle.codec_time.specs.TimeRead.{time_at, duration_at, start_at}
 
 -- ---- a test and what it lets through
@@ -47,42 +45,6 @@ and_second false b e fails = cc
 and_true : (a : Bool) → (a && true) ≡ a
 and_true true = refl
 and_true false = refl
-
--- ---- three bytes
-
-module _ (most at : ℕ) (bs : List ℕ) where
-  pub time_truncated : length bs < at + 3 → time_at most at bs ≡ None
-  unfolding time_at
-  time_truncated truncated = rw (lt-leb (at + 3) (length bs) truncated)
-
-  byte : (k : ℕ) → k < 3 → get_or (bytes_at at 3 bs) k 0 ≡ get_or bs (at + k) 0
-  byte k low = get_or-take 3 (drop at bs) k 0 low ∙ get_or-drop at bs k 0
-
-  -- where the three bytes are there, their digits decide
-  module _ (fits : at + 3 ≤ length bs) {b : Bool}
-      (test : b ≡ (is_bcd_up_to most (get_or bs at 0)
-      && (is_bcd_up_to minutes_max (get_or bs (at + 1) 0) && is_bcd_up_to seconds_max (get_or bs (at + 2) 0)))) where
-    first : get_or (bytes_at at 3 bs) 0 0 ≡ get_or bs at 0
-    first = byte 0 (omega arith) ∙ ap (λ (k : ℕ). get_or bs k 0) (add-zero at)
-
-    same_test : (leb (at + 3) (length bs) && is_time most (bytes_at at 3 bs)) ≡ b
-    same_test = rw (le-leb (at + 3) (length bs) fits, first, byte 1 (omega arith), byte 2 (omega arith)) (sym test)
-
-    pub time_read : {n : ℕ}
-        → n ≡ of_bcd (get_or bs at 0) * 3600 + of_bcd (get_or bs (at + 1) 0) * 60 + of_bcd (get_or bs (at + 2) 0)
-        → then_some b n ≡ time_at most at bs
-    unfolding time_at
-    time_read {n} is =
-        let same : seconds_of (bytes_at at 3 bs) ≡ n = rw (first, byte 1 (omega arith), byte 2 (omega arith)) (sym is) in
-        rw (same_test, same)
-
--- each part of a time has two digits
-pub time_small : (s : ℕ) (t : Time) → t ≡ time_of s → (t.hours < 100) × (t.minutes < 100) × (t.seconds < 100)
-time_small s t is =
-    ⊎_elim
-    (λ within. rw (is, time_within s within) (omega arith))
-    (λ above. rw (is, time_above s above) (omega arith))
-    (le_or_lt s duration_max)
 
 -- ---- a duration
 
@@ -128,6 +90,10 @@ module _ (at : ℕ) (bs : List ℕ) where
 
 -- ---- a start: a day and a time of that day
 
+-- the day has two bytes
+pub day_exact : (bs : List ℕ) (at : ℕ) → ((k : ℕ) → Fits w8 (get_or bs k 0)) → field at 2 bs % 2 ^ 32 ≡ field at 2 bs
+day_exact bs at all = field_exact bs at 2 (bytes_all bs (λ k. (all k).fits)) (omega arith)
+
 module _ (base at : ℕ) (bs : List ℕ) where
   pub start_truncated : length bs < at + 5 → start_at base at bs ≡ None
   unfolding start_at
@@ -162,30 +128,33 @@ module _ (base at : ℕ) (bs : List ℕ) where
         sym (ap (λ (b : Bool). b && time) inside) ∙ none_only (leb (at + 2 + 3) (length bs) && time) _ none in
         start_parts fits ∙ rw fails
 
-    -- a day and a time that were read
-    module _ {day n : ℕ} (is-day : day ≡ field at 2 bs) (is-time : time_at start_hours_max (at + 2) bs ≡ Some n) where
+    -- a time that was read, behind its day
+    module _ {n : ℕ} (is-time : time_at start_hours_max (at + 2) bs ≡ Some n) where
       start_read : start_at base at bs
-          ≡ then_some (leb base day && ltb ((day - base) * seconds_of_day + n) window_seconds)
-          ((day - base) * seconds_of_day + n)
+          ≡ then_some (leb base (field at 2 bs) && ltb ((field at 2 bs - base) * seconds_of_day + n) window_seconds)
+          ((field at 2 bs - base) * seconds_of_day + n)
       unfolding time_at
       start_read =
           let time : Bool = is_time start_hours_max (bytes_at (at + 2) 3 bs) in
           let (passed, same) =
           some_only (leb (at + 2 + 3) (length bs) && time) (seconds_of (bytes_at (at + 2) 3 bs)) n is-time in
           let (room, shown) = and_parts (leb (at + 2 + 3) (length bs)) time passed in
-          start_parts fits ∙ rw (true_is time shown, same, is-day)
+          start_parts fits ∙ rw (true_is time shown, same)
 
-      pub start_early : day < base → start_at base at bs ≡ None
-      start_early early = start_read ∙ rw (lt-leb base day early)
+      pub start_early : field at 2 bs < base → start_at base at bs ≡ None
+      start_early early = start_read ∙ rw (lt-leb base (field at 2 bs) early)
 
-      pub start_late : base ≤ day → window_seconds ≤ (day - base) * seconds_of_day + n → start_at base at bs ≡ None
+      pub start_late : base ≤ field at 2 bs → window_seconds ≤ (field at 2 bs - base) * seconds_of_day + n
+          → start_at base at bs ≡ None
       start_late later late =
-          start_read ∙ rw (le-leb base day later, le-ltb ((day - base) * seconds_of_day + n) window_seconds late)
+          start_read
+          ∙ rw (le-leb base (field at 2 bs) later, le-ltb ((field at 2 bs - base) * seconds_of_day + n) window_seconds late)
 
-      pub start_shown : base ≤ day → (day - base) * seconds_of_day + n < window_seconds
-          → start_at base at bs ≡ Some ((day - base) * seconds_of_day + n)
+      pub start_shown : base ≤ field at 2 bs → (field at 2 bs - base) * seconds_of_day + n < window_seconds
+          → start_at base at bs ≡ Some ((field at 2 bs - base) * seconds_of_day + n)
       start_shown later soon =
-          start_read ∙ rw (le-leb base day later, lt-ltb ((day - base) * seconds_of_day + n) window_seconds soon)
+          start_read
+          ∙ rw (le-leb base (field at 2 bs) later, lt-ltb ((field at 2 bs - base) * seconds_of_day + n) window_seconds soon)
 
   -- what was found in bytes that are there
   pub no_start : at + 5 ≤ length bs → start_at base at bs ≡ None → is_start_bytes base (bytes_at at 5 bs) ≡ false
@@ -202,3 +171,7 @@ module _ (base at : ℕ) (bs : List ℕ) where
       let test : Bool = is_start_bytes base (bytes_at at 5 bs) in
       let (passed, same) = some_only (leb (at + 5) (length bs) && test) (start_of base (bytes_at at 5 bs)) n found in
       (and_right (leb (at + 5) (length bs)) test passed, same)
+
+pub ruleset duration_laws = (duration_no_time, duration_time)
+
+pub ruleset start_laws = (day_exact, start_truncated, start_no_time, start_early, start_late, start_shown)

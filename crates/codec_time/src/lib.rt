@@ -28,7 +28,11 @@ fn write_time(out: &mut [u8], at: usize, seconds: u32)
         return;
     }
     let time = Time::from_seconds(seconds);
-    let digits = [to_bcd(time.hours), to_bcd(time.minutes), to_bcd(time.seconds)];
+    let digits = [
+        to_bcd(time.hours),
+        to_bcd(time.minutes),
+        to_bcd(time.seconds),
+    ];
     out[at..at + 3].copy_from_slice(&digits);
 }
 
@@ -80,7 +84,8 @@ fn is_time(most: u8, digits: &[u8; 3]) -> bool
     ensures { result ≡ is_time most digits.now }
 {
     is_bcd_up_to(most, digits[0])
-        && (is_bcd_up_to(Time::MINUTES_MAX, digits[1]) && is_bcd_up_to(Time::SECONDS_MAX, digits[2]))
+        && (is_bcd_up_to(Time::MINUTES_MAX, digits[1])
+            && is_bcd_up_to(Time::SECONDS_MAX, digits[2]))
 }
 
 // The seconds of six BCD digits hhmmss.
@@ -100,6 +105,7 @@ fn read_time(bytes: &[u8], at: usize, most: u8) -> Option<u32>
 }
 
 // The seconds of a duration; `None` also where they are out of range.
+#[tactic(auto, using(crate::proofs::TimeReadLaws::duration_laws))]
 pub fn read_duration(bytes: &[u8], at: usize) -> Option<u32>
     ensures { result ≡ duration_at at bytes.now }
 {
@@ -109,6 +115,7 @@ pub fn read_duration(bytes: &[u8], at: usize) -> Option<u32>
 
 // The seconds of a start, counted from midnight of the base day; `None` also where they are out of range. Before they
 // are tested, they may pass 32 bits.
+#[tactic(auto, using(crate::proofs::TimeReadLaws::start_laws))]
 pub fn read_start(bytes: &[u8], at: usize, base_day: u32) -> Option<u32>
     ensures { result ≡ start_at base_day at bytes.now }
 {
