@@ -2,20 +2,20 @@
 -- it was. Then zeros, one by one. Assumes nothing.
 use mathlib.Core.Path.{◌≡◌, refl, sym, ap, ◌∙◌}
 use mathlib.Core.List.{List, [], ◌∷◌, ◌++◌, append_assoc, append-nil}
-use Prim.Native.Nat.{ℕ, suc, ◌+◌, ◌-◌, ◌*◌, ◌≤◌, ◌<◌}
+use Prim.Native.Nat.{ℕ, suc, ◌+◌, ◌*◌, ◌≤◌, ◌<◌}
 use native.Mathlib.Omega.{arith}
-use lib.ListN.{length, drop, set, replicate, length-append, replicate-append-replicate}
+use lib.ListN.{length, drop, length-append}
 use Rattle.eit.specs.Time.{seconds_of_day}
 use Rattle.eit.specs.Overwrite.{overwrite}
 use Rattle.eit.specs.Records.{record_size, front_record, records_in, numbers_of, numbers_of_all}
 use Rattle.eit.specs.declared.Record.{Record}
-use Rattle.eit.proofs.Overwrite.{over_nothing, over_length, over_after, over_one}
+use Rattle.eit.proofs.Overwrite.{over_nothing, over_length, over_after}
 use Rattle.eit.proofs.Records.{numbers_length, numbers_append}
 use Rattle.list_records.specs.Written.{record_written}
 use Rattle.list_records.proofs.WriteLaws.{over_behind, written_is}
 use Rattle.list_records.proofs.RestLaws.{records_from_holds, records_end}
 use Rattle.window.specs.Roll.{earlier_by, next_day}
-use Rattle.window.proofs.Records.{counted_stays, counted_leaves, zeros_length}
+use Rattle.window.proofs.Records.{counted_stays, counted_leaves}
 
 -- ---- the records
 
@@ -133,50 +133,5 @@ module _ {d : List ℕ} {count : ℕ} {out : List ℕ} {kept i : ℕ} (so_far : 
       so_far.written ∙ ap (λ (rs : List Record). overwrite d 0 (numbers_of_all rs)) done_all,
     )
 
--- ---- zeros
-
--- before a turn: zeros from `from` up to k
-pub record ClearSoFar (d : List ℕ) (from to : ℕ) (out : List ℕ) (k : ℕ) : Type 0 where
-  pub written : out ≡ overwrite d from (replicate (k - from) 0)
-  pub least : from ≤ k
-  pub most : k ≤ to
-  pub held : to ≤ length d
-
-pub clear_start : (d : List ℕ) (from to : ℕ) → from ≤ to → to ≤ length d → ClearSoFar d from to d from
-clear_start d from to order held =
-    let none : from - from ≡ 0 = omega arith in
-    record {
-      written = sym (ap (λ (n : ℕ). overwrite d from (replicate n 0)) none ∙ over_nothing d from);
-      least = omega arith;
-      most = order;
-      held = held;
-    }
-
-module _ {d : List ℕ} {from to : ℕ} {out : List ℕ} {k : ℕ} (so_far : ClearSoFar d from to out k) where
-  pub clear_length : length out ≡ length d
-  clear_length =
-      ap length so_far.written
-      ∙ over_length d from (replicate (k - from) 0)
-      (omega (arith, zeros_length (k - from), so_far.least, so_far.most, so_far.held))
-
-  pub clear_more : k < to → ClearSoFar d from to (set out k 0) (k + 1)
-  clear_more here =
-      let zeros : List ℕ = replicate (k - from) 0 in
-      let seam : from + length zeros ≡ k = omega (arith, zeros_length (k - from), so_far.least) in
-      let more : k - from + 1 ≡ k + 1 - from = omega (arith, so_far.least) in
-      record {
-        written =
-            over_one out k 0 (omega (arith, clear_length, so_far.held))
-            ∙ ap (λ (ns : List ℕ). overwrite ns k (0 ∷ [])) so_far.written
-            ∙ over_behind d from zeros (omega (arith, so_far.least, so_far.held)) k (0 ∷ []) seam
-            ∙ ap (overwrite d from)
-            (replicate-append-replicate {A = ℕ} (k - from) 1 0 ∙ ap (λ (n : ℕ). replicate n 0) more);
-        least = omega (arith, so_far.least);
-        most = omega arith;
-        held = so_far.held;
-      }
-
-  pub clear_end : to ≤ k → out ≡ overwrite d from (replicate (to - from) 0)
-  clear_end end =
-      let last : k ≡ to = omega (arith, so_far.most) in
-      so_far.written ∙ ap (λ (n : ℕ). overwrite d from (replicate (n - from) 0)) last
+-- the pass over the records
+pub ruleset keeping = (kept_start, kept_stays, kept_leaves)

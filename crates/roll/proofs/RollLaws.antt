@@ -19,8 +19,8 @@ use Rattle.list_records.proofs.WriteLaws.{over_behind}
 use Rattle.window.specs.Roll.{next_day, roll}
 use Rattle.window.proofs.Records.{counted_length}
 use Rattle.window.proofs.Roll.{roll_sound}
+use Rattle.std.specs.Prelude.{Ok}
 use Rattle.roll.specs.Outcome.{outcome_of}
-use Rattle.roll.specs.declared.RollAnswer.TheVariants.{Done}
 
 next_length : (rs : List Record) → length (next_day rs) ≤ length rs
 unfolding next_day
@@ -45,7 +45,7 @@ module _ (sizes : Sizes) (pools : Pools) (d : List ℕ) (count base : ℕ) (is :
       pub rolled : base < base_day_max → {moved out : List ℕ} → moved ≡ overwrite d 0 (numbers_of_all stay)
           → out ≡ overwrite moved (kept * record_size) (replicate (count * record_size - kept * record_size) 0)
           → roll sizes pools (lent_list d count) base
-          ≡ outcome_of (record { answer = Done; count = kept; base_day = base + 1 }) out
+          ≡ outcome_of count base (Ok (record { count = kept; base_day = base + 1 })) out
       unfolding next_day records_of
       rolled day {moved} {out} first second =
           let size : length (numbers_of_all stay) ≡ kept * record_size =

@@ -1,28 +1,29 @@
--- 02's number and value for each case of a roll's answer (W-205). Assumes nothing.
-use Rattle.std.specs.Prelude.{ℕ, List}
+-- 02's number and value of a roll's refusals, and its outcome as the definition has it (W-205). Assumes nothing.
+use Rattle.std.specs.Prelude.{ℕ, List, Result, Ok, Err}
 use Rattle.eit.specs.Records.{lent_list}
 use Rattle.window.specs.Roll as model
-use Rattle.roll.specs.declared.RollAnswer.{RollAnswer}
-use Rattle.roll.specs.declared.RollAnswer.TheVariants.{Done, LastBaseDay, Unsound}
+use Rattle.roll.specs.declared.RollError.{RollError}
+use Rattle.roll.specs.declared.RollError.TheVariants.{LastBaseDay, Unsound}
 use Rattle.roll.specs.declared.Rolled.{Rolled}
 
-abbrev pub answer_number : RollAnswer → ℕ
-answer_number Done = 0
-answer_number LastBaseDay = 31
-answer_number Unsound = 12
+abbrev pub error_number : RollError → ℕ
+error_number LastBaseDay = 31
+error_number Unsound = 12
 
--- what is returned: on success the new count, of a refusal 0
-abbrev pub answer_value : ℕ → RollAnswer → ℕ
-answer_value count Done = count
-answer_value count LastBaseDay = 0
-answer_value count Unsound = 0
+-- a refusal returns none
+abbrev pub error_value : RollError → ℕ
+error_value LastBaseDay = 0
+error_value Unsound = 0
 
--- the answer, the list and the base day as the definition of a roll has them
-abbrev pub outcome_of : Rolled → List ℕ → model.Rolled
-outcome_of r buffer =
+-- the outcome, the list and the base day as the definition of a roll has them: success returns the new count, and a
+-- refusal leaves the count and the base day that were given
+abbrev pub outcome_of : ℕ → ℕ → Result Rolled RollError → List ℕ → model.Rolled
+outcome_of count base (Ok rolled) buffer =
+    record { number = 0; value = rolled.count; list = lent_list buffer rolled.count; base = rolled.base_day }
+outcome_of count base (Err refused) buffer =
     record {
-      number = answer_number r.answer;
-      value = answer_value r.count r.answer;
-      list = lent_list buffer r.count;
-      base = r.base_day;
+      number = error_number refused;
+      value = error_value refused;
+      list = lent_list buffer count;
+      base = base;
     }

@@ -1,5 +1,5 @@
-// The records of the next base day, at the front of the lent buffer, and zeros in place of those that left (02, W-205).
-ghost use Rattle.std.specs.Prelude.{◌≡◌, ◌-◌, ◌*◌, ◌≤◌, length, replicate};
+// The records of the next base day, at the front of the lent buffer (02, W-205).
+ghost use Rattle.std.specs.Prelude.{◌≡◌, ◌*◌, ◌≤◌, length};
 ghost use Rattle.eit.specs.Overwrite.{overwrite};
 ghost use Rattle.eit.specs.Records.{record_size, records_in, numbers_of_all};
 ghost use Rattle.window.specs.Roll.{next_day};
@@ -10,7 +10,7 @@ use list_records::records;
 
 // Moves the records that do not start on the first day to the front, each a day earlier, and returns how many they are.
 // A record goes to its own place or to one that was looked at before, so none is lost.
-#[tactic(auto, using(crate::proofs::KeepLaws::kept_stays, crate::proofs::KeepLaws::kept_leaves))]
+#[tactic(auto, using(crate::proofs::KeepLaws::keeping))]
 pub fn keep_later(list: &mut [u32], count: usize) -> usize
     requires { count * record_size ≤ length list.old }
     ensures { (result ≡ length (next_day (records_in count list.old)))
@@ -18,34 +18,16 @@ pub fn keep_later(list: &mut [u32], count: usize) -> usize
         ≡ overwrite list.old 0 (numbers_of_all (next_day (records_in count list.old)))) }
 {
     let mut kept = 0;
-    let mut i = 0;
-    while i < count {
+    for i in 0..count {
         let event = records::record_at(list, i);
         if SECONDS_OF_DAY <= event.start {
             let moved = Record {
-                id: event.id,
                 start: event.start - SECONDS_OF_DAY,
-                duration: event.duration,
-                marks: event.marks,
-                offset: event.offset,
-                chain_length: event.chain_length,
+                ..event
             };
             records::write_record(list, kept, moved);
             kept += 1;
         }
-        i += 1;
     }
     kept
-}
-
-// Zeros from one number of the buffer up to another.
-pub fn clear(list: &mut [u32], from: usize, to: usize)
-    requires { (from ≤ to) × (to ≤ length list.old) }
-    ensures { list.new ≡ overwrite list.old from (replicate (to - from) 0) }
-{
-    let mut k = from;
-    while k < to {
-        list[k] = 0;
-        k += 1;
-    }
 }
