@@ -12,11 +12,7 @@ pub fn tables_of(counts: &[u8; SEGMENTS]) -> [[u8; TABLE_SEGMENTS]; TABLES]
     ensures { result ≡ tabled (λ (index : ℕ). get_or counts.now index 0) }
 {
     let mut tables = [[0u8; TABLE_SEGMENTS]; TABLES];
-    let mut index = 0;
-    while index < SEGMENTS {
-        tables[index / TABLE_SEGMENTS][index % TABLE_SEGMENTS] = counts[index];
-        index += 1;
-    }
+    tables.copy_from_slice(counts.as_chunks().0);
     tables
 }
 
@@ -25,10 +21,6 @@ pub fn flat_of(tables: [[u8; TABLE_SEGMENTS]; TABLES]) -> [u8; SEGMENTS]
     ensures { result ≡ flatten tables }
 {
     let mut counts = [0u8; SEGMENTS];
-    let mut index = 0;
-    while index < SEGMENTS {
-        counts[index] = tables[index / TABLE_SEGMENTS][index % TABLE_SEGMENTS];
-        index += 1;
-    }
+    counts.copy_from_slice(tables.as_flattened());
     counts
 }
