@@ -7,9 +7,10 @@ use Prim.Native.Nat.{ℕ, suc, ◌+◌, ◌-◌, ◌≤◌, ◌<◌}
 use native.Mathlib.Omega.{arith}
 use borrow.Author.Tests.{le-leb, lt-leb}
 use lib.Dec.{leb, eqb}
-use lib.ListN.{length, drop, get_or}
+use lib.ListN.{length, take, drop, get_or}
 use Rattle.eit.specs.Chain.{forbidden_tag, is_allowed_tag, is_chain}
 use Rattle.eit.proofs.Test.{true_is}
+use Rattle.codec.proofs.FieldLaws.{rest_whole}
 use Rattle.eit.proofs.Chain.{allowed_tag, chain_none, chain_one, chain_more}
 
 -- nothing is left, or one byte
@@ -42,9 +43,10 @@ module _ (rest : List ℕ) (some : 2 ≤ length rest) where
       descriptor_first rest some ∙ rw (lt-leb _ _ behind) (and-false (is_allowed_tag (get_or rest 0 0)))
 
   -- its tag is allowed, its bytes are there, and the chain goes on behind them
-  pub chain_goes_on : (get_or rest 0 0 ≡ forbidden_tag → ⊥) → 2 + get_or rest 1 0 ≤ length rest
-      → is_chain rest ≡ is_chain (drop (2 + get_or rest 1 0) rest)
-  chain_goes_on other fits =
+  pub chain_goes_on : {size : ℕ} → (get_or rest 0 0 ≡ forbidden_tag → ⊥) → size ≡ 2 + get_or rest 1 0 → size ≤ length rest
+      → is_chain rest ≡ is_chain (take (length rest - size) (drop size rest))
+  chain_goes_on {size} other is fits =
       let tag = get_or rest 0 0 in
       let behind : get_or rest 1 0 ≤ length rest - 2 = omega arith in
-      descriptor_first rest some ∙ rw (true_is (is_allowed_tag tag) ((allowed_tag tag).1 other), le-leb _ _ behind)
+      descriptor_first rest some
+      ∙ rw (true_is (is_allowed_tag tag) ((allowed_tag tag).1 other), le-leb _ _ behind, rest_whole rest size, is)
