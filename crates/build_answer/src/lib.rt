@@ -1,13 +1,12 @@
-// What Build says: a case for each cause of 01's table ("When a call says no").
+// What Build refuses: a case for each cause of 01's table ("When a call says no").
 #![tactic(auto)]
 
-ghost use Rattle.std.specs.Prelude.{◌≡◌};
-ghost use Rattle.build_answer.specs.Outcome.{answer_number, answer_value};
+ghost use Rattle.std.proofs.Common.{rules};
 
-#[derive(Clone, Copy)]
-pub enum BuildAnswer {
-    // The file is written; its length.
-    Done(usize),
+use refusal::Refusal;
+
+#[derive(Clone, Copy, Debug, PartialEq, Eq)]
+pub enum BuildError {
     // 1: the base day is above 65,472.
     BaseDay,
     // 2: a version is above 31.
@@ -20,30 +19,30 @@ pub enum BuildAnswer {
     OutputShort(usize),
 }
 
-// 01's number of an answer.
-pub fn number_of(answer: BuildAnswer) -> u32
-    ensures { result ≡ answer_number answer }
-{
-    match answer {
-        BuildAnswer::Done(_) => 0,
-        BuildAnswer::BaseDay => 1,
-        BuildAnswer::Version => 2,
-        BuildAnswer::Unsound => 12,
-        BuildAnswer::Unpackable(_) => 10,
-        BuildAnswer::OutputShort(_) => 11,
-    }
-}
+impl Refusal for BuildError {
+    ghost use Rattle.build_answer.specs.Outcome.{error_number, error_value};
 
-// 01's value of an answer.
-pub fn value_of(answer: BuildAnswer) -> usize
-    ensures { result ≡ answer_value answer }
-{
-    match answer {
-        BuildAnswer::Done(size) => size,
-        BuildAnswer::BaseDay => 0,
-        BuildAnswer::Version => 0,
-        BuildAnswer::Unsound => 0,
-        BuildAnswer::Unpackable(index) => index,
-        BuildAnswer::OutputShort(need) => need,
+    ghost number_by = { error_number };
+
+    ghost value_by = { error_value };
+
+    fn number(self) -> u32 {
+        match self {
+            BuildError::BaseDay => 1,
+            BuildError::Version => 2,
+            BuildError::Unsound => 12,
+            BuildError::Unpackable(_) => 10,
+            BuildError::OutputShort(_) => 11,
+        }
     }
+
+    fn value(self) -> usize {
+        match self {
+            BuildError::BaseDay | BuildError::Version | BuildError::Unsound => 0,
+            BuildError::Unpackable(index) => index,
+            BuildError::OutputShort(need) => need,
+        }
+    }
+
+    ghost never_0 = { Prim.search rules };
 }
