@@ -1,16 +1,17 @@
--- Texts written one behind the other, each as far as there is room, are one text written so: what is left to write
--- shrinks with each. Assumes nothing.
+-- Texts written one behind the other, each as far as there is room, are one text written so. Assumes nothing.
 use Prim.Native.Nat.{ℕ, zero, suc, ◌+◌, ◌-◌, ◌≤◌, ◌<◌}
 use mathlib.Core.List.{List, [], ◌∷◌, ◌++◌}
 use mathlib.Core.Logic.{⊎_elim}
-use mathlib.Core.Path.{◌≡◌, refl, sym, ap, ap₂, ◌∙◌}
+use mathlib.Core.Path.{◌≡◌, sym, ap, ap₂, subst, ◌∙◌}
 use native.Mathlib.Omega.{arith}
-use lib.ListN.{length, take, set, length-append, length-take}
-use lib.Seq.{take-nil, take_all}
+use lib.ListN.{length, take, length-append, length-take}
+use lib.Seq.{take_all}
 use Rattle.eit.specs.Overwrite.{overwrite}
 use Rattle.eit.proofs.Test.{le_or_lt}
-use Rattle.eit.proofs.Overwrite.{over_nothing, over_length, over_one, over_over}
+use Rattle.eit.proofs.Overwrite.{over_nothing, over_length, over_over}
 use Rattle.plan_listing.specs.Fill.{fitting, filled, filled_to, Fills}
+use Rattle.plan_listing.specs.Writes.{Writes}
+use Rattle.plan_listing.specs.declared.text.Writer.{Writer}
 
 take_append : (n : ℕ) (xs ys : List ℕ) → take n (xs ++ ys) ≡ take n xs ++ take (n - length xs) ys
 take_append zero xs ys = let nothing : 0 - length xs ≡ 0 = omega arith in rw nothing
@@ -44,12 +45,6 @@ filled_whole d at text fits =
     let whole : fitting d at text ≡ text = take_all (length d - at) text (omega arith) in
     (ap (overwrite d at) (sym whole), omega (arith, ap length whole))
 
--- one byte
-pub filled_byte : (d : List ℕ) (at b : ℕ) → at < length d → Fills d at (b ∷ []) (set d at b) (at + 1)
-filled_byte d at b inside =
-    let (whole, ends) = filled_whole d at (b ∷ []) (omega arith) in
-    (over_one d at b inside ∙ whole, ends)
-
 -- ---- two texts
 
 module _ (d : List ℕ) (at : ℕ) (xs ys : List ℕ) where
@@ -80,53 +75,25 @@ module _ (d : List ℕ) (at : ℕ) (xs ys : List ℕ) where
   filled_both_to : filled_to between to ys ≡ filled_to d at (xs ++ ys)
   filled_both_to = omega (arith, ap length both_fit ∙ length-append (fitting d at xs) (fitting between to ys))
 
--- ---- text after text
-
--- of the text that d gets from `at` on, what stands before `rest` is written in `out`; the rest goes there from `to` on
-pub record Unwritten (d : List ℕ) (at : ℕ) (all out : List ℕ) (to : ℕ) (rest : List ℕ) : Type 0 where
-  pub bytes : filled d at all ≡ filled out to rest
-  pub ends : filled_to d at all ≡ filled_to out to rest
-  pub size : length out ≡ length d
-
-pub unwritten_all : (d : List ℕ) (at : ℕ) (all : List ℕ) → Unwritten d at all d at all
-unwritten_all d at all = record { bytes = refl; ends = refl; size = refl }
-
-module _ {d : List ℕ} {at : ℕ} {all out : List ℕ} {to : ℕ} {rest : List ℕ} (left : Unwritten d at all out to rest) where
-  -- once the next text is written, `more` is left
-  pub unwritten_more : (text more : List ℕ) → rest ≡ text ++ more → {out' : List ℕ} {to' : ℕ}
-      → Fills out to text out' to' → Unwritten d at all out' to' more
-  unwritten_more text more parts (written, behind) = record {
-    bytes =
-        left.bytes
-        ∙ ap (filled out to) parts
-        ∙ sym (filled_both out to text more)
-        ∙ ap₂ (λ (l : List ℕ) (k : ℕ). filled l k more) (sym written) (sym behind);
-    ends =
-        left.ends
-        ∙ ap (filled_to out to) parts
-        ∙ sym (filled_both_to out to text more)
-        ∙ ap₂ (λ (l : List ℕ) (k : ℕ). filled_to l k more) (sym written) (sym behind);
-    size = ap length written ∙ filled_length out to text ∙ left.size;
-  }
-
-  -- the last text
-  pub unwritten_last : {out' : List ℕ} {to' : ℕ} → Fills out to rest out' to' → Fills d at all out' to'
-  unwritten_last (written, behind) = (written ∙ sym left.bytes, behind ∙ sym left.ends)
-
-  -- nothing is left, or there is no room for it
-  pub unwritten_none : rest ≡ [] → Fills d at all out to
-  unwritten_none none =
-      unwritten_last (filled_nothing out to rest (ap (fitting out to) none ∙ take-nil (length out - to)))
-
-  pub unwritten_full : length out ≤ to → Fills d at all out to
-  unwritten_full full = unwritten_last (filled_full out to rest full)
-
 -- two texts, one behind the other
 pub filled_two : (d : List ℕ) (at : ℕ) (xs ys : List ℕ) {e f : List ℕ} {p q : ℕ}
     → Fills d at xs e p → Fills e p ys f q → Fills d at (xs ++ ys) f q
-filled_two d at xs ys first second =
-    unwritten_last (unwritten_more (unwritten_all d at (xs ++ ys)) xs ys refl first) second
+filled_two d at xs ys (written, to) (more, behind) = (
+  more ∙ ap₂ (λ (e : List ℕ) (p : ℕ). filled e p ys) written to ∙ filled_both d at xs ys,
+  behind ∙ ap₂ (λ (e : List ℕ) (p : ℕ). filled_to e p ys) written to ∙ filled_both_to d at xs ys,
+)
 
 -- the same text in other words
 pub filled_same : (d : List ℕ) (at : ℕ) {xs ys e : List ℕ} {p : ℕ} → xs ≡ ys → Fills d at xs e p → Fills d at ys e p
 filled_same d at same (written, behind) = (written ∙ ap (filled d at) same, behind ∙ ap (filled_to d at) same)
+
+-- ---- a writer
+
+pub writes_two : {s t u : Writer} (xs ys : List ℕ) → Writes s xs t → Writes t ys u → Writes s (xs ++ ys) u
+writes_two {s} xs ys first second = record {
+  same = second.same ∙ first.same;
+  fills = filled_two s.out.now s.end xs ys first.fills second.fills;
+}
+
+pub writes_same : {s t : Writer} {xs ys : List ℕ} → xs ≡ ys → Writes s xs t → Writes s ys t
+writes_same {s} {t} e writes = subst (λ (xs : List ℕ). Writes s xs t) e writes

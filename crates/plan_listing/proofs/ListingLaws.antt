@@ -8,8 +8,9 @@ use Rattle.read_walk.specs.SectionAt.{section_at, section_end}
 use Rattle.read_walk.proofs.SectionAtLaws.{walk_end, walk_next}
 use Rattle.plan_listing.specs.Listing.{space, newline, number_then, title_line, section_line}
 use Rattle.plan_listing.specs.Listing.{section_lines, bytes_word, listing}
-use Rattle.plan_listing.specs.Fill.{Fills}
-use Rattle.plan_listing.proofs.FillLaws.{filled_two, filled_same}
+use Rattle.plan_listing.specs.Writes.{Writes}
+use Rattle.plan_listing.specs.declared.text.Writer.{Writer}
+use Rattle.plan_listing.proofs.FillLaws.{writes_two, writes_same}
 
 -- the last line
 abbrev pub last_line : List ℕ → List ℕ
@@ -38,17 +39,17 @@ module _ (file : List ℕ) (offset : ℕ) where
 -- ---- one line
 
 -- its three numbers, one behind the other
-pub line_written : (d : List ℕ) (at : ℕ) (bs : List ℕ) {table number events p q r : ℕ} {e f g : List ℕ}
+pub line_written : {q r s t : Writer} (bs : List ℕ) {table number events : ℕ}
     → table ≡ (header_in bs).table_id → number ≡ (header_in bs).section_number → events ≡ length (split_events bs)
-    → Fills d at (number_then table space) e p → Fills e p (number_then number space) f q
-    → Fills f q (number_then events newline) g r → Fills d at (section_line bs) g r
+    → Writes q (number_then table space) r → Writes r (number_then number space) s
+    → Writes s (number_then events newline) t → Writes q (section_line bs) t
 unfolding section_line
-line_written d at bs {p = p} {q = q} {e = e} {f = f} is-table is_number is-events first second third =
+line_written bs is-table is_number is-events first second third =
     let table : List ℕ = number_then (header_in bs).table_id space in
     let number : List ℕ = number_then (header_in bs).section_number space in
     let events : List ℕ = number_then (length (split_events bs)) newline in
-    filled_two d at (table ++ number) events
-    (filled_two d at table number
-    (filled_same d at (ap (λ (n : ℕ). number_then n space) is-table) first)
-    (filled_same e p (ap (λ (n : ℕ). number_then n space) is_number) second))
-    (filled_same f q (ap (λ (n : ℕ). number_then n newline) is-events) third)
+    writes_two (table ++ number) events
+    (writes_two table number
+    (writes_same (ap (λ (n : ℕ). number_then n space) is-table) first)
+    (writes_same (ap (λ (n : ℕ). number_then n space) is_number) second))
+    (writes_same (ap (λ (n : ℕ). number_then n newline) is-events) third)

@@ -8,10 +8,8 @@ use Rattle.plan_listing.proofs.write_line.Goals as goal
 
 pub returns : goal.returns
 returns c =
-    let a = c.args in
-    let section = a.section.now in
+    let section = c.args.section.now in
     let bytes = bytes_all section (λ k. (c.type_inv.section k).fits) in
-    let table = (field_read section 0 1 bytes (omega arith) c.read_field-table_id.ensures).0 in
-    let number = (field_read section 6 1 bytes (omega arith) c.read_field-section_number.ensures).0 in
-    line_written a.out.now a.at section table number c.count_events.ensures
-    c.write_number-first.ensures c.write_number-second.ensures c.write_number.ensures
+    let table = (field_read section 0 1 bytes (omega arith) c.read_field.ensures).0 in
+    let number = (field_read section 6 1 bytes (omega arith) c.read_field-2.ensures).0 in
+    line_written section table number c.count_events.ensures c.number.ensures c.number-2.ensures c.number-3.ensures
