@@ -3,18 +3,24 @@
 use mathlib.Core.Path.{◌≡◌, refl, sym, ap, ◌∙◌}
 use mathlib.Core.Bool.{Bool, true, false}
 use mathlib.Core.Logic.{⊎_elim}
-use mathlib.Core.List.{List, [], ◌∷◌}
-use Prim.Native.Nat.{ℕ, ◌+◌, ◌-◌, ◌*◌, ◌/◌, ◌%◌, ◌^◌, ◌≤◌, ◌<◌}
-use native.Mathlib.Nat.{add-zero, add-div_right, div-eq_of_lt, zero-div, zero-mul, one-mul}
+use mathlib.Core.List.{List}
+use Prim.Native.Nat.{ℕ, ◌+◌, ◌*◌, ◌/◌, ◌%◌, ◌^◌, ◌≤◌, ◌<◌}
+use native.Mathlib.Nat.{add-div_right, div-eq_of_lt, zero-div, zero-mul, one-mul}
 use native.Mathlib.Omega.{arith}
 use mir.Val.{bool_byte}
 use borrow.Author.Tests.{ne_eqb}
 use lib.ListN.{length, get_or, set, length-set, get_or-eq_default}
 use lib.Pow.{pow_pos, shl_exact}
 use lib.Seq.{get_or-set_same, set-get_or, set-set, set_out}
+use Rattle.std.proofs.Common.{w64, bit_and, bit_or}
+use Rattle.std.specs.Int.{bit_at, bit_not}
+use Rattle.std.specs.Int.Bits.{and_zero_r}
+use Rattle.std.proofs.lemmas.Nat.{or_disjoint, or_lt, and_le_l}
+use Rattle.std.proofs.lemmas.Nat.Bits.{bit_at_and, bit_at_or, bit_at-pow_same, bit_at-pow_other, and_pow, bit_at-lt}
+use Rattle.std.proofs.lemmas.Nat.Bits.{bit_at_clear_same, bit_at_clear_other, same_from_bits_below}
 use Rattle.eit.proofs.Test.{le_or_lt, eq_or_not}
 use Rattle.codec.specs.Seen.{is_seen, with_seen}
-use Rattle.codec.proofs.SeenLaws.{seen_bit, with_seen_new, with_seen_room, seen_same, seen_other}
+use Rattle.codec.proofs.SeenLaws.{seen_bit, with_seen_new, seen_same, seen_other}
 use Rattle.edit_scan.specs.Places.{bit_in, with_bit, with_place}
 
 -- ---- a bit of a word
@@ -47,25 +53,45 @@ module _ (word j : ℕ) where
       omega (arith, add-div_right (with_bit word j false) (pow_pos j), ap (λ (n : ℕ). n / 2 ^ j) (lacks_one s), s))
       (eq_or_not (word / 2 ^ j % 2) 0)
 
-  -- as the code shifts
-  module _ (small : j < 64) where
-    pub bit_moved : word / 2 ^ j % 2 * 2 ^ j % 2 ^ 64 ≡ bit_in word j
-    bit_moved = shl_exact {a = word / 2 ^ j % 2} 1 j 64 (omega arith) (omega arith)
+  -- as the code takes the bit out and puts it in
+  module _ (small : j < 64) (fits : word < 2 ^ 64) where
+    abbrev without : ℕ
+    without = bit_and word (bit_not w64 (1 * 2 ^ j % 2 ^ 64))
 
-    pub bit_told : (b : Bool) → word - bit_in word j + bool_byte b * 2 ^ j % 2 ^ 64 ≡ with_bit word j b
+    one_shifted : 1 * 2 ^ j % 2 ^ 64 ≡ 2 ^ j
+    one_shifted = shl_exact {a = 1} 1 j 64 (omega arith) (omega arith) ∙ one-mul (2 ^ j)
+
+    lacks_bit : bit_and without (2 ^ j) ≡ 0
+    lacks_bit = and_pow without j ∙ ap (λ (n : ℕ). n * 2 ^ j) (bit_at_clear_same w64 word j small) ∙ zero-mul (2 ^ j)
+
+    apart : bit_and without (bit_in word j) ≡ 0
+    apart =
+        ⊎_elim (λ z. rw (no_bit z) (and_zero_r without)) (λ s. rw (a_bit s) lacks_bit) (eq_or_not (word / 2 ^ j % 2) 0)
+
+    bit_back : (i : ℕ) → i < 64 → bit_at (bit_or without (bit_and word (2 ^ j))) i ≡ bit_at word i
+    bit_back i h =
+        rw (bit_at_or, bit_at_and word (2 ^ j) i)
+        (⊎_elim
+        (λ e. rw e
+        (omega (arith, bit_at_clear_same w64 word j small, bit_at-pow_same j, bit_at-lt word j)))
+        (λ ne. omega (arith, bit_at_clear_other w64 word j small i h ne, bit_at-pow_other j i ne, bit_at-lt word i))
+        (eq_or_not i j))
+
+    comes_back : without + bit_in word j ≡ word
+    comes_back =
+        sym (or_disjoint without (bit_in word j) apart)
+        ∙ ap (bit_or without) (sym (and_pow word j))
+        ∙ same_from_bits_below 64 (bit_or without (bit_and word (2 ^ j))) word
+        (or_lt 64 without (bit_and word (2 ^ j)) (omega (arith, and_le_l word (bit_not w64 (1 * 2 ^ j % 2 ^ 64)))) (omega (arith, and_le_l word (2 ^ j))))
+        fits bit_back
+
+    pub bit_told : (b : Bool) → bit_or without (bool_byte b * 2 ^ j % 2 ^ 64) ≡ with_bit word j b
     bit_told true =
-        ap (λ (n : ℕ). word - bit_in word j + n)
-        (shl_exact {a = 1} 1 j 64 (omega arith) (omega arith) ∙ one-mul (2 ^ j))
+        let back : without + 2 ^ j ≡ with_bit word j true = omega (arith, comes_back) in
+        ap (bit_or without) one_shifted ∙ or_disjoint without (2 ^ j) lacks_bit ∙ back
     bit_told false =
-        ap (λ (n : ℕ). word - bit_in word j + n % 2 ^ 64) (zero-mul (2 ^ j)) ∙ add-zero (word - bit_in word j)
-
-    pub bit_room : (b : Bool) → word < 2 ^ 64 → with_bit word j b < 2 ^ 64
-    bit_room true h =
-        let first : j / 64 ≡ 0 = omega arith in
-        let same : j % 64 ≡ j = omega arith in
-        let clear : seen_bit (with_bit word j false ∷ []) j ≡ 0 = rw (first, same) lacks_it in
-        rw (first, same) at (with_seen_room (with_bit word j false ∷ []) j clear (rw first (omega arith)))
-    bit_room false h = omega arith
+        let back : without + 0 ≡ with_bit word j false = omega (arith, comes_back) in
+        ap (λ (n : ℕ). bit_or without (n % 2 ^ 64)) (zero-mul (2 ^ j)) ∙ or_disjoint without 0 (and_zero_r without) ∙ back
 
 -- ---- a place
 

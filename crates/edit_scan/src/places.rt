@@ -19,9 +19,8 @@ pub fn set_place(places: &mut [u64], place: usize, is_in: bool)
 {
     let k = place / 64;
     if k < places.len() {
-        let j = place % 64;
-        let word = places[k];
-        places[k] = word - (((word >> j) % 2) << j) + ((is_in as u64) << j);
+        let bit = place % 64;
+        places[k] = (places[k] & !(1 << bit)) | ((is_in as u64) << bit);
     }
 }
 
