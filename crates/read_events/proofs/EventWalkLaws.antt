@@ -4,10 +4,10 @@ use mathlib.Core.Path.{◌≡◌, sym, ap, subst, ◌∙◌}
 use mathlib.Core.Logic.{⊎_elim}
 use mathlib.Core.Bool.{Bool, ◌&&◌, ◌||◌}
 use mathlib.Core.List.{List, ◌∷◌}
-use Prim.Native.Nat.{ℕ, ◌+◌, ◌-◌, ◌/◌, ◌≤◌, ◌<◌}
+use Prim.Native.Nat.{ℕ, ◌+◌, ◌/◌, ◌≤◌, ◌<◌}
 use native.Mathlib.Omega.{arith}
 use lib.Dec.{T, eqb, eqb→eq}
-use lib.ListN.{length, take, drop, length-take, length-drop}
+use lib.ListN.{length, drop, length-take, length-drop}
 use lib.Seq.{take_all, length-take-le}
 use Rattle.eit.specs.Fields.{bytes_at}
 use Rattle.eit.specs.Time.{is_start_bytes, is_duration_bytes}
@@ -19,17 +19,9 @@ use Rattle.sections.specs.Decode.{status_field, stated_event_size, event_in}
 use Rattle.sections.specs.Split.{split_by}
 use Rattle.sections.specs.Offsets.{record_at}
 use Rattle.sections.proofs.Split.{split_next}
-use Rattle.codec.proofs.FieldLaws.{rest_whole}
 use Rattle.codec_section.specs.EventRead.{is_whole_event, front_event, event_read}
-use Rattle.codec_section.specs.declared.event.EventRead.{EventRead}
-use Rattle.codec_section.specs.declared.event.EventRead.TheVariants.{Whole}
+use Rattle.std.specs.Prelude.{Some}
 use Rattle.codec_section.proofs.EventReadLaws.{whole_only}
-
--- what was read is what the rest of an event loop shows
-pub rest_read : (base : ℕ) (events : List ℕ) (at : ℕ) {read shown : EventRead}
-    → read ≡ event_read base (take (length events - at) (drop at events)) → read ≡ shown
-    → event_read base (drop at events) ≡ shown
-rest_read base events at reads is = sym (ap (event_read base) (rest_whole events at)) ∙ sym reads ∙ is
 
 -- the first test of a whole event
 module _ (base : ℕ) (bs : List ℕ) (whole : T (is_whole_event base bs)) where
@@ -45,7 +37,7 @@ module _ (base : ℕ) (bs : List ℕ) (whole : T (is_whole_event base bs)) where
   whole_stated =
       eqb→eq (length bs) (stated_event_size bs) (and_left (eqb (length bs) (stated_event_size bs)) rest_tests whole)
 
-module _ (base : ℕ) (bs : List ℕ) {r : Record} (read : event_read base bs ≡ Whole r) where
+module _ (base : ℕ) (bs : List ℕ) {r : Record} (read : event_read base bs ≡ Some r) where
   holds : T (is_whole_event base (front_event bs))
   holds = rw (whole_only base bs read).0 tt
 

@@ -1,13 +1,13 @@
 -- A pass over a section's events that keeps the least start that the next event may have, and the ids so far as a set
 -- (01, "The file of sections": over the file starts rise strictly, ids differ; 02, W-204: no overlap). Laws:
 -- proofs/EventPassLaws.antt, proofs/EventsSoFarLaws.antt. Assumes nothing.
-use Rattle.std.specs.Prelude.{ℕ, ◌+◌, Bool, true, false, not, ◌&&◌, List, [], ◌∷◌, leb}
+use Rattle.std.specs.Prelude.{ℕ, ◌+◌, Bool, true, false, not, ◌&&◌, List, [], ◌∷◌, leb, Result, Ok, Err}
 use Rattle.eit.specs.Events.{least_behind}
 use Rattle.sections.specs.Section.{Header}
 use Rattle.sections.specs.Decode.{event_in}
 use Rattle.sections.specs.EventTests.{is_event, is_filled_or_alone}
 use Rattle.codec.specs.Seen.{is_seen, with_seen}
-use Rattle.read_events.specs.declared.EventCheck.{EventCheck}
+use Rattle.read_events.specs.declared.EventsPassed.{EventsPassed}
 
 -- what a pass returns, and the set of ids after it
 pub record EventPass : Type 0 where
@@ -42,5 +42,6 @@ checked_events base h least words pieces =
     }
 
 -- what the code returns, and the set of ids after it
-abbrev pub pass_of : EventCheck → List ℕ → EventPass
-pass_of r words = record { keeps_rules = r.keeps_rules; events = r.events; least = r.least; words = words }
+abbrev pub pass_of : Result EventsPassed EventsPassed → List ℕ → EventPass
+pass_of (Ok p) words = record { keeps_rules = true; events = p.count; least = p.least; words = words }
+pass_of (Err p) words = record { keeps_rules = false; events = p.count; least = p.least; words = words }

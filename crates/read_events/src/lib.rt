@@ -10,20 +10,15 @@ ghost use Rattle.codec_section.specs.HeaderRead.{held_header};
 ghost use Rattle.read_events.specs.EventPass.{checked_events, pass_of};
 
 use codec::seen;
-use codec_section::event::EventRead;
 use codec_section::header::SectionHeader;
 use codec_section::{event, segment};
 use eit::Record;
 use eit::limits::EVENT_OVERHEAD;
 
-// What the check of an event loop has found.
+// The events of a loop that passed: how many, and the least start that the next event may have.
 #[derive(Clone, Copy)]
-pub struct EventCheck {
-    // Whether 24 passes.
-    pub keeps_rules: bool,
-    // Events that passed.
-    pub events: usize,
-    // The least start that the next event may have.
+pub struct EventsPassed {
+    pub count: usize,
     pub least: u64,
 }
 
@@ -52,44 +47,36 @@ fn is_new(event: Record, least: u64, seen: &[u64]) -> bool
 }
 
 // 24: every event of the loop passes, and follows those before, whose ids are in the set and which end by `least`. The
-// ids of the events that passed are added to the set.
+// ids of the events that passed are added to the set. An error has the events that passed before the rule was broken.
 pub fn check_events(
     events: &[u8],
     header: SectionHeader,
     base_day: u32,
     least: u64,
     seen: &mut [u64],
-) -> EventCheck
+) -> Result<EventsPassed, EventsPassed>
     ensures { pass_of result seen.new
         ≡ checked_events base_day (held_header header) least seen.old
         (split_by stated_event_size events.now) }
 {
-    let mut n = 0;
-    let mut next = least;
-    let mut at = 0;
-    while at < events.len() {
-        let EventRead::Whole(event) = event::read_event(&events[at..], base_day) else {
-            return EventCheck {
-                keeps_rules: false,
-                events: n,
-                least: next,
-            };
+    let mut passed = EventsPassed { count: 0, least };
+    let mut rest = events;
+    while !rest.is_empty() {
+        let Some(event) = event::read_event(rest, base_day) else {
+            return Err(passed);
         };
-        if !is_in_segment(header, event.start) || !is_new(event, next, seen) {
-            return EventCheck {
-                keeps_rules: false,
-                events: n,
-                least: next,
-            };
+        if !is_in_segment(header, event.start) || !is_new(event, passed.least, seen) {
+            return Err(passed);
         }
         seen::add_seen(seen, event.id);
-        next = eit::least_behind(event);
-        n += 1;
-        at += EVENT_OVERHEAD + event.chain_length as usize;
+        passed = EventsPassed {
+            count: passed.count + 1,
+            least: eit::least_behind(event),
+        };
+        rest = &rest[EVENT_OVERHEAD + event.chain_length as usize..];
     }
-    EventCheck {
-        keeps_rules: 0 < n || is_alone(header),
-        events: n,
-        least: next,
+    if passed.count == 0 && !is_alone(header) {
+        return Err(passed);
     }
+    Ok(passed)
 }
