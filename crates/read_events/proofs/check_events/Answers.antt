@@ -46,7 +46,7 @@ loop-rest-preserved c =
     (rw (sym c.is_in_segment.ensures ∙ c.if-not-is_in_segment.false)
     (sym c.is_new.ensures ∙ c.if-not-is_new.false))
     c.add_seen.ensures
-    c.least_behind.ensures
+    (cc)
     (rest_whole c.loop-rest.rest.now (event_overhead + c.in-Some.event.chain_length))
 
 pub returns-then-not-is_alone : goal.returns-then-not-is_alone
