@@ -1,6 +1,7 @@
 -- What the face's numbers say: the caller and the identity that a call is given, and a struct and the lent buffer as
 -- the outcome of the call's definition. Assumes nothing.
-use Rattle.std.specs.Prelude.{true, false, List, ℕ, eqb}
+use Rattle.std.specs.Prelude.{true, false, List, ℕ, eqb, Result}
+use Rattle.refusal.specs.Numbers.{number_of, value_of}
 use Rattle.eit.specs.declared.Caller.{Caller}
 use Rattle.eit.specs.declared.Caller.TheVariants.{Broadcast, Cable}
 use Rattle.eit.specs.Records.{lent_list}
@@ -45,6 +46,10 @@ rolled_of r buffer =
 
 abbrev pub built_of : EitBuilt → List ℕ → Built
 built_of r output = record { number = r.number; value = r.value; output = output }
+
+-- what Build or Rebuild says, by the numbers and the values of its refusals
+abbrev pub numbered : {E : Type 0} → (E → ℕ) → (E → ℕ) → Result ℕ E → EitBuilt
+numbered number_by value_by built = record { number = number_of number_by built; value = value_of value_by built }
 
 abbrev pub answer_of : EitReading → Answer
 answer_of r =

@@ -17,13 +17,16 @@ ghost use Rattle.schedule.specs.Rebuild.{rebuild};
 ghost use Rattle.room.specs.ChainRoom.{chain_room};
 ghost use Rattle.window.specs.Roll.{roll};
 ghost use Rattle.read_answer.specs.Outcome.{outcome_of};
-ghost use Rattle.chirdaluko.specs.Face.{caller_of, edited_of, placed_of, chain_room_of, rolled_of, built_of};
+ghost use Rattle.chirdaluko.specs.Face.{caller_of, edited_of, placed_of, chain_room_of, rolled_of, built_of, numbered};
 ghost use Rattle.chirdaluko.specs.Face.{given_identity, answer_of, reading_of};
 
+use codec::pools::Pools;
 use eit::limits::{SEGMENTS, TABLES};
 use eit::{Caller, Identity, Triplet};
 use list_records::place;
-use read_answer::ReadResult;
+use read_answer::{FileRead, ReadError};
+use refusal::Refusal;
+use roll::Rolled;
 
 // What Edit returns: document 01's number and value, and the count then held.
 #[repr(C)]
@@ -98,6 +101,16 @@ fn caller_of(caller: u8) -> Caller
     }
 }
 
+// What Build or Rebuild says, as numbers.
+fn numbered<E: Refusal>(built: Result<usize, E>) -> EitBuilt
+    ensures { result ≡ numbered E.number_by E.value_by built }
+{
+    EitBuilt {
+        number: refusal::number_of(built),
+        value: refusal::value_of(built),
+    }
+}
+
 // Edit: number, value, count and every number of the list are those of the definition.
 #[unsafe(no_mangle)]
 pub extern "C" fn eit_edit<'a>(
@@ -112,12 +125,12 @@ pub extern "C" fn eit_edit<'a>(
         (lent_list list.old count) script.now
         ≡ edited_of result list.new }
 {
-    let r = edit::edit(caller_of(caller), list, count, day, series, script);
-    let answer = r.answer;
-    let held = r.count;
+    let mut held = count;
+    let pools = Pools::new(day, series);
+    let edited = edit::edit(caller_of(caller), list, &mut held, &pools, script);
     EitEdited {
-        number: edit_answer::number_of(answer),
-        value: edit_answer::value_of(answer, held),
+        number: refusal::number_of(edited),
+        value: refusal::value_of(edited.map(|()| held)),
         count: held,
     }
 }
@@ -149,11 +162,13 @@ pub extern "C" fn eit_chain_room<'a>(
         (chain_room (sizes_of (caller_of caller)) (lent_pools day.now series.now)
         (lent_list list.now count) start) }
 {
-    let answer = chain_room::chain_room(caller_of(caller), list, count, day, series, start);
+    let pools = Pools::new(day, series);
+    let answer = chain_room::chain_room(caller_of(caller), list, count, &pools, start);
+    let longest = answer.unwrap_or(None);
     EitRoom {
-        number: chain_room::number_of(answer),
-        fits: chain_room::fits_of(answer),
-        length: chain_room::length_of(answer),
+        number: refusal::number_of(answer),
+        fits: longest.is_some() as u32,
+        length: longest.unwrap_or(0),
     }
 }
 
@@ -171,14 +186,15 @@ pub extern "C" fn eit_roll<'a>(
         (lent_list list.old count) base_day
         ≡ rolled_of result list.new }
 {
-    let r = roll::roll(caller_of(caller), list, count, day, series, base_day);
-    let answer = r.answer;
-    let kept = r.count;
+    let pools = Pools::new(day, series);
+    let answer = roll::roll(caller_of(caller), list, count, &pools, base_day);
+    // A refusal leaves the count and the base day.
+    let held = answer.unwrap_or(Rolled { count, base_day });
     EitRolled {
-        number: roll::number_of(answer),
-        value: roll::value_of(answer, kept),
-        count: kept,
-        base_day: r.base_day,
+        number: refusal::number_of(answer),
+        value: refusal::value_of(answer.map(|rolled| rolled.count)),
+        count: held.count,
+        base_day: held.base_day,
     }
 }
 
@@ -212,20 +228,15 @@ pub extern "C" fn eit_build<'a>(
         triplet,
         versions: *versions,
     };
-    let answer = build::build(
+    numbered(build::build(
         caller_of(caller),
         list,
         count,
-        day,
-        series,
+        &Pools::new(day, series),
         base_day,
         identity,
         out,
-    );
-    EitBuilt {
-        number: build_answer::number_of(answer),
-        value: build_answer::value_of(answer),
-    }
+    ))
 }
 
 // Rebuild: number, value and every byte of the output are those of the definition (02, W-208).
@@ -246,21 +257,16 @@ pub extern "C" fn eit_rebuild<'a>(
         out.old
         ≡ built_of result out.new }
 {
-    let answer = rebuild::rebuild(
+    numbered(rebuild::rebuild(
         caller_of(caller),
         previous,
         previous_base_day,
         list,
         count,
-        day,
-        series,
+        &Pools::new(day, series),
         base_day,
         out,
-    );
-    EitBuilt {
-        number: rebuild::number_of(answer),
-        value: rebuild::value_of(answer),
-    }
+    ))
 }
 
 // Plan: its sixteen tables of thirty-two section counts, one behind the other.
@@ -277,25 +283,27 @@ pub extern "C" fn eit_plan<'a>(
         ≡ flatten (plan (sizes_of (caller_of caller)) (lent_pools day.now series.now)
         (lent_list list.now count)) }
 {
-    *counts = build_plan::flat_of(build::plan(caller_of(caller), list, count, day, series));
+    *counts = build_plan::flat_of(build::plan(caller_of(caller), list, count, &Pools::new(day, series)));
 }
 
-// An answer of Read as numbers.
-fn reading_of(checked: ReadResult) -> EitReading
-    ensures { answer_of result ≡ outcome_of checked }
-{
-    let answer = checked.answer;
-    let identity = checked.identity;
-    let triplet = identity.triplet;
-    let versions = identity.versions;
-    EitReading {
-        number: read_answer::number_of(answer),
-        value: read_answer::value_of(answer),
-        count: read_answer::count_of(answer),
-        service_id: triplet.service_id,
-        transport_stream_id: triplet.transport_stream_id,
-        original_network_id: triplet.original_network_id,
-        versions,
+// What Read says, as numbers: with a refusal, count and identity are 0.
+impl From<Result<FileRead, ReadError>> for EitReading {
+    ghost from_gives = { λ read reading. answer_of reading ≡ outcome_of read };
+
+    fn from(read: Result<FileRead, ReadError>) -> Self {
+        let FileRead { identity, count } = read.unwrap_or(FileRead {
+            identity: eit::zero_identity(),
+            count: 0,
+        });
+        EitReading {
+            number: refusal::number_of(read),
+            value: refusal::value_of(read.map(|accepted| accepted.count)),
+            count,
+            service_id: identity.triplet.service_id,
+            transport_stream_id: identity.triplet.transport_stream_id,
+            original_network_id: identity.triplet.original_network_id,
+            versions: identity.versions,
+        }
     }
 }
 
@@ -310,7 +318,7 @@ pub extern "C" fn eit_read(
     ensures { read (sizes_of (caller_of caller)) base_day file.now records.old
         ≡ reading_of result records.new }
 {
-    reading_of(read::read(caller_of(caller), file, base_day, records))
+    read::read(caller_of(caller), file, base_day, records).into()
 }
 
 // Read without a record buffer.
@@ -318,7 +326,7 @@ pub extern "C" fn eit_read(
 pub extern "C" fn eit_check(caller: u8, file: &[u8], base_day: u32) -> EitReading
     ensures { check_file (sizes_of (caller_of caller)) base_day file.now ≡ answer_of result }
 {
-    reading_of(read_check::check(caller_of(caller), file, base_day))
+    read_check::check(caller_of(caller), file, base_day).into()
 }
 
 // CRC_32.

@@ -2,13 +2,16 @@
 // makes.
 #![tactic(auto)]
 
-ghost use Rattle.std.specs.Prelude.{◌≡◌, ◌+◌, ◌*◌, ◌≤◌, length};
+ghost use Rattle.std.specs.Prelude.{◌≡◌, ◌+◌, ◌*◌, ◌≤◌, length, IfOk};
 ghost use Rattle.eit.specs.Records.{lent_list};
 ghost use Rattle.eit.specs.Overwrite.{overwrite};
 ghost use Rattle.plan.specs.PlanText.{list_text, text_within, plan_text, text_max, Written};
 ghost use Rattle.plan.specs.Reading.{is_read_into};
 
+use codec::pools::Pools;
 use eit::Caller;
+use refusal::Refusal;
+use std::io;
 use std::io::Read;
 
 // Bytes of a script at most, numbers of the list's buffer, and bytes of the output and of the text.
@@ -29,23 +32,18 @@ fn write_built(list: &[u32], count: usize, output: &mut [u8], text: &mut [u8]) -
         text.new result
         (4 * length output.old + 64) }
 {
-    let identity = eit::zero_identity();
-    let built = build::build(
+    match build::build(
         Caller::Broadcast,
         list,
         count,
-        b"",
-        b"",
+        &Pools::new(b"", b""),
         BASE_DAY,
-        identity,
+        eit::zero_identity(),
         output,
-    );
-    let number = build_answer::number_of(built);
-    if number != 0 {
-        return plan_listing::write_refused(text, number);
+    ) {
+        Ok(size) => plan_listing::write_listing(text, &output[..size]),
+        Err(refusal) => plan_listing::write_refused(text, refusal.number()),
     }
-    let size = build_answer::value_of(built);
-    plan_listing::write_listing(text, &output[..size])
 }
 
 // The text for a script, in a lent buffer for the list and with a lent output. Returns how many of its bytes had room.
@@ -56,14 +54,12 @@ fn write_within(script: &[u8], list: &mut [u32], output: &mut [u8], text: &mut [
     if SCRIPT_MAX < script.len() {
         return plan_listing::write_too_long(text);
     }
-    let edited = edit::edit(Caller::Broadcast, list, 0, b"", b"", script);
-    let answer = edited.answer;
-    let count = edited.count;
-    let number = edit_answer::number_of(answer);
-    if number != 0 {
-        return plan_listing::write_refused(text, number);
+    let mut count = 0;
+    let pools = Pools::new(b"", b"");
+    match edit::edit(Caller::Broadcast, list, &mut count, &pools, script) {
+        Ok(()) => write_built(list, count, output, text),
+        Err(refusal) => plan_listing::write_refused(text, refusal.number()),
     }
-    write_built(list, count, output, text)
 }
 
 // The text for a script, whole: the buffer has room for every text. Returns the text's length.
@@ -78,34 +74,24 @@ fn plan_text(script: &[u8], text: &mut [u8]) -> usize
     write_within(script, &mut list, &mut output, text)
 }
 
-// What standard input has: bytes at the front of a buffer, as many as there are and have room, or nothing where a read
-// fails.
-#[derive(Drop)]
-enum Input {
-    Bytes(usize),
-    Failed,
-}
-
-// Reads on until the input ends or the buffer is full.
-fn read_input<R: Read>(input: &mut R, buffer: &mut [u8]) -> Input
-    ensures { is_read_into result buffer.new }
+// Reads on until the input ends or the buffer is full. Returns how many bytes stand at the buffer's front.
+fn read_input<R: Read>(input: &mut R, buffer: &mut [u8]) -> io::Result<usize>
+    ensures { IfOk result (λ n. is_read_into n buffer.new) }
 {
     let mut n = 0;
     while n < buffer.len() {
-        let Ok(more) = input.read(&mut buffer[n..]) else {
-            return Input::Failed;
-        };
+        let more = input.read(&mut buffer[n..])?;
         if more == 0 {
-            return Input::Bytes(n);
+            break;
         }
         n += more;
     }
-    Input::Bytes(n)
+    Ok(n)
 }
 
 fn main(rt: HostRuntime) {
     let mut script = [0u8; SCRIPT_MAX + 1];
-    let Input::Bytes(size) = read_input(&mut rt.stdin(), &mut script) else {
+    let Ok(size) = read_input(&mut rt.stdin(), &mut script) else {
         let _ = rt.eprintln("plan: standard input cannot be read");
         return;
     };

@@ -15,21 +15,16 @@ const DURATION: usize = 1;
 // short_event_descriptor; what stands inside is not looked at.
 const TAG: u8 = 0x4D;
 
-// The body of a descriptor, where so many bytes are left for it.
-fn body_size(left: usize) -> usize
-    ensures { (result ≤ left) × (result ≤ 255) }
-{
-    if left < 255 { left } else { 255 }
-}
+// Bytes of a descriptor at most: its tag, its length byte, and 255.
+const DESCRIPTOR_MAX: usize = 257;
 
 // Fills a pool with one chain: descriptors of 257 bytes and one of the rest, which must not be a single byte.
 pub fn fill_pool(pool: &mut [u8]) {
-    let mut at = 0;
-    while 2 <= pool.len() - at {
-        let size = body_size(pool.len() - at - 2);
-        pool[at] = TAG;
-        pool[at + 1] = size as u8;
-        at += 2 + size;
+    for descriptor in pool.chunks_mut(DESCRIPTOR_MAX) {
+        if let [tag, length, body @ ..] = descriptor {
+            *tag = TAG;
+            *length = body.len() as u8;
+        }
     }
 }
 
@@ -60,12 +55,9 @@ pub fn write_row(script: &mut [u8], start: u32, apart: u32, n: usize, chain_leng
     requires { n ≤ 340 }
     ensures { result ≡ n * 18 }
 {
-    let mut next = start as usize;
-    let mut i = 0;
-    while i < n {
+    for i in 0..n {
+        let next = start as usize + i * apart as usize;
         write_put(script, i * PUT_SIZE, i + 1, next, 0, chain_length);
-        next += apart as usize;
-        i += 1;
     }
     n * PUT_SIZE
 }

@@ -12,10 +12,7 @@ mod rows;
 
 // All samples, one after the other. A line that cannot be written ends them.
 fn show_all(rt: &impl Print) -> io::Result<()> {
-    samples_report::lines::print(
-        rt,
-        b"The samples of document 01, and others, by the library's calls\n",
-    )?;
+    rt.println("The samples of document 01, and others, by the library's calls")?;
     paper::times(rt)?;
     paper::segments(rt)?;
     paper::no_events(rt)?;
@@ -32,7 +29,7 @@ fn show_all(rt: &impl Print) -> io::Result<()> {
     cable::many(rt)?;
     cable::most(rt)?;
     cable::exchanged(rt)?;
-    samples_report::lines::print(rt, b"\nend\n")
+    rt.println("\nend")
 }
 
 fn main(rt: HostRuntime) {

@@ -2,6 +2,7 @@
 ghost use Rattle.std.specs.Prelude.{◌≤◌};
 
 use crate::lists;
+use codec::pools::Pools;
 use eit::Caller;
 use samples_report::{exchanged, lines, show};
 use std::io;
@@ -10,7 +11,7 @@ use std::io;
 pub fn show_row(
     rt: &impl Print,
     caller: Caller,
-    heading: &[u8],
+    heading: &str,
     start: u32,
     apart: u32,
     n: usize,
@@ -21,13 +22,13 @@ pub fn show_row(
     lines::print_heading(rt, heading)?;
     let mut script = [0u8; lists::ROW_SIZE];
     let size = lists::write_row(&mut script, start, apart, n, day.len());
-    show::show_script(rt, caller, &script[..size], day, b"")
+    show::show_script(rt, caller, &script[..size], &Pools::new(day, b""))
 }
 
 // The same events, made for broadcast, through the calls of both callers.
 pub fn show_exchanged(
     rt: &impl Print,
-    heading: &[u8],
+    heading: &str,
     start: u32,
     apart: u32,
     n: usize,
@@ -45,9 +46,10 @@ pub fn show_exchanged(
 // series pool, under a heading.
 pub fn show_pair(
     rt: &impl Print,
-    heading: &[u8],
+    heading: &str,
     start: u32,
-    pools: &Pools<'_>,
+    day: &[u8],
+    series: &[u8],
 ) -> io::Result<()> {
     lines::print_heading(rt, heading)?;
     let mut script = [0u8; 2 * lists::PUT_SIZE];
@@ -60,5 +62,5 @@ pub fn show_pair(
         2,
         series.len(),
     );
-    show::show_script(rt, Caller::Broadcast, &script, pools)
+    show::show_script(rt, Caller::Broadcast, &script, &Pools::new(day, series))
 }

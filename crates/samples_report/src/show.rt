@@ -1,9 +1,12 @@
 // What the calls say of a list, for one caller.
-ghost use Rattle.std.specs.Prelude.{◌≡◌, ◌≤◌, length};
+ghost use Rattle.std.specs.Prelude.{◌≤◌, length, IfOk};
 
 use crate::lines;
-use eit::limits::{SEGMENTS, TABLE_FIRST, TABLE_SEGMENTS, TABLES};
+use build_answer::BuildError;
+use codec::pools::Pools;
+use eit::limits::{TABLE_FIRST, TABLES};
 use eit::{Caller, Identity, Triplet};
+use read_answer::FileRead;
 use std::io;
 
 // 1993-10-13.
@@ -27,14 +30,7 @@ pub fn identity() -> Identity {
     }
 }
 
-// The number and the value of an answer.
-#[derive(Clone, Copy)]
-pub struct Outcome {
-    pub number: u32,
-    pub value: usize,
-}
-
-// Build, into a lent file. Where it succeeds, the value is a length within the file.
+// Build, into a lent file. Where it succeeds, the file's length is within the lent one.
 pub fn build_list(
     caller: Caller,
     list: &[u32],
@@ -42,14 +38,10 @@ pub fn build_list(
     pools: &Pools<'_>,
     identity: Identity,
     file: &mut [u8],
-) -> Outcome
-    ensures { result.number ≡ 0 → result.value ≤ length file.new }
+) -> Result<usize, BuildError>
+    ensures { IfOk result (λ size. size ≤ length file.new) }
 {
-    let built = build::build(caller, list, count, pools, BASE_DAY, identity, file);
-    Outcome {
-        number: build_answer::number_of(built),
-        value: build_answer::value_of(built),
-    }
+    build::build(caller, list, count, pools, BASE_DAY, identity, file)
 }
 
 // Build of what Read returned, with the file as day pool.
@@ -57,60 +49,31 @@ fn show_again(
     rt: &impl Print,
     caller: Caller,
     records: &[u32],
-    count: usize,
-    identity: Identity,
+    read: FileRead,
     file: &[u8],
 ) -> io::Result<()> {
     let mut again = [0u8; FILE_SIZE];
-    let built = build_list(caller, records, count, file, b"", identity, &mut again);
-    let size = built.value;
-    if built.number == 0 && &again[..size] == file {
-        lines::print(rt, b"built again: the same file\n")?;
-    } else {
-        lines::print(rt, b"built again: another file\n")?;
+    let pools = Pools::new(file, b"");
+    match build_list(caller, records, read.count, &pools, read.identity, &mut again) {
+        Ok(size) if &again[..size] == file => rt.println("built again: the same file"),
+        _ => rt.println("built again: another file"),
     }
-    Ok(())
 }
 
 // A file: check, Read, and Build of what Read returned.
 pub fn show_file(rt: &impl Print, caller: Caller, file: &[u8]) -> io::Result<()> {
     let checked = read_check::check(caller, file, BASE_DAY);
-    let verdict = checked.answer;
-    lines::print_answer(
-        rt,
-        b"check",
-        read_answer::number_of(verdict),
-        read_answer::value_of(verdict),
-    )?;
+    lines::print_answer(rt, "check", checked.map(|accepted| accepted.count))?;
     let mut records = [0u32; LIST_SIZE];
-    let reading = read::read(caller, file, BASE_DAY, &mut records);
-    let answer = reading.answer;
-    let number = read_answer::number_of(answer);
-    lines::print_answer(rt, b"read", number, read_answer::value_of(answer))?;
-    if number == 0 {
-        let identity = reading.identity;
-        show_again(
-            rt,
-            caller,
-            &records,
-            read_answer::count_of(answer),
-            identity,
-            file,
-        )?;
+    let read = read::read(caller, file, BASE_DAY, &mut records);
+    lines::print_answer(rt, "read", read.map(|accepted| accepted.count))?;
+    if let Ok(accepted) = read {
+        show_again(rt, caller, &records, accepted, file)?;
     }
     Ok(())
 }
 
-// Whether Plan says 254 of every segment: the list is unsound.
-fn is_unsound(tables: [[u8; TABLE_SEGMENTS]; TABLES]) -> bool {
-    let mut index = 0;
-    while index < SEGMENTS && tables[index / TABLE_SEGMENTS][index % TABLE_SEGMENTS] == 254 {
-        index += 1;
-    }
-    index == SEGMENTS
-}
-
-// Plan's counts.
+// Plan's counts; 254 of every segment says that the list is unsound.
 fn show_plan(
     rt: &impl Print,
     caller: Caller,
@@ -119,15 +82,11 @@ fn show_plan(
     pools: &Pools<'_>,
 ) -> io::Result<()> {
     let tables = build::plan(caller, list, count, pools);
-    if is_unsound(tables) {
-        lines::print(rt, b"plan 254 in every entry\n")?;
-        return Ok(());
+    if tables.as_flattened().iter().all(|sections| *sections == 254) {
+        return rt.println("plan 254 in every entry");
     }
-    let mut i = 0;
-    while i < TABLES {
-        let counts = tables[i];
-        lines::print_counts(rt, TABLE_FIRST + i, &counts)?;
-        i += 1;
+    for (table, counts) in tables.iter().enumerate() {
+        lines::print_counts(rt, TABLE_FIRST + table, counts)?;
     }
     Ok(())
 }
@@ -142,10 +101,9 @@ pub fn show_list(
 ) -> io::Result<()> {
     let mut file = [0u8; FILE_SIZE];
     let built = build_list(caller, list, count, pools, identity(), &mut file);
-    let size = built.value;
-    lines::print_answer(rt, b"build", built.number, size)?;
+    lines::print_answer(rt, "build", built)?;
     show_plan(rt, caller, list, count, pools)?;
-    if built.number == 0 {
+    if let Ok(size) = built {
         let made = &file[..size];
         lines::print_cuts(rt, made)?;
         show_file(rt, caller, made)?;
@@ -161,12 +119,10 @@ pub fn show_script(
     pools: &Pools<'_>,
 ) -> io::Result<()> {
     let mut list = [0u32; LIST_SIZE];
-    let edited = edit::edit(caller, &mut list, 0, pools, script);
-    let answer = edited.answer;
-    let count = edited.count;
-    let number = edit_answer::number_of(answer);
-    lines::print_answer(rt, b"edit", number, edit_answer::value_of(answer, count))?;
-    if number == 0 {
+    let mut count = 0;
+    let edited = edit::edit(caller, &mut list, &mut count, pools, script);
+    lines::print_answer(rt, "edit", edited.map(|()| count))?;
+    if edited.is_ok() {
         show_list(rt, caller, &list, count, pools)?;
     }
     Ok(())
@@ -180,13 +136,15 @@ pub fn show_bytes(
     from: usize,
     to: usize,
 ) -> io::Result<()> {
+    let pools = Pools::new(b"", b"");
     let mut list = [0u32; LIST_SIZE];
-    let edited = edit::edit(caller, &mut list, 0, b"", b"", script);
+    let mut count = 0;
+    let _ = edit::edit(caller, &mut list, &mut count, &pools, script);
     let mut file = [0u8; FILE_SIZE];
-    build_list(caller, &list, edited.count, b"", b"", identity(), &mut file);
-    if from <= to && to <= FILE_SIZE {
-        lines::print(rt, b"bytes")?;
-        lines::print_bytes(rt, &file[from..to])?;
+    let _ = build_list(caller, &list, count, &pools, identity(), &mut file);
+    if let Some(bytes) = file.get(from..to) {
+        rt.print("bytes")?;
+        lines::print_bytes(rt, bytes)?;
     }
     Ok(())
 }
