@@ -10,10 +10,10 @@ ghost use Rattle.sections.specs.Read.{file_records};
 ghost use Rattle.read.specs.Fillable.{AreEvents, Fillable};
 
 use codec_section::event;
-use codec_section::event::EventRead;
 use eit::Record;
 use eit::limits::{EVENT_OVERHEAD, HEADER_SIZE};
 use list_records::records;
+use read_walk::events;
 
 // The records of an event loop that begins at `from` in the file, written from record `place` on. Returns the place
 // behind them.
@@ -33,22 +33,15 @@ fn fill_events(
         × (result ≡ place + length (split_by stated_event_size events.now)) }
 {
     let mut n = place;
-    let mut at = 0;
-    while at < events.len() {
-        let EventRead::Whole(shown) = event::read_event(&events[at..], base_day) else {
+    let mut at = from;
+    for bytes in events::events(events) {
+        let Some(event) = event::read_event(bytes, base_day) else {
             return n;
         };
-        let event = Record {
-            id: shown.id,
-            start: shown.start,
-            duration: shown.duration,
-            marks: shown.marks,
-            offset: (from + at + EVENT_OVERHEAD) as u32,
-            chain_length: shown.chain_length,
-        };
-        records::write_record(records, n, event);
+        let offset = (at + EVENT_OVERHEAD) as u32;
+        records::write_record(records, n, Record { offset, ..event });
         n += 1;
-        at += EVENT_OVERHEAD + shown.chain_length as usize;
+        at += bytes.len();
     }
     n
 }
@@ -62,16 +55,13 @@ pub fn fill_file(records: &mut [u32], file: &[u8], base_day: u32)
         ≡ overwrite records.old 0 (numbers_of_all (file_records base_day file.now)) }
 {
     let mut n = 0;
-    let mut offset = 0;
-    while offset < file.len() {
-        let section = read_walk::read_section(file, offset);
+    for (offset, section) in read_walk::sections(file) {
         n = fill_events(
             records,
             n,
-            read_walk::event_loop(section),
+            events::event_loop(section),
             offset + HEADER_SIZE,
             base_day,
         );
-        offset = read_walk::next_offset(file, offset);
     }
 }

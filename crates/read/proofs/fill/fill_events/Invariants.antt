@@ -1,12 +1,11 @@
--- `fill::fill_events`: before each turn the records are filled in as `FillSoFar` says. The measure is what is left of
--- the loop.
-use Prim.Native.Nat.{◌-◌}
-use lib.ListN.{length}
+-- `fill::fill_events`: before each turn the records are filled in as `FillSoFar` says.
+use Rattle.sections.specs.Decode.{stated_event_size}
+use Rattle.sections.specs.Split.{split_by}
+use Rattle.read_walk.specs.EventsLeft.{events_left}
 use Rattle.read.proofs.FillLaws.{FillSoFar}
 use Rattle.read.proofs.fill.fill_events.Given as goal
 
-abbrev pub invariant-loop-at : goal.invariant-loop-at
-invariant-loop-at l = FillSoFar l.base_day l.from l.place l.events l.fn.records l.records l.n l.at
-
-abbrev pub decreases-loop-at : goal.decreases-loop-at
-decreases-loop-at l = length l.events - l.at
+abbrev pub invariant-loop-bytes : goal.invariant-loop-bytes
+invariant-loop-bytes l =
+    FillSoFar l.base_day l.from l.place (split_by stated_event_size l.events) l.fn.records l.records l.n l.at
+    (events_left l.bytes-iterator)

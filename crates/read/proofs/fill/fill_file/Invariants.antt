@@ -1,12 +1,9 @@
--- `fill::fill_file`: before each turn the records are filled in as `FileSoFar` says. The measure is what is left of the
--- file.
-use Prim.Native.Nat.{◌-◌}
-use lib.ListN.{length}
+-- `fill::fill_file`: before each turn the records are filled in as `FileSoFar` says, up to the reader's offset.
+use Rattle.std.proofs.Common.{◌≡◌}
 use Rattle.read.proofs.FileLaws.{FileSoFar}
 use Rattle.read.proofs.fill.fill_file.Given as goal
 
 abbrev pub invariant-loop-offset : goal.invariant-loop-offset
-invariant-loop-offset l = FileSoFar l.base_day l.file l.fn.records l.records l.n l.offset
-
-abbrev pub decreases-loop-offset : goal.decreases-loop-offset
-decreases-loop-offset l = length l.file - l.offset
+invariant-loop-offset l =
+    (l.offset-iterator.file.now ≡ l.file)
+    × FileSoFar l.base_day l.file l.fn.records l.records l.n l.offset-iterator.offset
