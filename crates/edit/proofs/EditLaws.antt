@@ -4,12 +4,13 @@ use mathlib.Core.Path.{◌≡◌, refl, sym, ap, ◌∙◌, subst}
 use mathlib.Core.Bool.{Bool, true, false, not}
 use Prim.Native.Nat.{ℕ, ◌*◌, ◌≤◌}
 use mathlib.Core.List.{List, [], ◌∷◌}
+use Rattle.std.specs.Prelude.{Ok, Err}
 use native.Mathlib.Omega.{arith}
 use lib.Dec.{T}
 use lib.ListN.{length, take}
 use lib.Seq.{take_all}
 use Rattle.eit.specs.declared.Sizes.{Sizes}
-use Rattle.eit.specs.Pools.{lent_pools}
+use Rattle.eit.specs.Pools.{Pools}
 use Rattle.eit.specs.Records.{EventList}
 use Rattle.eit.specs.Sound.{sound}
 use Rattle.script.specs.Form.{Command, form_of}
@@ -18,59 +19,59 @@ use Rattle.script.specs.Edit.{edit, run, refusal}
 use Rattle.script.proofs.Edit.{edit_unsound, edit_broken, edit_nothing, edit_runs}
 use Rattle.edit_scan.specs.Commands.{scan_found, commands_at}
 use Rattle.edit_scan.specs.Places.{UndoPlaces, striking_noted}
-use Rattle.edit_scan.specs.declared.scan.Scanned.TheVariants.{Broken, NothingToUndo, Whole}
+use Rattle.edit_scan.specs.declared.scan.ScriptError.TheVariants.{Broken, NothingToUndo}
 use Rattle.edit_scan.proofs.NotedLaws.{noted_undos, striking_noted_holds}
 use Rattle.edit_scan.proofs.ScanLaws.{scan_broken_is, scan_undone_form, scan_nothing_is, scan_whole_form}
 use Rattle.edit_scan.proofs.ScanLaws.{scan_count_is, scan_struck_is}
 use Rattle.edit.specs.Run.{run_part}
 use Rattle.edit.proofs.RunLaws.{none_done}
 
-module _ (sizes : Sizes) (day series : List ℕ) (list : EventList) where
+module _ (sizes : Sizes) (pools : Pools) (list : EventList) where
   -- b is what the soundness pass says
-  module _ (b : Bool) (says : b ≡ sound sizes (lent_pools day series) list) where
-    pub is_sound_holds : b ≡ true → T (sound sizes (lent_pools day series) list)
+  module _ (b : Bool) (says : b ≡ sound sizes pools list) where
+    pub is_sound_holds : b ≡ true → T (sound sizes pools list)
     is_sound_holds e = subst T says (rw e tt)
 
-    pub edit_12 : (script : List ℕ) → b ≡ false → edit sizes (lent_pools day series) list script ≡ refusal 12 0 list
+    pub edit_12 : (script : List ℕ) → b ≡ false → edit sizes pools list script ≡ refusal 12 0 list
     edit_12 script e =
-        let unsound : T (not (sound sizes (lent_pools day series) list)) =
+        let unsound : T (not (sound sizes pools list)) =
         subst (λ (s : Bool). T (not s)) says (rw e tt) in
-        edit_unsound sizes (lent_pools day series) list script unsound
+        edit_unsound sizes pools list script unsound
 
-  module _ (its-sound : T (sound sizes (lent_pools day series) list)) where
+  module _ (its-sound : T (sound sizes pools list)) where
     -- no byte
     pub edit_none : (script : List ℕ) → length script ≡ 0
-        → edit sizes (lent_pools day series) list script ≡ record { number = 0; value = list.count; list = list }
+        → edit sizes pools list script ≡ record { number = 0; value = list.count; list = list }
     unfolding form_of unstruck_in
     edit_none [] z =
-        edit_runs sizes (lent_pools day series) list [] its-sound [] [] refl refl
-        ∙ none_done sizes (lent_pools day series) list
+        edit_runs sizes pools list [] its-sound [] [] refl refl
+        ∙ none_done sizes pools list
     edit_none (b ∷ script) z = absurd (omega arith)
 
     module _ (script : List ℕ) where
-      pub edit_3 : (at : ℕ) → scan_found (form_of script) ≡ Broken at
-          → edit sizes (lent_pools day series) list script ≡ refusal 3 at list
-      edit_3 at f = edit_broken sizes (lent_pools day series) list script its-sound at (scan_broken_is script at f)
+      pub edit_3 : (at : ℕ) → scan_found (form_of script) ≡ Err (Broken at)
+          → edit sizes pools list script ≡ refusal 3 at list
+      edit_3 at f = edit_broken sizes pools list script its-sound at (scan_broken_is script at f)
 
-      pub edit_4 : (at : ℕ) → scan_found (form_of script) ≡ NothingToUndo at
-          → edit sizes (lent_pools day series) list script ≡ refusal 4 at list
+      pub edit_4 : (at : ℕ) → scan_found (form_of script) ≡ Err (NothingToUndo at)
+          → edit sizes pools list script ≡ refusal 4 at list
       edit_4 at f =
-          edit_nothing sizes (lent_pools day series) list script its-sound (commands_at 0 script) at
+          edit_nothing sizes pools list script its-sound (commands_at 0 script) at
           (scan_undone_form script at f) (scan_nothing_is script at f)
 
-      module _ (k : ℕ) (whole : scan_found (form_of script) ≡ Whole k) where
+      module _ (k : ℕ) (whole : scan_found (form_of script) ≡ Ok k) where
         pub all_commands : take k (commands_at 0 script) ≡ commands_at 0 script
         all_commands = take_all k (commands_at 0 script) (omega (arith, scan_count_is script k whole))
 
         -- the part that has all commands, with no UNDO behind it
-        pub edit_goes_on : edit sizes (lent_pools day series) list script ≡ run_part sizes day series list 0 k 0 script
+        pub edit_goes_on : edit sizes pools list script ≡ run_part sizes pools list 0 k 0 script
         edit_goes_on =
-            edit_runs sizes (lent_pools day series) list script its-sound (commands_at 0 script)
+            edit_runs sizes pools list script its-sound (commands_at 0 script)
             (live 0 (commands_at 0 script)) (scan_whole_form script k whole) (scan_struck_is script k whole)
-            ∙ ap (λ (cs : List Command). run sizes (lent_pools day series) list (live 0 cs)) (sym all_commands)
+            ∙ ap (λ (cs : List Command). run sizes pools list (live 0 cs)) (sym all_commands)
 
 -- the places that the pass over the script has noted
-pub edit_noted : (script : List ℕ) (k : ℕ) → scan_found (form_of script) ≡ Whole k → (places : List ℕ)
+pub edit_noted : (script : List ℕ) (k : ℕ) → scan_found (form_of script) ≡ Ok k → (places : List ℕ)
     → k ≤ 64 * length places → (noted : List ℕ) → noted ≡ striking_noted 0 places 0 (commands_at 0 script)
     → UndoPlaces noted (take k (commands_at 0 script))
 edit_noted script k whole places room noted are =

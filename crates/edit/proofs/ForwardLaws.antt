@@ -7,7 +7,7 @@ use Prim.Native.Nat.{ℕ, ◌+◌, ◌≤◌, ◌<◌}
 use lib.Dec.{T}
 use lib.ListN.{length, drop, drop_of_length-le}
 use Rattle.eit.specs.declared.Sizes.{Sizes}
-use Rattle.eit.specs.Pools.{lent_pools}
+use Rattle.eit.specs.Pools.{Pools}
 use Rattle.eit.specs.Records.{EventList}
 use Rattle.eit.specs.Sound.{sound}
 use Rattle.codec.specs.Seen.{is_seen}
@@ -20,27 +20,27 @@ use Rattle.edit_scan.proofs.LiveLaws.{live_begins, live_passes}
 use Rattle.edit.specs.Run.{run_one}
 use Rattle.edit.proofs.RunLaws.{none_done, run_ends}
 
-module _ (sizes : Sizes) (day series : List ℕ) (first : EventList) (places : List ℕ) (cs : List Command) where
+module _ (sizes : Sizes) (pools : Pools) (first : EventList) (places : List ℕ) (cs : List Command) where
   -- all live edits on the first list come to those from this place on on this list, which is sound
   pub record Carried (list : EventList) (place : ℕ) : Type 0 where
-    pub is_sound_holds : T (sound sizes (lent_pools day series) list)
+    pub is_sound_holds : T (sound sizes pools list)
     pub left : (undos : ℕ) → LivePlaces places undos cs
-        → run sizes (lent_pools day series) first (live undos cs)
-        ≡ run sizes (lent_pools day series) list (live undos (drop place cs))
+        → run sizes pools first (live undos cs)
+        ≡ run sizes pools list (live undos (drop place cs))
 
-  pub carried_none : T (sound sizes (lent_pools day series) first) → Carried first 0
+  pub carried_none : T (sound sizes pools first) → Carried first 0
   carried_none t = record { is_sound_holds = t; left = λ undos are. refl }
 
   module _ {list : EventList} {place : ℕ} (d : Carried list place) where
     -- no place is left
     pub carried_all : length cs ≤ place → (undos : ℕ) → LivePlaces places undos cs
-        → run sizes (lent_pools day series) first (live undos cs)
+        → run sizes pools first (live undos cs)
         ≡ record { number = 0; value = list.count; list = list }
     carried_all all undos are =
         d.left undos are
-        ∙ ap (λ (rest : List Command). run sizes (lent_pools day series) list (live undos rest))
+        ∙ ap (λ (rest : List Command). run sizes pools list (live undos rest))
         (drop_of_length-le cs {i = place} all)
-        ∙ none_done sizes (lent_pools day series) list
+        ∙ none_done sizes pools list
 
     -- c is the command at the place
     module _ (some : place < length cs) (c : Command) (split : drop place cs ≡ c ∷ drop (place + 1) cs) where
@@ -50,40 +50,40 @@ module _ (sizes : Sizes) (day series : List ℕ) (first : EventList) (places : L
             is_sound_holds = d.is_sound_holds;
             left = λ undos are.
                 d.left undos are
-                ∙ ap (run sizes (lent_pools day series) list)
+                ∙ ap (run sizes pools list)
                 (ap (live undos) split
                 ∙ live_passes undos c (drop (place + 1) cs)
                 (sym (ap (begins_live undos) split) ∙ sym (are place some) ∙ e));
           }
 
       -- o is what it comes to
-      module _ (e : is_seen places place ≡ true) (o : Edited) (does : run_one sizes day series list c ≡ o) where
+      module _ (e : is_seen places place ≡ true) (o : Edited) (does : run_one sizes pools list c ≡ o) where
         with_it : (undos : ℕ) → LivePlaces places undos cs
-            → run sizes (lent_pools day series) first (live undos cs)
-            ≡ run sizes (lent_pools day series) list (edits_of c ++ live undos (drop (place + 1) cs))
+            → run sizes pools first (live undos cs)
+            ≡ run sizes pools list (edits_of c ++ live undos (drop (place + 1) cs))
         with_it undos are =
             d.left undos are
-            ∙ ap (run sizes (lent_pools day series) list)
+            ∙ ap (run sizes pools list)
             (ap (live undos) split
             ∙ live_begins undos c (drop (place + 1) cs) (sym (ap (begins_live undos) split) ∙ sym (are place some) ∙ e))
 
         pub carried_ends : (o.number ≡ 0 → ⊥) → (undos : ℕ) → LivePlaces places undos cs
-            → run sizes (lent_pools day series) first (live undos cs) ≡ o
+            → run sizes pools first (live undos cs) ≡ o
         carried_ends refuses undos are =
             with_it undos are
-            ∙ run_ends sizes (lent_pools day series) list (edits_of c) (live undos (drop (place + 1) cs))
+            ∙ run_ends sizes pools list (edits_of c) (live undos (drop (place + 1) cs))
             (λ z. refuses (sym (ap (λ (x : Edited). x.number) does) ∙ z))
             ∙ does
 
         pub carried_on : o.number ≡ 0 → Carried o.list (place + 1)
         carried_on z =
             record {
-              is_sound_holds = subst (λ (x : Edited). T (sound sizes (lent_pools day series) x.list)) does
-                  (run_sound sizes (lent_pools day series) list (edits_of c) d.is_sound_holds);
+              is_sound_holds = subst (λ (x : Edited). T (sound sizes pools x.list)) does
+                  (run_sound sizes pools list (edits_of c) d.is_sound_holds);
               left = λ undos are.
                   with_it undos are
-                  ∙ run_append sizes (lent_pools day series) list (edits_of c) (live undos (drop (place + 1) cs))
+                  ∙ run_append sizes pools list (edits_of c) (live undos (drop (place + 1) cs))
                   (ap (λ (x : Edited). x.number) does ∙ z)
-                  ∙ ap (λ (x : Edited). run sizes (lent_pools day series) x.list (live undos (drop (place + 1) cs)))
+                  ∙ ap (λ (x : Edited). run sizes pools x.list (live undos (drop (place + 1) cs)))
                   does;
             }

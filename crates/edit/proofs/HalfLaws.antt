@@ -8,7 +8,7 @@ use lib.Dec.{T}
 use lib.ListN.{length, drop, take, length-take, length-drop}
 use lib.Seq.{take-add}
 use Rattle.eit.specs.declared.Sizes.{Sizes}
-use Rattle.eit.specs.Pools.{lent_pools}
+use Rattle.eit.specs.Pools.{Pools}
 use Rattle.eit.specs.Records.{EventList}
 use Rattle.eit.specs.Sound.{sound}
 use Rattle.script.specs.Form.{Command}
@@ -48,46 +48,46 @@ module _ (script : List ℕ) (k at h mid : ℕ) (fits : h ≤ k) (there : mid �
 
 -- ---- what is carried out
 
-module _ (sizes : Sizes) (day series : List ℕ) (list : EventList) (script : List ℕ) where
+module _ (sizes : Sizes) (pools : Pools) (list : EventList) (script : List ℕ) where
   module _ (p k at : ℕ) where
     -- as many UNDOs as commands strike all
     pub part_struck : k ≤ p
-        → run_part sizes day series list p k at script ≡ record { number = 0; value = list.count; list = list }
+        → run_part sizes pools list p k at script ≡ record { number = 0; value = list.count; list = list }
     part_struck h =
-        ap (run sizes (lent_pools day series) list)
+        ap (run sizes pools list)
         (live_none p (take k (commands_at at script)) (omega (arith, length-take k (commands_at at script))))
-        ∙ none_done sizes (lent_pools day series) list
+        ∙ none_done sizes pools list
 
     -- o is what the first half comes to
     module _ (h mid : ℕ) (fits : h ≤ k) (there : mid ≡ offset_behind h at script)
         (q : ℕ) (before : q ≡ pending_before p (take (k - h) (commands_at mid script)))
-        (o : Edited) (does : run_part sizes day series list q h at script ≡ o) where
-      halves : run_part sizes day series list p k at script
-          ≡ run sizes (lent_pools day series) list
+        (o : Edited) (does : run_part sizes pools list q h at script ≡ o) where
+      halves : run_part sizes pools list p k at script
+          ≡ run sizes pools list
           (live q (take h (commands_at at script)) ++ live p (take (k - h) (commands_at mid script)))
-      halves = ap (run sizes (lent_pools day series) list) (live_halves script k at h mid fits there p q before)
+      halves = ap (run sizes pools list) (live_halves script k at h mid fits there p q before)
 
       -- a refusal in the first half ends the run
-      pub half_ends : (o.number ≡ 0 → ⊥) → run_part sizes day series list p k at script ≡ o
+      pub half_ends : (o.number ≡ 0 → ⊥) → run_part sizes pools list p k at script ≡ o
       half_ends refuses =
           halves
-          ∙ run_ends sizes (lent_pools day series) list (live q (take h (commands_at at script)))
+          ∙ run_ends sizes pools list (live q (take h (commands_at at script)))
           (live p (take (k - h) (commands_at mid script))) (λ z. refuses (sym (ap (λ (e : Edited). e.number) does) ∙ z))
           ∙ does
 
       -- otherwise the second half goes on with its list
       pub half_goes_on : o.number ≡ 0
-          → run_part sizes day series list p k at script ≡ run_part sizes day series o.list p (k - h) mid script
+          → run_part sizes pools list p k at script ≡ run_part sizes pools o.list p (k - h) mid script
       half_goes_on z =
           halves
-          ∙ run_append sizes (lent_pools day series) list (live q (take h (commands_at at script)))
+          ∙ run_append sizes pools list (live q (take h (commands_at at script)))
           (live p (take (k - h) (commands_at mid script))) (ap (λ (e : Edited). e.number) does ∙ z)
-          ∙ ap (λ (e : Edited). run_part sizes day series e.list p (k - h) mid script) does
+          ∙ ap (λ (e : Edited). run_part sizes pools e.list p (k - h) mid script) does
 
     -- a part leaves a sound list
-    pub part_sound : (o : Edited) → run_part sizes day series list p k at script ≡ o
-        → T (sound sizes (lent_pools day series) list)
-        → T (sound sizes (lent_pools day series) o.list)
+    pub part_sound : (o : Edited) → run_part sizes pools list p k at script ≡ o
+        → T (sound sizes pools list)
+        → T (sound sizes pools o.list)
     part_sound o does t =
-        subst (λ (x : Edited). T (sound sizes (lent_pools day series) x.list)) does
-        (run_sound sizes (lent_pools day series) list (live p (take k (commands_at at script))) t)
+        subst (λ (x : Edited). T (sound sizes pools x.list)) does
+        (run_sound sizes pools list (live p (take k (commands_at at script))) t)

@@ -10,6 +10,13 @@ use Rattle.script.specs.Form.{Edit}
 use Rattle.script.specs.Machine.{Step, done, refused, step}
 use Rattle.script.specs.Edit.{Edited, run_by, run}
 use Rattle.script.proofs.Edit.{run_done, run_refused}
+use Rattle.edit_answer.specs.Outcome.{error_number}
+use Rattle.edit_answer.specs.declared.EditError.{EditError}
+use Rattle.std.proofs.Common.{rules}
+
+-- 0 is the number of success alone
+pub refusal_some : (e : EditError) → error_number e ≡ 0 → ⊥
+refusal_some e z = search (rules, z)
 
 module _ (sizes : Sizes) (pools : Pools) where
   module _ (list : EventList) (e : Edit) where

@@ -7,7 +7,7 @@ use native.Mathlib.Omega.{arith}
 use lib.Dec.{T}
 use lib.ListN.{length, get_or, length-map, get_or-map}
 use Rattle.eit.specs.declared.Sizes.{Sizes}
-use Rattle.eit.specs.Pools.{Pools, lent_pools}
+use Rattle.eit.specs.Pools.{Pools}
 use Rattle.eit.specs.Among.{is_among}
 use Rattle.eit.specs.Records.{lent_list, record_size, records_of, records_in}
 use Rattle.eit.specs.Sound.{ids_of, all_valid, sound}
@@ -17,9 +17,10 @@ use Rattle.eit.proofs.Events.{rising_any}
 use Rattle.eit.proofs.Records.{records_length, record_at_holds}
 use Rattle.eit.proofs.Sound.{RecordFacts, sound_list, valid_at, range_facts}
 use Rattle.script.specs.Machine.{zero_record}
-use Rattle.edit_index.specs.Index.{slot_limit, id_limit, Index, slot_record, held_records, Holds, loaded, indexed_list}
+use Rattle.edit_index.specs.declared.index.Index.{Index}
+use Rattle.edit_index.specs.Index.{slot_limit, id_limit, slot_record, held_records, Holds, loaded, indexed_list}
 use Rattle.edit_index.proofs.IndexLaws.{index_records, indexed_own}
-use Rattle.edit_index.proofs.LoadLaws.{Loadable, loaded_holds, loaded_records}
+use Rattle.edit_index.proofs.LoadLaws.{Loadable, loaded_holds, loaded_count, loaded_records}
 use Rattle.edit.specs.Indexed.{Kept}
 
 -- ids of valid records are small
@@ -36,27 +37,24 @@ ids_small pools rs valid id a =
     )
 
 -- what an edit asks of an index
-pub kept_sound : (sizes : Sizes) (day series list : List ℕ) (x : Index) (count : ℕ) → Holds x count
-    → count * record_size ≤ length list → T (sound sizes (lent_pools day series) (indexed_list list x count))
-    → Kept list x count
-kept_sound sizes day series list x count h fits t =
-    let pools : Pools = lent_pools day series in
-    let facts : RecordFacts pools (held_records count x) =
+pub kept_sound : (sizes : Sizes) (pools : Pools) (list : List ℕ) (x : Index) → Holds x
+    → x.count * record_size ≤ length list → T (sound sizes pools (indexed_list list x)) → Kept list x
+kept_sound sizes pools list x h fits t =
+    let facts : RecordFacts pools (held_records x) =
     subst (RecordFacts pools) (index_records h list) (sound_list sizes pools _ t).records in
     record {
       holds = h;
       fits = fits;
-      rises = λ any. rising_any pools any (held_records count x) facts.rises;
+      rises = λ any. rising_any pools any (held_records x) facts.rises;
       differ = facts.differ;
-      small = ids_small pools (held_records count x) facts.valid;
+      small = ids_small pools (held_records x) facts.valid;
     }
 
 -- what an index is made from
-pub loadable_sound : (sizes : Sizes) (day series list : List ℕ) (count : ℕ) → sizes.event_limit ≤ slot_limit
-    → T (sound sizes (lent_pools day series) (lent_list list count)) → Loadable list count
+pub loadable_sound : (sizes : Sizes) (pools : Pools) (list : List ℕ) (count : ℕ) → sizes.event_limit ≤ slot_limit
+    → T (sound sizes pools (lent_list list count)) → Loadable list count
 unfolding records_of
-loadable_sound sizes day series list count capacity t =
-    let pools : Pools = lent_pools day series in
+loadable_sound sizes pools list count capacity t =
     let facts = sound_list sizes pools (lent_list list count) t in
     let rs : List Record = records_in count list in
     let its_id : (i : ℕ) → i < count → get_or (ids_of rs) i 0 ≡ (slot_record list i).id =
@@ -73,19 +71,26 @@ loadable_sound sizes day series list count capacity t =
     }
 
 -- an index that is made from it holds its records, and stands for it
-module _ (sizes : Sizes) (day series list : List ℕ) (count : ℕ) (capacity : sizes.event_limit ≤ slot_limit)
-    (t : T (sound sizes (lent_pools day series) (lent_list list count))) (begun : Index) (none : Holds begun 0)
+module _ (sizes : Sizes) (pools : Pools) (list : List ℕ) (count : ℕ) (capacity : sizes.event_limit ≤ slot_limit)
+    (t : T (sound sizes pools (lent_list list count))) (begun : Index) (none : Holds begun) (empty : begun.count ≡ 0)
     (x : Index) (made : x ≡ loaded list count begun) where
-  pub made_holds : Holds x count
-  made_holds =
-      rw made (loaded_holds list none count (loadable_sound sizes day series list count capacity t))
+  its : Loadable list count
+  its = loadable_sound sizes pools list count capacity t
 
-  pub made_fits : count * record_size ≤ length list
-  made_fits = (sound_list sizes (lent_pools day series) (lent_list list count) t).held
+  pub made_holds : Holds x
+  made_holds = rw made (loaded_holds list none empty count its)
 
-  pub made_stands : indexed_list list x count ≡ lent_list list count
+  made_count : x.count ≡ count
+  made_count = ap (λ (y : Index). y.count) made ∙ loaded_count list none empty count its
+
+  pub made_fits : x.count * record_size ≤ length list
+  made_fits = rw made_count (sound_list sizes pools (lent_list list count) t).held
+
+  pub made_stands : indexed_list list x ≡ lent_list list count
   unfolding records_of
   made_stands =
-      indexed_own list x count made_fits
-      (ap (held_records count) made
-      ∙ loaded_records list none count (loadable_sound sizes day series list count capacity t))
+      indexed_own list x made_fits
+      (ap held_records made
+      ∙ loaded_records list none empty count its
+      ∙ ap (λ (n : ℕ). records_in n list) (sym made_count))
+      ∙ ap (lent_list list) made_count

@@ -1,6 +1,6 @@
 -- What the machine's edits ask of the index that they run on and of the lent list, and what they leave: the list that
 -- the index stands for is the plain machine's (01, "Edit"). Laws: proofs/IndexedLaws.antt. Assumes nothing.
-use Rattle.std.specs.Prelude.{◌≡◌, ℕ, ◌-◌, ◌*◌, ◌≤◌, ◌<◌, true, false, List, T, leb, length}
+use Rattle.std.specs.Prelude.{◌≡◌, ℕ, ◌-◌, ◌*◌, ◌≤◌, ◌<◌, true, false, List, Result, T, leb, length}
 use Rattle.eit.specs.Among.{is_among, all_differ}
 use Rattle.eit.specs.Records.{record_size}
 use Rattle.eit.specs.Events.{events_in, rising}
@@ -8,8 +8,9 @@ use Rattle.eit.specs.Pools.{Pools}
 use Rattle.eit.specs.Sound.{ids_of}
 use Rattle.script.specs.Edit as model
 use Rattle.edit_answer.specs.Outcome.{outcome_of}
-use Rattle.edit_answer.specs.declared.Edited.{Edited}
-use Rattle.edit_index.specs.Index.{id_limit, Index, held_records, Holds, indexed_numbers}
+use Rattle.edit_answer.specs.declared.EditError.{EditError}
+use Rattle.edit_index.specs.Index.{id_limit, held_records, Holds, indexed_numbers}
+use Rattle.edit_index.specs.declared.index.Index.{Index}
 
 -- the place of a start, of `place`, once the record before place `out` is taken out
 abbrev pub place_left : ℕ → ℕ → ℕ
@@ -17,15 +18,15 @@ place_left place out = elim (leb out place) [ true ↦ place - 1 | false ↦ pla
 
 -- before an edit: an index of records each of which follows the one before, whose ids differ, and room for them in the
 -- lent list
-pub record Kept (list : List ℕ) (x : Index) (count : ℕ) : Type 0 where
-  pub holds : Holds x count
-  pub fits : count * record_size ≤ length list
-  pub rises : (pools : Pools) → T (rising (events_in pools (held_records count x)))
-  pub differ : T (all_differ (ids_of (held_records count x)))
-  pub small : (id : ℕ) → T (is_among id (ids_of (held_records count x))) → id < id_limit
+pub record Kept (list : List ℕ) (x : Index) : Type 0 where
+  pub holds : Holds x
+  pub fits : x.count * record_size ≤ length list
+  pub rises : (pools : Pools) → T (rising (events_in pools (held_records x)))
+  pub differ : T (all_differ (ids_of (held_records x)))
+  pub small : (id : ℕ) → T (is_among id (ids_of (held_records x))) → id < id_limit
 
 -- after it: o is what the plain machine comes to
-pub record Leaves (o : model.Edited) (r : Edited) (list : List ℕ) (x : Index) : Type 0 where
-  pub says : o ≡ outcome_of r (indexed_numbers list x r.count)
-  pub holds : Holds x r.count
-  pub fits : r.count * record_size ≤ length list
+pub record Leaves (o : model.Edited) (r : Result (Unit {0}) EditError) (list : List ℕ) (x : Index) : Type 0 where
+  pub says : o ≡ outcome_of r x.count (indexed_numbers list x)
+  pub holds : Holds x
+  pub fits : x.count * record_size ≤ length list

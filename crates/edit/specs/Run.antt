@@ -2,7 +2,7 @@
 -- a script. Laws: proofs/RunLaws.antt, HalfLaws.antt. Assumes nothing.
 use Rattle.std.specs.Prelude.{ℕ, List, take}
 use Rattle.eit.specs.declared.Sizes.{Sizes}
-use Rattle.eit.specs.Pools.{lent_pools}
+use Rattle.eit.specs.Pools.{Pools}
 use Rattle.eit.specs.Records.{EventList}
 use Rattle.script.specs.Form.{Command}
 use Rattle.script.specs.Struck.{live}
@@ -11,10 +11,9 @@ use Rattle.edit_scan.specs.Commands.{commands_at}
 use Rattle.edit_scan.specs.Places.{edits_of}
 
 -- the list after one command
-abbrev pub run_one : Sizes → List ℕ → List ℕ → EventList → Command → Edited
-run_one sizes day series list c = run sizes (lent_pools day series) list (edits_of c)
+abbrev pub run_one : Sizes → Pools → EventList → Command → Edited
+run_one sizes pools list c = run sizes pools list (edits_of c)
 
 -- and after the live edits among k commands from the offset `at` on, with so many UNDOs pending behind these
-abbrev pub run_part : Sizes → List ℕ → List ℕ → EventList → ℕ → ℕ → ℕ → List ℕ → Edited
-run_part sizes day series list undos k at script =
-    run sizes (lent_pools day series) list (live undos (take k (commands_at at script)))
+abbrev pub run_part : Sizes → Pools → EventList → ℕ → ℕ → ℕ → List ℕ → Edited
+run_part sizes pools list undos k at script = run sizes pools list (live undos (take k (commands_at at script)))

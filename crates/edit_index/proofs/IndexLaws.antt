@@ -2,10 +2,13 @@
 -- the laws of slots. Assumes nothing.
 use mathlib.Core.Path.{◌≡◌, sym, ap, ◌∙◌}
 use mathlib.Core.Logic.{⊎_elim}
-use mathlib.Core.Bool.{not}
+use mathlib.Core.Bool.{true, false, not}
+use Rattle.std.specs.Prelude.{Some, None}
+use Rattle.std.specs.Option.{is_some}
 use mathlib.Core.List.{List, ◌++◌}
 use Prim.Native.Nat.{ℕ, ◌*◌, ◌≤◌, ◌<◌}
 use native.Mathlib.Omega.{arith}
+use borrow.Author.Tests.{eq-eqb, ne_eqb}
 use lib.Dec.{T, not_T}
 use lib.ListN.{length, get_or, take, drop, length-map, take-append-drop}
 use lib.Seq.{length-take-le, get_or-take}
@@ -20,13 +23,13 @@ use Rattle.eit.proofs.Find.{position_length}
 use Rattle.eit.proofs.Overwrite.{over_self}
 use Rattle.eit.proofs.Placing.{place_search}
 use Rattle.eit.proofs.Records.{records_written, numbers_back}
-use Rattle.eit.proofs.Test.{test_or}
+use Rattle.eit.proofs.Test.{test_or, eq_or_not}
 use Rattle.script.specs.Machine.{find, zero_record}
 use Rattle.script.proofs.Places.{find_at}
 use Rattle.edit_index.specs.Order.{slot_in, slots_in}
 use Rattle.edit_index.specs.declared.index.Index.{Index}
 use Rattle.edit_index.specs.Index.{slot_limit, id_limit, no_slot, slot_record, held_slots, held_starts}
-use Rattle.edit_index.specs.Index.{held_records, AllBelow, Holds, indexed_numbers, indexed_list}
+use Rattle.edit_index.specs.Index.{held_records, slot_led, record_led, AllBelow, Holds, indexed_numbers, indexed_list}
 use Rattle.edit_index.proofs.SlotLaws.{below_at, below_front, map_joined, map_at, slot_none, slot_some}
 
 module _ {x : Index} (h : Holds x) where
@@ -105,6 +108,43 @@ module _ {x : Index} (h : Holds x) where
         ⊎_elim (λ a. a)
         (λ n. absurd (some (h.found id small ∙ slot_none (slot_record x.slots) id (held_slots x) n)))
         (test_or (is_among id (ids_of (held_records x))))
+
+-- ---- what the lookups of an id say
+
+module _ (x : Index) (id : ℕ) where
+  abbrev slot : ℕ
+  slot = get_or x.ids id no_slot
+
+  module _ (none : get_or x.ids id no_slot ≡ no_slot) where
+    slot_away : slot_led x id ≡ None
+    slot_away = rw (slot_led, eq-eqb slot no_slot none)
+
+    record_away : record_led x id ≡ None
+    record_away = rw (record_led, eq-eqb slot no_slot none)
+
+  module _ (some : get_or x.ids id no_slot ≡ no_slot → ⊥) where
+    slot_there : slot_led x id ≡ Some slot
+    slot_there = rw (slot_led, ne_eqb slot no_slot some)
+
+    record_there : record_led x id ≡ Some (slot_record x.slots slot)
+    record_there = rw (record_led, ne_eqb slot no_slot some)
+
+  pub record_none : None ≡ record_led x id → get_or x.ids id no_slot ≡ no_slot
+  record_none e =
+      ⊎_elim (λ none. none) (λ some. let there = record_there some in cc) (eq_or_not slot no_slot)
+
+  pub record_some : (r : Record) → Some r ≡ record_led x id
+      → (get_or x.ids id no_slot ≡ no_slot → ⊥) × (r ≡ slot_record x.slots (get_or x.ids id no_slot))
+  record_some r e =
+      ⊎_elim (λ none. let away = record_away none in cc)
+      (λ some. let there = record_there some in (some, cc)) (eq_or_not slot no_slot)
+
+  pub slot_none_found : is_some (slot_led x id) ≡ false → get_or x.ids id no_slot ≡ no_slot
+  slot_none_found e =
+      ⊎_elim (λ none. none) (λ some. let there = ap is_some (slot_there some) in cc) (eq_or_not slot no_slot)
+
+  pub slot_found : is_some (slot_led x id) ≡ true → get_or x.ids id no_slot ≡ no_slot → ⊥
+  slot_found e none = let away = ap is_some (slot_away none) in cc
 
 -- ---- an index of a list's own records
 
