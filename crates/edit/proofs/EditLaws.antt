@@ -19,6 +19,9 @@ use Rattle.script.specs.Edit.{edit, run, refusal}
 use Rattle.script.proofs.Edit.{edit_unsound, edit_broken, edit_nothing, edit_runs}
 use Rattle.edit_scan.specs.Commands.{scan_found, commands_at}
 use Rattle.edit_scan.specs.Places.{UndoPlaces, striking_noted}
+use Rattle.edit_answer.specs.Outcome.{outcome_of}
+use Rattle.edit_answer.specs.declared.EditError.TheVariants.{Script}
+use Rattle.edit_scan.specs.declared.scan.ScriptError.{ScriptError}
 use Rattle.edit_scan.specs.declared.scan.ScriptError.TheVariants.{Broken, NothingToUndo}
 use Rattle.edit_scan.proofs.NotedLaws.{noted_undos, striking_noted_holds}
 use Rattle.edit_scan.proofs.ScanLaws.{scan_broken_is, scan_undone_form, scan_nothing_is, scan_whole_form}
@@ -49,15 +52,20 @@ module _ (sizes : Sizes) (pools : Pools) (list : EventList) where
     edit_none (b ∷ script) z = absurd (omega arith)
 
     module _ (script : List ℕ) where
-      pub edit_3 : (at : ℕ) → scan_found (form_of script) ≡ Err (Broken at)
+      edit_3 : (at : ℕ) → scan_found (form_of script) ≡ Err (Broken at)
           → edit sizes pools list script ≡ refusal 3 at list
       edit_3 at f = edit_broken sizes pools list script its-sound at (scan_broken_is script at f)
 
-      pub edit_4 : (at : ℕ) → scan_found (form_of script) ≡ Err (NothingToUndo at)
+      edit_4 : (at : ℕ) → scan_found (form_of script) ≡ Err (NothingToUndo at)
           → edit sizes pools list script ≡ refusal 4 at list
       edit_4 at f =
           edit_nothing sizes pools list script its-sound (commands_at 0 script) at
           (scan_undone_form script at f) (scan_nothing_is script at f)
+
+      pub edit_script : (e : ScriptError) → scan_found (form_of script) ≡ Err e
+          → edit sizes pools list script ≡ outcome_of (Err (Script e)) list.count list.buffer
+      edit_script (Broken at) f = edit_3 at f
+      edit_script (NothingToUndo at) f = edit_4 at f
 
       module _ (k : ℕ) (whole : scan_found (form_of script) ≡ Ok k) where
         pub all_commands : take k (commands_at 0 script) ≡ commands_at 0 script

@@ -1,7 +1,7 @@
 -- What an edit on an index leaves, by the tests that the code makes: the steps of the plain machine on the list that
 -- the index stands for. A refusal changes nothing of that list; an edit that is done changes the index, and of the lent
 -- list only what lies behind the records. By the laws of `step` and of the index. Assumes nothing.
-use mathlib.Core.Path.{◌≡◌, sym, ap, subst, ◌∙◌}
+use mathlib.Core.Path.{◌≡◌, ap, subst, ◌∙◌}
 use mathlib.Core.Logic.{⊎_elim}
 use mathlib.Core.Bool.{not}
 use mathlib.Core.List.{List}

@@ -26,7 +26,7 @@ pub record Kept (list : List ℕ) (x : Index) : Type 0 where
   pub small : (id : ℕ) → T (is_among id (ids_of (held_records x))) → id < id_limit
 
 -- after it: o is what the plain machine comes to
-pub record Leaves (o : model.Edited) (r : Result (Unit {0}) EditError) (list : List ℕ) (x : Index) : Type 0 where
+pub record Leaves (o : model.Edited) (r : Result Unit EditError) (list : List ℕ) (x : Index) : Type 0 where
   pub says : o ≡ outcome_of r x.count (indexed_numbers list x)
   pub holds : Holds x
   pub fits : x.count * record_size ≤ length list

@@ -98,13 +98,7 @@ fn place_left(place: usize, out: usize) -> usize
 }
 
 // MOVE: 5, 6, 30; then the record goes to the place of its new start among the others.
-fn move_to(
-    list: &[u32],
-    index: &mut Index,
-    at: usize,
-    id: u32,
-    start: u32,
-) -> Result<(), EditError>
+fn move_to(list: &[u32], index: &mut Index, at: usize, id: u32, start: u32) -> Result<(), EditError>
     requires { Kept list.now index.old }
     ensures { (sizes : Sizes) (pools : LentPools) →
         Leaves

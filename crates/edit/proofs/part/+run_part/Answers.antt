@@ -57,7 +57,7 @@ run_part-requires-2 t c =
       omega arith,
       (
         part_sound (sizes_of a.caller) a.pools.now (lent_list a.list.now a.count.now) a.script.now
-            c.pending_before-before.result (a.k / 2) a.at _ c.run_part.ensures c.requires.0,
+            c.pending_before-before.result (a.k / 2) a.at _ c.in_ok-run_part.ensures c.requires.0,
         half_within a.script.now a.k a.at (a.k / 2) c.skip_commands-mid.result (omega arith)
             c.skip_commands-mid.ensures
             c.requires.1,

@@ -1,11 +1,10 @@
 -- `pending_before` meets its contract: each command counts as the model counts it (`pending_on`). Assumes nothing.
-use Rattle.std.proofs.Common.{ℕ, ◌+◌, ◌-◌, ◌<◌, get_or, take, arith}
-use mathlib.Core.Path.{sym, ap, ◌∙◌}
+use Rattle.std.proofs.Common.{◌≡◌, ℕ, ◌+◌, ◌-◌, ◌<◌, get_or, arith}
+use mathlib.Core.Path.{ap, ◌∙◌}
 use Rattle.script.specs.Form.{operand_bytes}
-use Rattle.edit_scan.specs.Commands.{commands_at}
 use Rattle.edit_scan.proofs.CommandLaws.{whole_here, whole_inside}
 use Rattle.edit_scan.proofs.PartLaws.{commands_fit, part_whole, count_next}
-use Rattle.edit.proofs.PendingLaws.{pending_after, pending_few, pending_on}
+use Rattle.edit.proofs.PendingLaws.{pending_few, pending_on}
 use Rattle.edit.proofs.part.pending_before.Goals as goal
 
 pub bounds-script-i : goal.bounds-script-i
