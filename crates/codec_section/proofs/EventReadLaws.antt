@@ -217,3 +217,6 @@ module _ (base : ℕ) (bs : List ℕ) {word : ℕ} (all : (k : ℕ) → get_or b
       event_shown is-id holds =
           whole_read base bs (whole_if ∙ holds)
           ∙ ap Some (record_is (field_read bs 0 2 (bytes_all bs all) (omega arith) is-id).0)
+
+pub ruleset read_laws =
+    (event_truncated, event_no_status, event_no_start, event_no_duration, event_no_chain, event_shown)

@@ -13,10 +13,11 @@ use Rattle.eit.proofs.Fields.{big_endian_mod}
 use Rattle.sections.specs.Section.{header_size}
 use Rattle.sections.specs.Encode.{length_word, version_byte, header_bytes}
 use Rattle.sections.specs.Decode.{header_in}
+use Rattle.sections.proofs.Lengths.{header_length}
 use Rattle.codec.specs.Write.{write_at}
 use Rattle.codec_section.specs.HeaderRead.{held_header, front_bytes, rest_bytes, header_read}
 use Rattle.codec_section.specs.declared.header.SectionHeader.{SectionHeader}
-use Rattle.codec.proofs.WriteLaws.{write_then}
+use Rattle.codec.proofs.WriteLaws.{write_then, write_short}
 use Rattle.codec_time.proofs.TimeReadLaws.{some_only, none_only}
 
 pub header_joined : (size : ℕ) (h : SectionHeader) → front_bytes size h ++ rest_bytes h ≡ header_bytes size (held_header h)
@@ -62,6 +63,21 @@ module _ (d : List ℕ) (at : ℕ) (h : SectionHeader) where
       let to-segment =
       write_then d at (numbers ++ lasts ++ streams ++ networks) segments (omega arith) to-network segment in
       write_then d at (numbers ++ lasts ++ streams ++ networks ++ segments) tables (omega arith) to-segment table
+
+-- both, one behind the other
+pub header_written : {d₁ d₂ : List ℕ} (d : List ℕ) (at size : ℕ) (h : SectionHeader) → at + header_size ≤ length d
+    → d₁ ≡ write_at d at (front_bytes size h)
+    → d₂ ≡ write_at d₁ (at + 6) (rest_bytes h)
+    → d₂ ≡ write_at d at (header_bytes size (held_header h))
+header_written d at size h fits front rest =
+    write_then d at (front_bytes size h) (rest_bytes h) fits front rest ∙ ap (write_at d at) (header_joined size h)
+
+pub header_short : (d : List ℕ) (at size : ℕ) (h : SectionHeader) → length d < at + header_size
+    → write_at d at (header_bytes size (held_header h)) ≡ d
+header_short d at size h short =
+    write_short d at (header_bytes size (held_header h)) (omega (arith, header_length size (held_header h)))
+
+pub ruleset header_laws = (header_written, header_short)
 
 -- what was read, and what it says of the bytes
 module _ (bs : List ℕ) where

@@ -29,6 +29,7 @@ fn write_chain(out: &mut [u8], at: usize, chain: &[u8])
 
 // The event of a record, with the chain that was chosen for it. A field holds only the bits that it has room for:
 // of an id above 65,535 the low 16, and a chain length above 4,095 reaches into the bits above it.
+#[tactic(auto, using(crate::proofs::EventWriteLaws::event_short))]
 pub fn write_event(out: &mut [u8], at: usize, base_day: u32, event: Record, chain: &[u8])
     ensures { out.new
         ≡ write_at out.old at (event_bytes base_day (event_with event chain.now)) }
@@ -52,6 +53,7 @@ fn is_status(status: u32) -> bool
 
 // The event at the front of the bytes, which go on to the end of the event loop: one that keeps the rules, its segment
 // aside, with its chain's offset from its first byte. `None` where bytes are truncated or break a rule.
+#[tactic(auto, using(crate::proofs::EventReadLaws::read_laws))]
 pub fn read_event(bytes: &[u8], base_day: u32) -> Option<Record>
     ensures { result ≡ event_read base_day bytes.now }
 {

@@ -32,6 +32,7 @@ fn length_word(size: usize) -> usize
 }
 
 // The first six bytes: table_id, section_length, service_id, version.
+#[tactic(auto, using(crate::proofs::HeaderLaws::front_written))]
 fn write_front(out: &mut [u8], at: usize, size: usize, header: SectionHeader)
     requires { at + 6 ≤ length out.old }
     ensures { out.new ≡ write_at out.old at (front_bytes size header) }
@@ -44,6 +45,7 @@ fn write_front(out: &mut [u8], at: usize, size: usize, header: SectionHeader)
 }
 
 // The eight bytes behind them: the section's numbers, and what every section of the file has besides.
+#[tactic(auto, using(crate::proofs::HeaderLaws::rest_written))]
 fn write_rest(out: &mut [u8], at: usize, header: SectionHeader)
     requires { at + 8 ≤ length out.old }
     ensures { out.new ≡ write_at out.old at (rest_bytes header) }
@@ -59,6 +61,7 @@ fn write_rest(out: &mut [u8], at: usize, header: SectionHeader)
 
 // The header of a section of `size` bytes. A field holds only the bits that it has room for; a version above 31 reaches
 // into the bits above it.
+#[tactic(auto, using(crate::proofs::HeaderLaws::header_laws))]
 pub fn write_header(out: &mut [u8], at: usize, size: usize, header: SectionHeader)
     ensures { out.new ≡ write_at out.old at (header_bytes size (held_header header)) }
 {
@@ -70,6 +73,7 @@ pub fn write_header(out: &mut [u8], at: usize, size: usize, header: SectionHeade
 }
 
 // A field of two bytes.
+#[tactic(auto, using(codec_time::proofs::TimeReadLaws::word_laws))]
 fn word_at(bytes: &[u8], at: usize) -> u16
     ensures { result ≡ field at 2 bytes.now }
 {

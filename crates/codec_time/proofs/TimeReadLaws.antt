@@ -20,7 +20,7 @@ use Rattle.eit.specs.Time.{is_start_bytes}
 use Rattle.eit.proofs.Fields.{bytes_all, field_length}
 use Rattle.eit.proofs.Test.{true_is, and_right, and_parts}
 use Rattle.eit.proofs.TimeLaws.{time_only}
-use Rattle.codec.proofs.FieldLaws.{drop_take, field_exact}
+use Rattle.codec.proofs.FieldLaws.{drop_take, field_exact, field_small}
 use Rattle.codec_time.specs.TimeRead.{time_at, duration_at, start_at}
 
 -- ---- a test and what it lets through
@@ -45,6 +45,17 @@ and_second false b e fails = cc
 and_true : (a : Bool) → (a && true) ≡ a
 and_true true = refl
 and_true false = refl
+
+-- ---- a field of two bytes
+
+module _ (bs : List ℕ) (at : ℕ) (all : (k : ℕ) → Fits w8 (get_or bs k 0)) where
+  pub word_small : field at 2 bs < 2 ^ 16
+  word_small = field_small bs at 2 (bytes_all bs (λ k. (all k).fits))
+
+  pub word_exact : field at 2 bs % 2 ^ 32 ≡ field at 2 bs
+  word_exact = field_exact bs at 2 (bytes_all bs (λ k. (all k).fits)) (omega arith)
+
+pub ruleset word_laws = (word_small, word_exact)
 
 -- ---- a duration
 
@@ -89,10 +100,6 @@ module _ (at : ℕ) (bs : List ℕ) where
       (and_right (leb (at + 3) (length bs)) test passed, same)
 
 -- ---- a start: a day and a time of that day
-
--- the day has two bytes
-pub day_exact : (bs : List ℕ) (at : ℕ) → ((k : ℕ) → Fits w8 (get_or bs k 0)) → field at 2 bs % 2 ^ 32 ≡ field at 2 bs
-day_exact bs at all = field_exact bs at 2 (bytes_all bs (λ k. (all k).fits)) (omega arith)
 
 module _ (base at : ℕ) (bs : List ℕ) where
   pub start_truncated : length bs < at + 5 → start_at base at bs ≡ None
@@ -174,4 +181,4 @@ module _ (base at : ℕ) (bs : List ℕ) where
 
 pub ruleset duration_laws = (duration_no_time, duration_time)
 
-pub ruleset start_laws = (day_exact, start_truncated, start_no_time, start_early, start_late, start_shown)
+pub ruleset start_laws = (word_exact, start_truncated, start_no_time, start_early, start_late, start_shown)
