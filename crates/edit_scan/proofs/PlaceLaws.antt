@@ -82,7 +82,8 @@ module _ (word j : ℕ) where
         sym (or_disjoint without (bit_in word j) apart)
         ∙ ap (bit_or without) (sym (and_pow word j))
         ∙ same_from_bits_below 64 (bit_or without (bit_and word (2 ^ j))) word
-        (or_lt 64 without (bit_and word (2 ^ j)) (omega (arith, and_le_l word (bit_not w64 (1 * 2 ^ j % 2 ^ 64)))) (omega (arith, and_le_l word (2 ^ j))))
+        (or_lt 64 without (bit_and word (2 ^ j)) (omega (arith, and_le_l word (bit_not w64 (1 * 2 ^ j % 2 ^ 64))))
+        (omega (arith, and_le_l word (2 ^ j))))
         fits bit_back
 
     pub bit_told : (b : Bool) → bit_or without (bool_byte b * 2 ^ j % 2 ^ 64) ≡ with_bit word j b
