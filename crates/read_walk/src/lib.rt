@@ -4,8 +4,8 @@
 
 ghost use Rattle.std.specs.Prelude.{◌≡◌};
 ghost use Rattle.std.specs.Iterator.{at_most};
-ghost use Rattle.sections.specs.Decode.{stated_section_size, event_loop};
-ghost use Rattle.read_walk.specs.SectionAt.{section_at, section_end};
+ghost use Rattle.sections.specs.Decode.{stated_section_size};
+ghost use Rattle.read_walk.specs.SectionAt.{section_at};
 ghost use Rattle.read_walk.specs.Walks.{Walks, bytes_left};
 
 use codec::fields;
@@ -27,13 +27,6 @@ pub fn section_at(file: &[u8], offset: usize) -> &[u8]
     &rest[..stated_size(rest).min(rest.len())]
 }
 
-// The offset behind the section at an offset; where the file has ended, the offset itself.
-pub fn section_end(file: &[u8], offset: usize) -> usize
-    ensures { result ≡ section_end file.now offset }
-{
-    offset + section_at(file, offset).len()
-}
-
 // A reader that carries the borrowed file and an offset: it gives each section from there on, and where it begins.
 #[derive(Clone, Copy)]
 pub struct SectionReader<'a> {
@@ -49,13 +42,13 @@ impl<'a> Iterator for SectionReader<'a> {
     ghost remaining = { λ s. at_most (bytes_left s) };
 
     fn next(&mut self) -> Option<(usize, &'a [u8])> {
-        let file = self.file;
         let offset = self.offset;
-        if file.len() <= offset {
+        if self.file.len() <= offset {
             return None;
         }
-        self.offset = section_end(file, offset);
-        Some((offset, section_at(file, offset)))
+        let section = section_at(self.file, offset);
+        self.offset += section.len();
+        Some((offset, section))
     }
 }
 
@@ -71,24 +64,4 @@ pub fn sections(file: &[u8]) -> SectionReader<'_>
     ensures { (result.file ≡ file.entry) × (result.offset ≡ 0) }
 {
     sections_from(file, 0)
-}
-
-// The section at an offset of a file.
-pub fn read_section(file: &[u8], offset: usize) -> &[u8]
-    ensures { result.now ≡ section_at file.now offset }
-{
-    section_at(file, offset)
-}
-
-// The offset behind the section at an offset of a file: where the walk goes on.
-pub fn next_offset(file: &[u8], offset: usize) -> usize
-    ensures { result ≡ section_end file.now offset }
-{
-    section_end(file, offset)
-}
-
-pub fn event_loop(section: &[u8]) -> &[u8]
-    ensures { result.now ≡ event_loop section.now }
-{
-    events::event_loop(section)
 }

@@ -13,14 +13,14 @@ use eit::limits::{TABLE_FIRST, TABLES};
 fn table_end(file: &[u8], from: usize, table_id: u8) -> usize
     ensures { result ≡ from + length (flatten (leading table_id (split_file (drop from file.now)))) }
 {
-    let mut at = from;
-    while at < file.len() {
+    let mut end = from;
+    for (at, section) in read_walk::sections_from(file, from) {
         if file[at] != table_id {
             return at;
         }
-        at = read_walk::next_offset(file, at);
+        end = at + section.len();
     }
-    at
+    end
 }
 
 // Whether two parts have the same bytes. No byte is branched on, so that many are compared at a time: tables that have
