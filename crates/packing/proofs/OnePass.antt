@@ -8,34 +8,32 @@ use mathlib.Core.List.{List, [], ◌∷◌, ◌++◌}
 use Prim.Native.Nat.{ℕ, suc, ◌+◌, ◌-◌, ◌≤◌, ◌<◌}
 use native.Mathlib.Omega.{arith}
 use borrow.Author.Tests.{le-leb, lt-leb, le-ltb, lt-ltb}
-use lib.Dec.{T, leb, T_not}
+use lib.Dec.{T, leb}
+use Rattle.std.specs.Prelude.{Option, Some, None, is_some}
 use lib.ListN.{length, drop}
 use Rattle.packing.specs.declared.Filling.{Filling}
 use Rattle.packing.specs.Greedy.{fit, reach, unpackable}
-use Rattle.packing.specs.OnePass.{begun, added, filled}
+use Rattle.packing.specs.OnePass.{begun, added, added_to, filled}
 use Rattle.packing.proofs.Greedy.{by_test, le_or_lt, reach_none, reach_more, fit_moves}
 
 -- ---- an element, case by case
 
 module _ (room : ℕ) (f : Filling) (size : ℕ) where
   abbrev into_last : Filling
-  into_last = record { held = f.held; more = f.more; free = f.free - size }
+  into_last = record { more = f.more; free = f.free - size }
 
   abbrev into_new : Filling
-  into_new = record { held = f.held; more = f.more - 1; free = room - size }
+  into_new = record { more = f.more - 1; free = room - size }
 
-  abbrev not_held : Filling
-  not_held = record { held = false; more = f.more; free = f.free }
-
-  pub added_last : size ≤ f.free → added room f size ≡ into_last
+  pub added_last : size ≤ f.free → added room f size ≡ Some into_last
   unfolding added
   added_last fits = rw (added, le-leb size f.free fits)
 
-  pub added_new : f.free < size → 1 ≤ f.more → size ≤ room → added room f size ≡ into_new
+  pub added_new : f.free < size → 1 ≤ f.more → size ≤ room → added room f size ≡ Some into_new
   unfolding added
   added_new full some fits = rw (added, lt-leb size f.free full, le-leb 1 f.more some, le-leb size room fits)
 
-  pub added_none : f.free < size → (f.more ≡ 0) ⊎ (room < size) → added room f size ≡ not_held
+  pub added_none : f.free < size → (f.more ≡ 0) ⊎ (room < size) → added room f size ≡ None
   unfolding added
   added_none full no_room =
       ⊎_elim (λ none_left. rw (added, lt-leb size f.free full, lt-leb 1 f.more (omega arith)))
@@ -45,9 +43,9 @@ module _ (room : ℕ) (f : Filling) (size : ℕ) where
       and_false true = refl
       and_false false = refl
 
-  added_or : {C : Type 0} → (size ≤ f.free → added room f size ≡ into_last → C)
-      → (f.free < size → 1 ≤ f.more → size ≤ room → added room f size ≡ into_new → C)
-      → (f.free < size → (f.more ≡ 0) ⊎ (room < size) → added room f size ≡ not_held → C)
+  added_or : {C : Type 0} → (size ≤ f.free → added room f size ≡ Some into_last → C)
+      → (f.free < size → 1 ≤ f.more → size ≤ room → added room f size ≡ Some into_new → C)
+      → (f.free < size → (f.more ≡ 0) ⊎ (room < size) → added room f size ≡ None → C)
       → C
   added_or last new none =
       ⊎_elim (λ fits. last fits (added_last fits))
@@ -115,57 +113,58 @@ module _ {A : Type 0} (size : A → ℕ) (room : ℕ) where
       no_room
 
   -- once an element is not held, the pass does not hold them all
-  added_not : (f : Filling) (bytes : ℕ) → T (not f.held) → T (not (added room f bytes).held)
-  added_not f bytes h =
-      added_or room f bytes (λ fits is. rw is h) (λ full some fits is. rw is h) (λ full no_room is. rw is tt)
-
-  filled_not : (f : Filling) (xs : List A) → T (not f.held) → T (not (filled size room f xs).held)
-  filled_not f [] h = h
-  filled_not f (x ∷ xs) h = filled_not (added room f (size x)) xs (added_not f (size x) h)
+  filled_none : (xs : List A) → filled size room None xs ≡ None
+  filled_none [] = refl
+  filled_none (x ∷ xs) = filled_none xs
 
   -- the pass holds them all exactly if those are all
-  pass_reaches : (f : Filling) (xs : List A) → T f.held → T (filled size room f xs).held → length xs ≤ reached f xs
-  pass_reaches f [] h held = omega arith
-  pass_reaches f (x ∷ xs) h held =
-      let holds : Filling → Type 0 = λ g. T (filled size room g xs).held in
+  abbrev holds : List A → Option Filling → Type 0
+  holds xs f = T (is_some (filled size room f xs))
+
+  pass_reaches : (f : Filling) (xs : List A) → holds xs (Some f) → length xs ≤ reached f xs
+  pass_reaches f [] held = omega arith
+  pass_reaches f (x ∷ xs) held =
       added_or room f (size x)
       (λ fits is.
-      omega (arith, reached_last f x xs fits, pass_reaches (into_last room f (size x)) xs h (subst holds is held)))
+      omega (
+        arith,
+        reached_last f x xs fits,
+        pass_reaches (into_last room f (size x)) xs (subst (holds xs) is held),
+      ))
       (λ full some fits is.
       omega (
         arith,
         reached_new f x xs full some fits,
-        pass_reaches (into_new room f (size x)) xs h (subst holds is held),
+        pass_reaches (into_new room f (size x)) xs (subst (holds xs) is held),
       ))
       (λ full no_room is.
-      let g : Filling = not_held room f (size x) in
-      absurd (T_not (filled size room g xs).held (filled_not g xs tt) (subst holds is held)))
+      absurd (subst (λ (f : Option Filling). T (is_some f)) (filled_none xs) (subst (holds xs) is held)))
 
-  pass_holds : (f : Filling) (xs : List A) → T f.held → length xs ≤ reached f xs → T (filled size room f xs).held
-  pass_holds f [] h enough = h
-  pass_holds f (x ∷ xs) h enough =
-      let holds : Filling → Type 0 = λ g. T (filled size room g xs).held in
+  pass_holds : (f : Filling) (xs : List A) → length xs ≤ reached f xs → holds xs (Some f)
+  pass_holds f [] enough = tt
+  pass_holds f (x ∷ xs) enough =
       added_or room f (size x)
       (λ fits is.
-      subst holds (sym is) (pass_holds (into_last room f (size x)) xs h (omega (arith, reached_last f x xs fits))))
+      subst (holds xs) (sym is)
+      (pass_holds (into_last room f (size x)) xs (omega (arith, reached_last f x xs fits))))
       (λ full some fits is.
-      subst holds (sym is)
-      (pass_holds (into_new room f (size x)) xs h (omega (arith, reached_new f x xs full some fits))))
+      subst (holds xs) (sym is)
+      (pass_holds (into_new room f (size x)) xs (omega (arith, reached_new f x xs full some fits))))
       (λ full no_room is. absurd (omega (arith, reached_none f x xs full no_room)))
 
   -- so it tells whether a list is unpackable
   pub pass_packs : (k : ℕ) (xs : List A)
-      → unpackable size room (suc k) xs ≡ not (filled size room (begun room k) xs).held
+      → unpackable size room (suc k) xs ≡ not (is_some (filled size room (Some (begun room k)) xs))
   pass_packs k xs =
       let f : Filling = begun room k in
       let all : reach size room (suc k) xs ≡ reached f xs = reach_more size room k xs in
-      by_test (filled size room f xs).held
+      by_test (is_some (filled size room (Some f) xs))
       (λ held.
-      le-ltb (reach size room (suc k) xs) (length xs) (omega (arith, pass_reaches f xs tt (subst T (sym held) tt)))
+      le-ltb (reach size room (suc k) xs) (length xs) (omega (arith, pass_reaches f xs (subst T (sym held) tt)))
       ∙ sym (ap not held))
       (λ fails.
       lt-ltb (reach size room (suc k) xs) (length xs)
-      (⊎_elim (λ enough. absurd (subst T fails (pass_holds f xs tt (omega arith)))) (λ short. short)
+      (⊎_elim (λ enough. absurd (subst T fails (pass_holds f xs (omega arith)))) (λ short. short)
       (le_or_lt (length xs) (reach size room (suc k) xs)))
       ∙ sym (ap not fails))
 
@@ -176,59 +175,69 @@ abbrev Leads : ℕ → Filling → Filling → Type 0
 Leads room f g = ((g.more < f.more) × (g.free ≤ room)) ⊎ ((f.more ≡ g.more) × (g.free ≤ f.free))
 
 -- the first pass holds its elements and leads, as long as the second holds its own
-abbrev Ahead : ℕ → Filling → Filling → Type 0
-Ahead room f g = T g.held → T f.held × Leads room f g
+abbrev Ahead : ℕ → Option Filling → Option Filling → Type 0
+Ahead room f None = Unit {0}
+Ahead room None (Some g) = ⊥
+Ahead room (Some f) (Some g) = Leads room f g
 
-ahead_added : (room : ℕ) (f g : Filling) → Ahead room f g → (s t : ℕ) → s ≤ t
+ahead_added : (room : ℕ) (f g : Filling) → Leads room f g → (s t : ℕ) → s ≤ t
     → Ahead room (added room f s) (added room g t)
-ahead_added room f g ahead s t less =
+ahead_added room f g leads s t less =
     added_or room g t
     (λ fits is.
     added_or room f s
     (λ fits' is'. rw (is, is')
-    (by_lead (λ m n. inl (omega arith, omega arith)) (λ m n. inr (omega arith, omega arith))))
+    (⊎_elim (λ (m, n). inl (omega arith, omega arith)) (λ (m, n). inr (omega arith, omega arith)) leads))
     (λ full' some' fits' is'. rw (is, is')
-    (by_lead
-    (λ m n.
+    (⊎_elim
+    (λ (m, n).
     ⊎_elim (λ k. inl (omega arith, omega arith)) (λ k. inr (omega arith, omega arith))
     (le_or_lt (suc g.more) (f.more - 1)))
-    (λ m n. absurd (omega arith))))
+    (λ (m, n). absurd (omega arith)) leads))
     (λ full' no-room' is'. rw (is, is')
-    (λ held. absurd (⊎_elim (λ (m, n). ⊎_elim (λ k. omega arith) (λ k. omega arith) no-room')
-    (λ (m, n). omega arith) (ahead held).1))))
+    (absurd (⊎_elim (λ (m, n). ⊎_elim (λ k. omega arith) (λ k. omega arith) no-room') (λ (m, n). omega arith) leads))))
     (λ full some fits is.
     added_or room f s
     (λ fits' is'. rw (is, is')
-    (by_lead (λ m n. inl (omega arith, omega arith)) (λ m n. inl (omega arith, omega arith))))
+    (⊎_elim (λ (m, n). inl (omega arith, omega arith)) (λ (m, n). inl (omega arith, omega arith)) leads))
     (λ full' some' fits' is'. rw (is, is')
-    (by_lead (λ m n. inl (omega arith, omega arith)) (λ m n. inr (omega arith, omega arith))))
+    (⊎_elim (λ (m, n). inl (omega arith, omega arith)) (λ (m, n). inr (omega arith, omega arith)) leads))
     (λ full' no-room' is'. rw (is, is')
-    (λ held. absurd (⊎_elim (λ (m, n). ⊎_elim (λ k. omega arith) (λ k. omega arith) no-room')
-    (λ (m, n). ⊎_elim (λ k. omega arith) (λ k. omega arith) no-room') (ahead held).1))))
-    (λ full no_room is. rw is (λ held. absurd held))
-  where
-    by_lead : {L : Type 0} → (g.more < f.more → g.free ≤ room → L) → (f.more ≡ g.more → g.free ≤ f.free → L)
-        → T g.held → T f.held × L
-    by_lead more same held =
-        let (h, leads) = ahead held in (h, ⊎_elim (λ (m, n). more m n) (λ (m, n). same m n) leads)
+    (absurd (⊎_elim (λ (m, n). ⊎_elim (λ k. omega arith) (λ k. omega arith) no-room')
+    (λ (m, n). ⊎_elim (λ k. omega arith) (λ k. omega arith) no-room') leads))))
+    (λ full no_room is. rw is tt)
+
+ahead_to : (room : ℕ) (f g : Option Filling) → Ahead room f g → (s : ℕ)
+    → Ahead room (added_to room f s) (added_to room g s)
+ahead_to room f None ahead s = tt
+ahead_to room None (Some g) ahead s = absurd ahead
+ahead_to room (Some f) (Some g) ahead s = ahead_added room f g ahead s s (omega arith)
+
+ahead_held : (room : ℕ) (f g : Option Filling) → Ahead room f g → T (is_some g) → T (is_some f)
+ahead_held room f None ahead held = absurd held
+ahead_held room None (Some g) ahead held = absurd ahead
+ahead_held room (Some f) (Some g) ahead held = tt
 
 module _ {A : Type 0} (size : A → ℕ) (room : ℕ) where
-  ahead_filled : (f g : Filling) (xs : List A) → Ahead room f g
+  ahead_filled : (f g : Option Filling) (xs : List A) → Ahead room f g
       → Ahead room (filled size room f xs) (filled size room g xs)
   ahead_filled f g [] ahead = ahead
   ahead_filled f g (x ∷ xs) ahead =
-      ahead_filled (added room f (size x)) (added room g (size x)) xs
-      (ahead_added room f g ahead (size x) (size x) (omega arith))
+      ahead_filled (added_to room f (size x)) (added_to room g (size x)) xs (ahead_to room f g ahead (size x))
 
   -- where all are held with an element of t, they are with a smaller one in its place
-  pub smaller_held : (f : Filling) (s t : ℕ) (xs : List A) → s ≤ t → T (filled size room (added room f t) xs).held
-      → T (filled size room (added room f s) xs).held
-  smaller_held f s t xs less held =
+  pub smaller_held : (f : Option Filling) (s t : ℕ) (xs : List A) → s ≤ t
+      → T (is_some (filled size room (added_to room f t) xs))
+      → T (is_some (filled size room (added_to room f s) xs))
+  smaller_held None s t xs less held = held
+  smaller_held (Some f) s t xs less held =
+      ahead_held room (filled size room (added room f s) xs) (filled size room (added room f t) xs)
       (ahead_filled (added room f s) (added room f t) xs
-      (ahead_added room f f (λ h. (h, inr (refl, omega arith))) s t less) held).0
+      (ahead_added room f f (inr (refl, omega arith)) s t less))
+      held
 
   -- elements in two goes
-  pub filled_append : (f : Filling) (xs ys : List A)
+  pub filled_append : (f : Option Filling) (xs ys : List A)
       → filled size room f (xs ++ ys) ≡ filled size room (filled size room f xs) ys
   filled_append f [] ys = refl
-  filled_append f (x ∷ xs) ys = filled_append (added room f (size x)) xs ys
+  filled_append f (x ∷ xs) ys = filled_append (added_to room f (size x)) xs ys

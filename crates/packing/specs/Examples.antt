@@ -1,5 +1,5 @@
 -- Greedy packing of numbers, each of its own size, computed. The value is in proofs/Examples.antt. Assumes nothing.
-use Rattle.std.specs.Prelude.{ℕ, ◌≡◌, true, false, List, [], ◌∷◌}
+use Rattle.std.specs.Prelude.{ℕ, ◌≡◌, true, false, List, [], ◌∷◌, Some, None}
 use Rattle.packing.specs.Greedy.{fit, reach, greedy, unpackable}
 use Rattle.packing.specs.OnePass.{begun, filled}
 
@@ -19,6 +19,6 @@ pub record Examples : Type 0 where
   -- an element that is larger than the room
   pub too_large : unpackable own 4 8 (5 ∷ []) ≡ true
   -- the pass: what is left after three parts; a part too few; and not held once an element was not
-  pub pass : filled own 4 (begun 4 2) four ≡ record { held = true; more = 0; free = 0 }
-  pub pass_short : (filled own 4 (begun 4 1) four).held ≡ false
-  pub pass_large : (filled own 4 (begun 4 8) (5 ∷ 4 ∷ 4 ∷ [])).held ≡ false
+  pub pass : filled own 4 (Some (begun 4 2)) four ≡ Some (record { more = 0; free = 0 })
+  pub pass_short : filled own 4 (Some (begun 4 1)) four ≡ None
+  pub pass_large : filled own 4 (Some (begun 4 8)) (5 ∷ 4 ∷ 4 ∷ []) ≡ None

@@ -4,11 +4,11 @@ use mathlib.Core.Path.{◌≡◌, refl, sym, ap, subst, ◌∙◌}
 use mathlib.Core.Bool.{not}
 use mathlib.Core.Logic.{◌↔◌, ⊎_elim}
 use mathlib.Core.List.{List, ◌∷◌}
-use mathlib.Core.Option.{some}
 use Prim.Native.Nat.{ℕ, ◌≤◌, ◌<◌}
 use native.Mathlib.Omega.{arith}
 use lib.Dec.{T, T_not}
 use lib.ListN.{length}
+use Rattle.std.specs.Prelude.{Some}
 use Rattle.eit.specs.Sizes.{room}
 use Rattle.eit.specs.declared.Sizes.{Sizes}
 use Rattle.eit.specs.Records.{EventList}
@@ -133,7 +133,7 @@ module _ {sizes : Sizes} (g : Given sizes) (operands : List ℕ) (whole : length
 
     pub longer_10 : (output : List ℕ)
         → ((built given_after output).number ≡ 10)
-        ↔ ((n : ℕ) → (chain_room sizes g.pools g.list r.start).given ≡ some n → n < r.chain_length)
+        ↔ ((n : ℕ) → (chain_room sizes g.pools g.list r.start).given ≡ Some n → n < r.chain_length)
     longer_10 output =
         let (chain, size) = put_chain sizes g.pools g.list operands whole g.is_sound is_put in
         let exactly : (n : ℕ) → Gives sizes (events g) r.start n
@@ -155,7 +155,7 @@ module _ {sizes : Sizes} (g : Given sizes) (operands : List ℕ) (whole : length
               (⊎_elim (λ past. omega (arith, (range_facts r is_put.range).start))
               (λ fails. none_held sizes (events g) r.start fails e refl held)) why)
               (λ (n, is, gives).
-              let given : (chain_room sizes g.pools g.list r.start).given ≡ some n =
+              let given : (chain_room sizes g.pools g.list r.start).given ≡ Some n =
               ap (λ (c : ChainRoom). c.given) (room_sound sizes g.pools g.list r.start g.is_sound) ∙ is in
               omega (arith, longer n given, (exactly n gives).0 held))
               (length_or sizes (events g) r.start)),

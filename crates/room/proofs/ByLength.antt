@@ -9,13 +9,14 @@ use Prim.Native.Nat.{ℕ, ◌+◌, ◌≤◌}
 use native.Mathlib.Omega.{arith}
 use lib.Dec.{T, T_not}
 use lib.ListN.{length, length-replicate}
+use Rattle.std.specs.Prelude.{Option, Some, is_some}
 use Rattle.eit.specs.Sizes.{room}
 use Rattle.eit.specs.declared.Sizes.{Sizes}
 use Rattle.eit.specs.Events.{Event}
 use Rattle.eit.proofs.Test.{le_or_lt}
 use Rattle.packing.specs.declared.Filling.{Filling}
 use Rattle.packing.specs.Greedy.{unpackable}
-use Rattle.packing.specs.OnePass.{begun, added, filled}
+use Rattle.packing.specs.OnePass.{begun, added_to, filled}
 use Rattle.packing.proofs.Greedy.{too_large_unpackable}
 use Rattle.packing.proofs.OnePass.{pass_packs, filled_append, smaller_held}
 use Rattle.sections.specs.Segment.{segment_index}
@@ -34,21 +35,24 @@ not_twice false = refl
 -- events with one more between them are packable if the pass over them holds all
 pub packable_between : (bytes : ℕ) (xs ys : List Event) (e : Event)
     → not (unpackable event_size bytes 8 (xs ++ e ∷ ys))
-    ≡ (filled event_size bytes (added bytes (filled event_size bytes (begun bytes 7) xs) (event_size e)) ys).held
+    ≡ is_some
+    (filled event_size bytes
+    (added_to bytes (filled event_size bytes (Some (begun bytes 7)) xs) (event_size e))
+    ys)
 packable_between bytes xs ys e =
     ap not (pass_packs event_size bytes 7 (xs ++ e ∷ ys))
-    ∙ not_twice (filled event_size bytes (begun bytes 7) (xs ++ e ∷ ys)).held
-    ∙ ap (λ (f : Filling). f.held) (filled_append event_size bytes (begun bytes 7) xs (e ∷ ys))
+    ∙ not_twice (is_some (filled event_size bytes (Some (begun bytes 7)) (xs ++ e ∷ ys)))
+    ∙ ap (λ (f : Option Filling). is_some f) (filled_append event_size bytes (Some (begun bytes 7)) xs (e ∷ ys))
 
 module _ (sizes : Sizes) (es : List Event) where
   -- the pass over the segment of a start, as far as the events before its place
-  abbrev filled_before : ℕ → Filling
-  filled_before start = filled event_size (room sizes) (begun (room sizes) 7) (before start es)
+  abbrev filled_before : ℕ → Option Filling
+  filled_before start = filled event_size (room sizes) (Some (begun (room sizes) 7)) (before start es)
 
   -- whether it holds an event of so many bytes there, and the events behind it
   abbrev held_with : ℕ → ℕ → Bool
   held_with start bytes =
-      (filled event_size (room sizes) (added (room sizes) (filled_before start) bytes) (behind start es)).held
+      is_some (filled event_size (room sizes) (added_to (room sizes) (filled_before start) bytes) (behind start es))
 
   packable_by_pass : (e : Event)
       → not (is_unpackable sizes (inserted e es) (segment_index e.start)) ≡ held_with e.start (event_size e)

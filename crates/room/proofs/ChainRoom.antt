@@ -3,10 +3,10 @@ use mathlib.Core.Path.{◌≡◌, refl, sym, ap, subst, ◌∙◌}
 use mathlib.Core.Bool.{not}
 use mathlib.Core.Logic.{◌⊎◌, inl, inr, ⊎_elim}
 use mathlib.Core.List.{List}
-use mathlib.Core.Option.{Option, none, some}
 use Prim.Native.Nat.{ℕ, ◌≤◌, ◌<◌}
 use borrow.Author.Tests.{lt-ltb, le-ltb, eq-eqb, ne_eqb}
 use lib.Dec.{T}
+use Rattle.std.specs.Prelude.{Option, None, Some}
 use Rattle.eit.specs.declared.Sizes.{Sizes}
 use Rattle.eit.specs.Limits.{window_seconds}
 use Rattle.eit.specs.Pools.{Pools}
@@ -22,7 +22,7 @@ use Rattle.room.proofs.Largest.{NonePasses, Last, largest_or}
 
 module _ (sizes : Sizes) (pools : Pools) (list : EventList) (start : ℕ) where
   pub room_unsound : T (not (sound sizes pools list))
-      → chain_room sizes pools list start ≡ record { number = 12; given = none }
+      → chain_room sizes pools list start ≡ record { number = 12; given = None }
   unfolding chain_room
   room_unsound unsound = rw (chain_room, false_is (sound sizes pools list) unsound)
 
@@ -37,7 +37,7 @@ module _ (sizes : Sizes) (es : List Event) (start : ℕ) where
   abbrev pub lasting : Option ℕ
   lasting = largest (leaves_packable sizes es start) (chain_max sizes)
 
-  pub length_taken : T (is_taken start es) → length_at sizes es start ≡ none
+  pub length_taken : T (is_taken start es) → length_at sizes es start ≡ None
   unfolding length_at
   length_taken taken = rw (length_at, true_is (is_taken start es) taken)
 
@@ -45,7 +45,7 @@ module _ (sizes : Sizes) (es : List Event) (start : ℕ) where
   unfolding length_at
   length_free free inside = rw (length_at, false_is (is_taken start es) free, lt-ltb start window_seconds inside)
 
-  pub length_past : window_seconds ≤ start → length_at sizes es start ≡ none
+  pub length_past : window_seconds ≤ start → length_at sizes es start ≡ None
   unfolding length_at
   length_past past =
       ⊎_elim length_taken
@@ -67,8 +67,8 @@ module _ (sizes : Sizes) (es : List Event) (start : ℕ) where
   NoneGiven =
       T (is_taken start es) ⊎ (window_seconds ≤ start) ⊎ NonePasses (leaves_packable sizes es start) (chain_max sizes)
 
-  pub length_or : ((length_at sizes es start ≡ none) × NoneGiven)
-      ⊎ ((n : ℕ) × (length_at sizes es start ≡ some n) × Gives n)
+  pub length_or : ((length_at sizes es start ≡ None) × NoneGiven)
+      ⊎ ((n : ℕ) × (length_at sizes es start ≡ Some n) × Gives n)
   length_or =
       ⊎_elim (λ taken. inl (length_taken taken, inl taken))
       (λ free.
@@ -90,33 +90,33 @@ module _ (sizes : Sizes) (es : List Event) (start : ℕ) where
       (eq_or_not m 1)) (largest_or (leaves_packable sizes es start) (chain_max sizes)))
       (le_or_lt window_seconds start)) (test_or (is_taken start es))
     where
-      never_one_holds : (m : ℕ) → m ≡ 1 → never_one (some m) ≡ some 0
+      never_one_holds : (m : ℕ) → m ≡ 1 → never_one (Some m) ≡ Some 0
       never_one_holds m one = rw (never_one, eq-eqb m 1 one)
 
-      not_one : (m : ℕ) → (m ≡ 1 → ⊥) → never_one (some m) ≡ some m
+      not_one : (m : ℕ) → (m ≡ 1 → ⊥) → never_one (Some m) ≡ Some m
       not_one m other = rw (never_one, ne_eqb m 1 other)
 
 -- ---- both
 
-some_only : (m n : ℕ) → some m ≡ some n → m ≡ n
+some_only : (m n : ℕ) → Some m ≡ Some n → m ≡ n
 some_only m n e = cc e
 
 abbrev IsNone : Option ℕ → Type 0
-IsNone none = Unit {0}
-IsNone (some n) = ⊥
+IsNone None = Unit {0}
+IsNone (Some n) = ⊥
 
-pub none_some : (n : ℕ) → none ≡ some n → ⊥
+pub none_some : (n : ℕ) → None ≡ Some n → ⊥
 none_some n e = subst IsNone e tt
 
 -- a call that gives a length gives that of a sound list
 pub room_gives : (sizes : Sizes) (pools : Pools) (list : EventList) (start n : ℕ)
-    → (chain_room sizes pools list start).given ≡ some n
+    → (chain_room sizes pools list start).given ≡ Some n
     → T (sound sizes pools list) × Gives sizes (events_of pools list) start n
 room_gives sizes pools list start n e =
     let es : List Event = events_of pools list in
     ⊎_elim
     (λ is_sound_holds.
-    let at-start : length_at sizes es start ≡ some n =
+    let at-start : length_at sizes es start ≡ Some n =
     sym (ap (λ (r : ChainRoom). r.given) (room_sound sizes pools list start is_sound_holds)) ∙ e in (
       is_sound_holds,
       ⊎_elim (λ (is, why). absurd (none_some n (sym is ∙ at-start)))

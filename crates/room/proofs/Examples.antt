@@ -4,10 +4,10 @@ use mathlib.Core.Path.{◌≡◌, refl, ap, ◌∙◌}
 use mathlib.Core.Bool.{Bool, not, ◌&&◌}
 use mathlib.Core.Logic.{⊎_elim}
 use mathlib.Core.List.{List}
-use mathlib.Core.Option.{Option, none, some}
 use Prim.Native.Nat.{ℕ, suc, ◌≤◌}
 use native.Mathlib.Omega.{arith}
 use lib.Dec.{T, ltb, leb, ltb→lt, leb→le, T_not}
+use Rattle.std.specs.Prelude.{Option, None, Some}
 use Rattle.eit.specs.Sizes.{broadcast, cable}
 use Rattle.eit.specs.declared.Sizes.{Sizes}
 use Rattle.eit.specs.Limits.{window_seconds}
@@ -56,9 +56,9 @@ module _ (sizes : Sizes) (c : Case) (start : ℕ) where
   is_longest n = leb n (chain_max sizes) && (leaves n && not (leaves (suc n)))
 
   by_two : T is_answered → (n : ℕ) → T (is_longest n)
-      → room_in sizes c start ≡ record { number = 0; given = never_one (some n) }
+      → room_in sizes c start ≡ record { number = 0; given = never_one (Some n) }
   by_two is-answered n is-longest =
-      answered is-answered (some n)
+      answered is-answered (Some n)
       (largest_last leaves (chain_max sizes) n
       (record {
         within = leb→le n (chain_max sizes) (search tests);
@@ -67,9 +67,9 @@ module _ (sizes : Sizes) (c : Case) (start : ℕ) where
       }))
 
   -- not even 0 does
-  by_one : T is_answered → T (not (leaves 0)) → room_in sizes c start ≡ record { number = 0; given = none }
+  by_one : T is_answered → T (not (leaves 0)) → room_in sizes c start ≡ record { number = 0; given = None }
   by_one is-answered fails =
-      answered is-answered none
+      answered is-answered None
       (largest_none leaves (chain_max sizes) (λ m most. longer_fails 0 m (omega arith) fails))
 
 most : room_in broadcast (plain_events 0 0) 0 ≡ fits_up_to 4_066

@@ -3,11 +3,11 @@
 use mathlib.Core.Path.{◌≡◌, refl, sym, subst, ◌∙◌}
 use mathlib.Core.Logic.{◌↔◌, ◌⊎◌, inl, inr, ⊎_elim}
 use mathlib.Core.List.{List, [], ◌∷◌}
-use mathlib.Core.Option.{none}
 use Prim.Native.Nat.{ℕ, zero, suc, ◌+◌, ◌≤◌, ◌<◌}
 use native.Mathlib.Omega.{arith}
 use lib.Dec.{T, T_not}
 use lib.ListN.{length}
+use Rattle.std.specs.Prelude.{None}
 use Rattle.eit.specs.declared.Sizes.{Sizes}
 use Rattle.eit.specs.Chain.{is_chain}
 use Rattle.eit.specs.Events.{Event}
@@ -110,7 +110,7 @@ module _ (sizes : Sizes) (es : List Event) where
       (λ fails. fails) (test_or (leaves_packable sizes es start m))
 
   pub none_at : (start : ℕ)
-      → (length_at sizes es start ≡ none)
+      → (length_at sizes es start ≡ None)
       ↔ (Taken start es ⊎ (5_529_600 ≤ start)
       ⊎ ((e : Event) → e.start ≡ start → e.chain ≡ [] → HeldWith sizes es e → ⊥))
   none_at start = (
@@ -136,7 +136,7 @@ module _ (sizes : Sizes) (es : List Event) where
   )
 
   -- at a start that is free and in the window
-  pub none_free : (start : ℕ) → length_at sizes es start ≡ none → (Taken start es → ⊥) → start < 5_529_600
+  pub none_free : (start : ℕ) → length_at sizes es start ≡ None → (Taken start es → ⊥) → start < 5_529_600
       → (e : Event) → e.start ≡ start → HeldWith sizes es e → ⊥
   none_free start is free inside e at held =
       ⊎_elim

@@ -3,10 +3,10 @@
 use mathlib.Core.Path.{◌≡◌, ap, ◌∙◌}
 use mathlib.Core.Bool.{Bool, true, false, not}
 use mathlib.Core.Logic.{◌⊎◌, inl, inr, ⊎_elim}
-use mathlib.Core.Option.{Option, none, some}
 use Prim.Native.Nat.{ℕ, zero, suc, ◌≤◌, ◌<◌}
 use native.Mathlib.Omega.{arith}
 use lib.Dec.{T, T_not}
+use Rattle.std.specs.Prelude.{Option, None, Some}
 use Rattle.eit.proofs.Test.{true_is, false_is, test_or, le_or_lt}
 use Rattle.room.specs.ChainRoom.{largest}
 
@@ -21,12 +21,12 @@ module _ (passes : ℕ → Bool) where
     pub itself : T (passes m)
     pub behind : (k : ℕ) → m < k → k ≤ n → T (not (passes k))
 
-  largest_here : (n : ℕ) → T (passes n) → largest passes n ≡ some n
+  largest_here : (n : ℕ) → T (passes n) → largest passes n ≡ Some n
   unfolding largest
   largest_here zero t = rw (largest, true_is (passes zero) t)
   largest_here (suc n) t = rw (largest, true_is (passes (suc n)) t)
 
-  largest_zero : T (not (passes 0)) → largest passes 0 ≡ none
+  largest_zero : T (not (passes 0)) → largest passes 0 ≡ None
   unfolding largest
   largest_zero t = rw (largest, false_is (passes 0) t)
 
@@ -35,7 +35,7 @@ module _ (passes : ℕ → Bool) where
   largest_lower n t = rw (largest, false_is (passes (suc n)) t)
 
   pub largest_or : (n : ℕ)
-      → ((largest passes n ≡ none) × NonePasses n) ⊎ ((m : ℕ) × (largest passes n ≡ some m) × Last n m)
+      → ((largest passes n ≡ None) × NonePasses n) ⊎ ((m : ℕ) × (largest passes n ≡ Some m) × Last n m)
   largest_or zero =
       ⊎_elim (λ t. inr (
         0,
@@ -65,10 +65,10 @@ module _ (passes : ℕ → Bool) where
       (largest_or n)) (test_or (passes (suc n)))
 
   -- which of the two it is
-  pub largest_last : (n m : ℕ) → Last n m → largest passes n ≡ some m
+  pub largest_last : (n m : ℕ) → Last n m → largest passes n ≡ Some m
   largest_last n m last =
       ⊎_elim (λ (is, fails). absurd (T_not (passes m) (fails m last.within) last.itself))
-      (λ (k, is, other). is ∙ ap some (same k other)) (largest_or n)
+      (λ (k, is, other). is ∙ ap Some (same k other)) (largest_or n)
     where
       same : (k : ℕ) → Last n k → k ≡ m
       same k other =
@@ -78,7 +78,7 @@ module _ (passes : ℕ → Bool) where
           (λ lower. absurd (T_not (passes m) (other.behind m lower last.within) last.itself)) (le_or_lt m k))
           (λ higher. absurd (T_not (passes k) (last.behind k higher other.within) other.itself)) (le_or_lt k m)
 
-  pub largest_none : (n : ℕ) → NonePasses n → largest passes n ≡ none
+  pub largest_none : (n : ℕ) → NonePasses n → largest passes n ≡ None
   largest_none n fails =
       ⊎_elim (λ (is, all). is)
       (λ (m, is, last). absurd (T_not (passes m) (fails m last.within) last.itself)) (largest_or n)
@@ -86,7 +86,7 @@ module _ (passes : ℕ → Bool) where
 -- tests that agree have the same
 pub largest_same : (p q : ℕ → Bool) → ((m : ℕ) → p m ≡ q m) → (n : ℕ) → largest p n ≡ largest q n
 unfolding largest
-largest_same p q same zero = ap (λ (b : Bool). elim b [ true ↦ some zero | false ↦ none ]) (same zero)
+largest_same p q same zero = ap (λ (b : Bool). elim b [ true ↦ Some zero | false ↦ None ]) (same zero)
 largest_same p q same (suc n) =
-    ap (λ (b : Bool). elim b [ true ↦ some (suc n) | false ↦ largest p n ]) (same (suc n))
-    ∙ ap (λ (o : Option ℕ). elim (q (suc n)) [ true ↦ some (suc n) | false ↦ o ]) (largest_same p q same n)
+    ap (λ (b : Bool). elim b [ true ↦ Some (suc n) | false ↦ largest p n ]) (same (suc n))
+    ∙ ap (λ (o : Option ℕ). elim (q (suc n)) [ true ↦ Some (suc n) | false ↦ o ]) (largest_same p q same n)

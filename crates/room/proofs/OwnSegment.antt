@@ -5,12 +5,12 @@ use mathlib.Core.Path.{◌≡◌, refl, sym, ap, ap₂, ◌∙◌}
 use mathlib.Core.Bool.{Bool, true, false, not, ◌||◌}
 use mathlib.Core.Logic.{⊎_elim}
 use mathlib.Core.List.{List, [], ◌∷◌, map}
-use mathlib.Core.Option.{Option, none}
 use Prim.Native.Nat.{ℕ, ◌+◌, ◌<◌}
 use native.Mathlib.Omega.{arith}
 use borrow.Author.Tests.{ne_eqb}
 use lib.Dec.{T, ltb, eqb, ltb→lt, lt→ltb}
 use lib.ListN.{take, drop, length-replicate}
+use Rattle.std.specs.Prelude.{Option, Some, None, is_some}
 use Rattle.eit.specs.Sizes.{room}
 use Rattle.eit.specs.declared.Sizes.{Sizes}
 use Rattle.eit.specs.Limits.{window_seconds}
@@ -19,7 +19,7 @@ use Rattle.eit.specs.Events.{Event, rising}
 use Rattle.eit.proofs.Test.{true_is, false_is, test_or}
 use Rattle.eit.proofs.Events.{AllAfter, rising_rest, rising_after}
 use Rattle.packing.specs.Greedy.{unpackable}
-use Rattle.packing.specs.OnePass.{begun, added, filled}
+use Rattle.packing.specs.OnePass.{begun, added_to, filled}
 use Rattle.packing.proofs.Map.{unpackable_map}
 use Rattle.sections.specs.Segment.{segment_index}
 use Rattle.sections.specs.Section.{event_overhead, event_size}
@@ -81,9 +81,11 @@ pub leaves_in_segment : (sizes : Sizes) (es : List Event) (start n : ℕ) → T 
     → let seg = segment_events (segment_index start) es in
     let p = up_to start seg in
     leaves_packable sizes es start n
-    ≡ (filled event_size (room sizes)
-    (added (room sizes) (filled event_size (room sizes) (begun (room sizes) 7) (take p seg)) (event_overhead + n))
-    (drop p seg)).held
+    ≡ is_some
+    (filled event_size (room sizes)
+    (added_to (room sizes) (filled event_size (room sizes) (Some (begun (room sizes) 7)) (take p seg))
+    (event_overhead + n))
+    (drop p seg))
 unfolding leaves_packable
 leaves_in_segment sizes es start n rises =
     let e : Event = event_of_length start n in
@@ -95,8 +97,10 @@ leaves_in_segment sizes es start n rises =
     ∙ ap (unpackable event_size bytes 8) (segment_inserted e es rises ∙ inserted_place e seg))
     ∙ packable_between bytes (take p seg) (drop p seg) e
     ∙ ap (λ (m : ℕ).
-    (filled event_size bytes (added bytes (filled event_size bytes (begun bytes 7) (take p seg)) (event_overhead + m))
-    (drop p seg)).held)
+    is_some
+    (filled event_size bytes
+    (added_to bytes (filled event_size bytes (Some (begun bytes 7)) (take p seg)) (event_overhead + m))
+    (drop p seg)))
     (length-replicate n 0)
 
 -- ---- what counts of the segment's events
@@ -182,8 +186,8 @@ module _ (sizes : Sizes) (start : ℕ) where
       ap₂
       (λ (taken : Bool) (longest : Option ℕ).
       elim taken [
-        | true ↦ none
-        | false ↦ elim (ltb start window_seconds) [ true ↦ never_one longest | false ↦ none ]
+        | true ↦ None
+        | false ↦ elim (ltb start window_seconds) [ true ↦ never_one longest | false ↦ None ]
       ])
       (taken_by_segment es ∙ ap (λ (ps : List (ℕ × ℕ)). is_among start (starts_in ps)) same ∙ sym (taken_by_segment fs))
       (largest_same (leaves_packable sizes es start) (leaves_packable sizes fs start)

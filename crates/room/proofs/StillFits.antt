@@ -1,11 +1,11 @@
 -- What W-201 claims holds, by the laws of this crate; for every sizes, and so for both callers. Assumes nothing.
 use mathlib.Core.Path.{◌≡◌, sym, ap, subst, ◌∙◌}
 use mathlib.Core.List.{List}
-use mathlib.Core.Option.{Option, some}
 use Prim.Native.Nat.{ℕ, ◌≤◌}
 use native.Mathlib.Omega.{arith}
 use lib.Dec.{T}
 use lib.ListN.{length}
+use Rattle.std.specs.Prelude.{Option, Some}
 use Rattle.eit.specs.Sizes.{sizes_of, broadcast, cable}
 use Rattle.eit.specs.declared.Sizes.{Sizes}
 use Rattle.eit.specs.Pools.{Pools}
@@ -51,7 +51,7 @@ still_fits_for sizes =
           some_chain n
           (λ one.
           given_not_one sizes (events_of pools list)
-          (room_gives sizes pools list start 1 (is ∙ ap some one)).1);
+          (room_gives sizes pools list start 1 (is ∙ ap Some one)).1);
       none_exactly = λ pools list start is_sound_holds.
           let same = length_is sizes pools list start is_sound_holds in
           let (there, back) = none_at sizes (events_of pools list) start in

@@ -1,7 +1,6 @@
 -- How much text still fits, as one total function of sizes, pools, list and start (02, W-201). Laws:
 -- proofs/Largest.antt, proofs/ByLength.antt, proofs/ChainRoom.antt. Assumes nothing.
-use Rattle.std.specs.Prelude.{ℕ, zero, suc, ◌-◌, Bool, true, false, not, List, eqb, ltb}
-use Rattle.std.proofs.Math.Option.{Option, none, some}
+use Rattle.std.specs.Prelude.{ℕ, zero, suc, ◌-◌, Bool, true, false, not, List, eqb, ltb, Option, None, Some}
 use Rattle.eit.specs.Sizes.{room}
 use Rattle.eit.specs.declared.Sizes.{Sizes}
 use Rattle.eit.specs.Limits.{window_seconds}
@@ -22,8 +21,8 @@ leaves_packable sizes es start n =
 
 -- "the largest": the largest number up to a bound that passes a test, none if none does
 unfoldable pub largest : (ℕ → Bool) → ℕ → Option ℕ
-largest passes zero = elim (passes zero) [ true ↦ some zero | false ↦ none ]
-largest passes (suc n) = elim (passes (suc n)) [ true ↦ some (suc n) | false ↦ largest passes n ]
+largest passes zero = elim (passes zero) [ true ↦ Some zero | false ↦ None ]
+largest passes (suc n) = elim (passes (suc n)) [ true ↦ Some (suc n) | false ↦ largest passes n ]
 
 -- "0 to 4,066" (02, W-206: for cable 994): the longest chain of an event that has a section to itself. A longer one
 -- leaves no segment packable, so the bound only ends the search
@@ -32,17 +31,17 @@ chain_max sizes = room sizes - event_overhead
 
 -- "The length 1, which no chain has, is never given; 0 is given then"
 abbrev pub never_one : Option ℕ → Option ℕ
-never_one none = none
-never_one (some n) = some (elim (eqb n 1) [ true ↦ 0 | false ↦ n ])
+never_one None = None
+never_one (Some n) = Some (elim (eqb n 1) [ true ↦ 0 | false ↦ n ])
 
 -- "None comes exactly when the start is taken, is past the last segment, or not even 0 fits"
 unfoldable pub length_at : Sizes → List Event → ℕ → Option ℕ
 unfolding leaves_packable largest
 length_at sizes es start =
     elim (is_taken start es) [
-      | true ↦ none
+      | true ↦ None
       | false ↦ elim (ltb start window_seconds) [
-        | false ↦ none
+        | false ↦ None
         | true ↦ never_one (largest (leaves_packable sizes es start) (chain_max sizes))
       ]
     ]
@@ -57,6 +56,6 @@ unfoldable pub chain_room : Sizes → Pools → EventList → ℕ → ChainRoom
 unfolding length_at
 chain_room sizes pools list start =
     elim (sound sizes pools list) [
-      | false ↦ record { number = 12; given = none }
+      | false ↦ record { number = 12; given = None }
       | true ↦ record { number = 0; given = length_at sizes (events_of pools list) start }
     ]

@@ -1,7 +1,6 @@
 -- Answers computed (02, W-201): the figures of the papers' sizes, short sections, and which answer comes first. The
 -- values are in proofs/Examples.antt. Assumes nothing.
-use Rattle.std.specs.Prelude.{ℕ, ◌*◌, ◌-◌, ◌/◌, ◌%◌, ◌≡◌, List, [], ◌∷◌, ◌++◌, map, replicate}
-use Rattle.std.proofs.Math.Option.{none, some}
+use Rattle.std.specs.Prelude.{ℕ, ◌*◌, ◌-◌, ◌/◌, ◌%◌, ◌≡◌, List, [], ◌∷◌, ◌++◌, map, replicate, None, Some}
 use Rattle.eit.specs.Chain.{Descriptor, chain_bytes}
 use Rattle.eit.specs.Sizes.{broadcast, cable}
 use Rattle.eit.specs.declared.Sizes.{Sizes}
@@ -17,13 +16,13 @@ room_in sizes c start = chain_room sizes c.pools c.list start
 
 -- in raw numbers: a length, none, and a refusal
 abbrev pub fits_up_to : ℕ → ChainRoom
-fits_up_to n = record { number = 0; given = some n }
+fits_up_to n = record { number = 0; given = Some n }
 
 abbrev pub none_fits : ChainRoom
-none_fits = record { number = 0; given = none }
+none_fits = record { number = 0; given = None }
 
 abbrev pub refused12 : ChainRoom
-refused12 = record { number = 12; given = none }
+refused12 = record { number = 12; given = None }
 
 -- a descriptor with a body of n bytes
 abbrev pub descriptor : ℕ → Descriptor

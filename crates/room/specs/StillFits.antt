@@ -1,8 +1,7 @@
 -- What W-201 claims (02, "How much text still fits"), each clause above its theorem: one record type. The value is
 -- `still_fits` of proofs/StillFits.antt. A start may be any number. Assumes nothing.
-use Rattle.std.specs.Prelude.{◌≡◌, not, ◌↔◌, ◌⊎◌, ℕ, ◌+◌, ◌≤◌, ◌<◌, T, length}
+use Rattle.std.specs.Prelude.{◌≡◌, not, ◌↔◌, ◌⊎◌, ℕ, ◌+◌, ◌≤◌, ◌<◌, T, length, None, Some}
 use mathlib.Core.List.{List, [], ◌∷◌, map, Memᴰ}
-use Rattle.std.proofs.Math.Option.{none, some}
 use Rattle.eit.specs.Sizes.{sizes_of, broadcast, cable}
 use Rattle.eit.specs.declared.Sizes.{Sizes}
 use Rattle.eit.specs.declared.Caller.{Caller}
@@ -35,31 +34,31 @@ start_and_length e = (e.start, length e.chain)
 pub record StillFitsFor (sizes : Sizes) : Type 0 where
   -- "An unsound list answers 12", whatever the start; a sound one is not refused
   pub unsound : (pools : Pools) (list : EventList) (start : ℕ) → T (not (sound sizes pools list))
-      → chain_room sizes pools list start ≡ record { number = 12; given = none }
+      → chain_room sizes pools list start ≡ record { number = 12; given = None }
   pub answers : (pools : Pools) (list : EventList) (start : ℕ) → T (sound sizes pools list)
       → (chain_room sizes pools list start).number ≡ 0
   -- "give the largest chain length .. with which one more event at that start leaves its segment packable"; "No greater
   -- chain length fits, against all start-ordered packings": every event at that start is held exactly if its chain is
   -- no longer than the length that is given
   pub fits_exactly : (pools : Pools) (list : EventList) (e : Event) (n : ℕ) → T (is_chain e.chain)
-      → (chain_room sizes pools list e.start).given ≡ some n
+      → (chain_room sizes pools list e.start).given ≡ Some n
       → HeldWith sizes (events_of pools list) e ↔ (length e.chain ≤ n)
   -- "0 to 4,066": at most what a section has for a chain; 18 bytes are the section's own, and 12 the event's
-  pub at_most : (pools : Pools) (list : EventList) (start n : ℕ) → (chain_room sizes pools list start).given ≡ some n
+  pub at_most : (pools : Pools) (list : EventList) (start n : ℕ) → (chain_room sizes pools list start).given ≡ Some n
       → n + 30 ≤ sizes.section_limit
   -- "The length 1, which no chain has, is never given", but always one that some chain has. "0 is given then": by
   -- `fits_exactly`, where an event without descriptors is held and no longer one
-  pub never_1 : (pools : Pools) (list : EventList) (start : ℕ) → (chain_room sizes pools list start).given ≡ some 1 → ⊥
-  pub a_chain : (pools : Pools) (list : EventList) (start n : ℕ) → (chain_room sizes pools list start).given ≡ some n
+  pub never_1 : (pools : Pools) (list : EventList) (start : ℕ) → (chain_room sizes pools list start).given ≡ Some 1 → ⊥
+  pub a_chain : (pools : Pools) (list : EventList) (start n : ℕ) → (chain_room sizes pools list start).given ≡ Some n
       → (bs : List ℕ) × T (is_chain bs) × (length bs ≡ n)
   -- "None comes exactly when the start is taken, is past the last segment, or not even 0 fits" ..
   pub none_exactly : (pools : Pools) (list : EventList) (start : ℕ) → T (sound sizes pools list)
-      → ((chain_room sizes pools list start).given ≡ none)
+      → ((chain_room sizes pools list start).given ≡ None)
       ↔ (Taken start (events_of pools list) ⊎ (5_529_600 ≤ start)
       ⊎ ((e : Event) → e.start ≡ start → e.chain ≡ [] → HeldWith sizes (events_of pools list) e → ⊥))
   -- .. and then, at a start that is free and not past it, no event at all is held, whatever its chain is,
   pub none_held : (pools : Pools) (list : EventList) (start : ℕ) → T (sound sizes pools list)
-      → (chain_room sizes pools list start).given ≡ none → (Taken start (events_of pools list) → ⊥) → start < 5_529_600
+      → (chain_room sizes pools list start).given ≡ None → (Taken start (events_of pools list) → ⊥) → start < 5_529_600
       → (e : Event) → e.start ≡ start → HeldWith sizes (events_of pools list) e → ⊥
   -- since where an event is held, one with a chain that is no longer is
   pub shorter_held : (es : List Event) (e f : Event) → f.start ≡ e.start → length f.chain ≤ length e.chain
@@ -81,14 +80,14 @@ pub record StillFitsFor (sizes : Sizes) : Type 0 where
       → ((index : ℕ) → (index ≡ segment_index r.start → ⊥) → EightHold sizes (events g) index)
       → (b.number ≡ 10 → b.value ≡ segment_index r.start)
       × ((b.number ≡ 10)
-      ↔ ((n : ℕ) → (chain_room sizes g.pools g.list r.start).given ≡ some n → n < r.chain_length))
+      ↔ ((n : ℕ) → (chain_room sizes g.pools g.list r.start).given ≡ Some n → n < r.chain_length))
 
 -- 02, W-206: ".. are shown for any section size .., then used at both", and "the text that still fits is at most 994"
 pub record StillFits : Type 0 where
   pub any_size : (sizes : Sizes) → StillFitsFor sizes
   pub at_both : (caller : Caller) → StillFitsFor (sizes_of caller)
   pub broadcast_4066 : (pools : Pools) (list : EventList) (start n : ℕ)
-      → (chain_room broadcast pools list start).given ≡ some n
+      → (chain_room broadcast pools list start).given ≡ Some n
       → n ≤ 4_066
-  pub cable_994 : (pools : Pools) (list : EventList) (start n : ℕ) → (chain_room cable pools list start).given ≡ some n
+  pub cable_994 : (pools : Pools) (list : EventList) (start n : ℕ) → (chain_room cable pools list start).given ≡ Some n
       → n ≤ 994
