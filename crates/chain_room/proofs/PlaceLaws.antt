@@ -1,8 +1,9 @@
 -- The records that start before a start, one after the other, and the first that does not. Assumes nothing.
 use mathlib.Core.Path.{◌≡◌, refl, sym, ap, ◌∙◌}
 use mathlib.Core.Bool.{false}
+use mathlib.Core.Logic.{⊎_elim}
 use mathlib.Core.List.{List, ◌∷◌}
-use Prim.Native.Nat.{ℕ, suc, ◌+◌, ◌*◌, ◌≤◌, ◌<◌}
+use Prim.Native.Nat.{ℕ, suc, ◌+◌, ◌*◌, ◌≤◌, ◌<◌, max}
 use native.Mathlib.Omega.{arith}
 use borrow.Author.Tests.{lt-ltb, le-ltb}
 use lib.Dec.{eqb}
@@ -11,6 +12,7 @@ use Rattle.eit.specs.Pools.{Pools}
 use Rattle.eit.specs.Records.{record_size, front_record}
 use Rattle.eit.specs.Events.{Event, event_of}
 use Rattle.eit.specs.declared.Record.{Record}
+use Rattle.eit.proofs.Test.{le_or_lt}
 use Rattle.build_counts.specs.Between.{events_between}
 use Rattle.build_counts.proofs.BetweenLaws.{between_more, between_end}
 use Rattle.chain_room.specs.Places.{earlier, starts_first}
@@ -35,11 +37,14 @@ pub earlier_start : (numbers : List ℕ) (from end start : ℕ) → EarlierSoFar
 earlier_start numbers from end start = record { same = λ pools. refl }
 
 module _ {numbers : List ℕ} {from end start at : ℕ} (so_far : EarlierSoFar numbers from end start at) where
-  pub earlier_end : end ≤ at → (pools : Pools) → at ≡ from + earlier start (events_between pools numbers from end)
-  earlier_end behind pools =
+  pub earlier_end : end ≤ at → (from ≤ end → at ≤ end) → (pools : Pools)
+      → max from end ≡ from + earlier start (events_between pools numbers from end)
+  earlier_end behind within pools =
       let none_left : earlier start (events_between pools numbers at end) ≡ 0 =
       ap (earlier start) (between_end pools numbers at end behind) in
-      omega (arith, so_far.same pools)
+      ⊎_elim (λ order. omega (arith, so_far.same pools, within order))
+      (λ empty.
+      omega (arith, ap (earlier start) (between_end pools numbers from end (omega arith)))) (le_or_lt from end)
 
   module _ (inside : at < end) {r : Record} (read : r ≡ front_record (drop (at * record_size) numbers)) where
     next : (pools : Pools)
@@ -69,6 +74,9 @@ module _ {numbers : List ℕ} {from end start at : ℕ} (so_far : EarlierSoFar n
               ap (λ (i : ℕ). i + earlier start (events_between pools numbers i end)) one in
               omega (arith, so_far.same pools);
         }
+
+-- the pass
+pub ruleset passes = (earlier_start, earlier_end, earlier_stop, earlier_turn)
 
 -- ---- the record at a place
 

@@ -4,12 +4,12 @@ use mathlib.Core.Path.{◌≡◌, refl, sym, ap, ap₂, subst, ◌∙◌}
 use mathlib.Core.Bool.{Bool, true, false, not, ◌||◌}
 use mathlib.Core.Logic.{⊎_elim}
 use mathlib.Core.List.{List, [], ◌∷◌}
-use mathlib.Core.Option.{Option, none}
 use Prim.Native.Nat.{ℕ, suc, ◌+◌, ◌*◌, ◌/◌, ◌≤◌, ◌<◌}
 use native.Mathlib.Omega.{arith}
 use borrow.Author.Tests.{eq-eqb, ne_eqb, lt-ltb, le-ltb}
 use lib.Dec.{T, eqb, T_not}
 use lib.ListN.{length, take, drop}
+use Rattle.std.specs.Prelude.{Option, Some, None}
 use Rattle.eit.specs.Sizes.{room}
 use Rattle.eit.specs.declared.Sizes.{Sizes}
 use Rattle.eit.specs.Limits.{window_seconds}
@@ -27,7 +27,7 @@ use Rattle.sections.specs.Count.{segment_events}
 use Rattle.sections.proofs.Count.{events_cases}
 use Rattle.schedule.proofs.EventsFrom.{events_from, from_more, from_same}
 use Rattle.room.specs.OneMore.{is_taken}
-use Rattle.room.specs.ChainRoom.{ChainRoom, leaves_packable, chain_max, never_one, length_at}
+use Rattle.room.specs.ChainRoom.{leaves_packable, chain_max, never_one, length_at}
 use Rattle.room.proofs.OneMore.{up_to}
 use Rattle.room.proofs.Largest.{largest_same}
 use Rattle.room.proofs.ChainRoom.{length_taken, length_free, length_past}
@@ -155,17 +155,15 @@ module _ (sizes : Sizes) (pools : Pools) (numbers : List ℕ) (count start : ℕ
       subst (λ (fs : List Event). T (rising fs)) (events_are pools numbers count)
       (events_rise sizes pools (lent_list numbers count) is_sound_holds)
 
-  -- what the answer is to be, of the list's events
-  abbrev pub answer : ChainRoom
-  answer = record { number = 0; given = length_at sizes (events_of pools (lent_list numbers count)) start }
+  -- what the length is to be, of the list's events
+  abbrev pub answer : Option ℕ
+  answer = length_at sizes (events_of pools (lent_list numbers count)) start
 
-  answer_is : (o : Option ℕ) → length_at sizes es start ≡ o → record { number = 0; given = o } ≡ answer
-  answer_is o is =
-      ap (λ (n : Option ℕ). record { number = 0; given = n })
-      (sym (ap (λ (fs : List Event). length_at sizes fs start) (events_are pools numbers count) ∙ is))
+  answer_is : (o : Option ℕ) → length_at sizes es start ≡ o → o ≡ answer
+  answer_is o is = sym (ap (λ (fs : List Event). length_at sizes fs start) (events_are pools numbers count) ∙ is)
 
-  pub past_answer : window_seconds ≤ start → record { number = 0; given = none } ≡ answer
-  past_answer past = answer_is none (length_past sizes es start past)
+  pub past_answer : window_seconds ≤ start → None ≡ answer
+  past_answer past = answer_is None (length_past sizes es start past)
 
   -- the places
   module _ {from end place : ℕ} (is-from : from ≡ 0 + earlier (start / 10_800 * 10_800) (lent 0 count))
@@ -216,12 +214,12 @@ module _ (sizes : Sizes) (pools : Pools) (numbers : List ℕ) (count start : ℕ
         ∙ ap (starts_first start) (sym behind_is)
 
     module _ {first : Bool} (is_first : first ≡ starts_first start (lent place end)) where
-      pub taken_answer : first ≡ true → record { number = 0; given = none } ≡ answer
+      pub taken_answer : first ≡ true → None ≡ answer
       taken_answer at =
-          answer_is none (length_taken sizes es start (subst T (sym (taken_is ∙ sym is_first ∙ at)) tt))
+          answer_is None (length_taken sizes es start (subst T (sym (taken_is ∙ sym is_first ∙ at)) tt))
 
       pub free_answer : first ≡ false → start < window_seconds → {bytes : ℕ} → bytes ≡ room sizes
-          → record { number = 0; given = never_one (longest_between bytes (lent from place) (lent place end)) } ≡ answer
+          → never_one (longest_between bytes (lent from place) (lent place end)) ≡ answer
       free_answer not_at inside {bytes} is-bytes =
           let free : T (not (is_taken start es)) =
           subst (λ (b : Bool). T (not b)) (sym (taken_is ∙ sym is_first ∙ not_at)) tt in
@@ -231,11 +229,11 @@ module _ (sizes : Sizes) (pools : Pools) (numbers : List ℕ) (count start : ℕ
           (length_free sizes es start free inside
           ∙ ap never_one
           (largest_same (leaves_packable sizes es start)
-          (holds (room sizes) (filled event_size (room sizes) (begun (room sizes) 7) (take q seg)) (drop q seg))
+          (holds (room sizes) (filled event_size (room sizes) (Some (begun (room sizes) 7)) (take q seg)) (drop q seg))
           (λ n.
           leaves_in_segment sizes es start n rises
           ∙ ap (λ (p : ℕ).
-          holds (room sizes) (filled event_size (room sizes) (begun (room sizes) 7) (take p seg)) (drop p seg) n)
+          holds (room sizes) (filled event_size (room sizes) (Some (begun (room sizes) 7)) (take p seg)) (drop p seg) n)
           place-free)
           (chain_max sizes)
           ∙ ap₂ (longest_between (room sizes)) (sym before_is) (sym behind_is)

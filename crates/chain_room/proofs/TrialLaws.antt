@@ -1,71 +1,87 @@
 -- A pass over events, one after the other; and the lengths that fit, by halving: below `low` all fit, and from `high`
 -- on none does. Assumes nothing.
-use mathlib.Core.Path.{◌≡◌, refl, sym, ap, subst, ◌∙◌}
+use mathlib.Core.Path.{◌≡◌, sym, ap, subst, ◌∙◌}
 use mathlib.Core.Bool.{Bool, true, false, not}
 use mathlib.Core.Logic.{⊎_elim}
 use mathlib.Core.List.{List}
-use mathlib.Core.Option.{Option}
 use Prim.Native.Nat.{ℕ, zero, suc, ◌+◌, ◌-◌, ◌*◌, ◌≤◌, ◌<◌}
 use native.Mathlib.Omega.{arith}
-use borrow.Author.Tests.{ne_eqb}
 use lib.Dec.{T}
 use lib.ListN.{drop}
+use Rattle.std.specs.Prelude.{Option, Some, None, is_some}
 use Rattle.eit.specs.Pools.{Pools}
 use Rattle.eit.specs.Records.{record_size, front_record}
 use Rattle.eit.specs.Events.{Event, event_of}
 use Rattle.eit.proofs.Test.{test_or}
 use Rattle.packing.specs.declared.Filling.{Filling}
 use Rattle.packing.specs.OnePass.{begun, added, filled}
-use Rattle.packing.proofs.OnePass.{smaller_held}
+use Rattle.packing.proofs.OnePass.{smaller_held, filled_none}
 use Rattle.sections.specs.Section.{event_overhead, event_size}
 use Rattle.room.specs.ChainRoom.{largest, never_one}
 use Rattle.room.proofs.Largest.{largest_last, largest_none}
 use Rattle.build_counts.specs.Between.{events_between}
 use Rattle.build_counts.proofs.BetweenLaws.{between_more, between_end}
-use Rattle.chain_room.specs.declared.RoomAnswer.TheVariants.{Fits, NoneFits}
-use Rattle.chain_room.specs.Outcome.{outcome_of}
 use Rattle.chain_room.specs.Trial.{holds, last_of, longest_between}
 
 -- ---- the pass
 
-pub record FilledSoFar (pools : Pools) (numbers : List ℕ) (from end room : ℕ) (before : Filling) (filling : Filling)
-    (at : ℕ) : Type 0 where
+pub record FilledSoFar (pools : Pools) (numbers : List ℕ) (from end room : ℕ) (before : Option Filling)
+    (filling : Filling) (at : ℕ) : Type 0 where
   pub same : filled event_size room before (events_between pools numbers from end)
-      ≡ filled event_size room filling (events_between pools numbers at end)
+      ≡ filled event_size room (Some filling) (events_between pools numbers at end)
 
-module _ {pools : Pools} {numbers : List ℕ} {from end room : ℕ} {before filling : Filling} {at : ℕ}
+pub fill_start : (pools : Pools) (numbers : List ℕ) (from end room : ℕ) {before : Option Filling} {filling : Filling}
+    → before ≡ Some filling
+    → FilledSoFar pools numbers from end room before filling from
+fill_start pools numbers from end room is =
+    record { same = ap (λ (f : Option Filling). filled event_size room f (events_between pools numbers from end)) is }
+
+module _ {pools : Pools} {numbers : List ℕ} {from end room : ℕ} {before : Option Filling} {filling : Filling} {at : ℕ}
     (so_far : FilledSoFar pools numbers from end room before filling at) where
-  pub fill_end : end ≤ at → filling ≡ filled event_size room before (events_between pools numbers from end)
+  pub fill_end : end ≤ at → Some filling ≡ filled event_size room before (events_between pools numbers from end)
   fill_end behind =
-      sym (so_far.same ∙ ap (filled event_size room filling) (between_end pools numbers at end behind))
+      sym (so_far.same ∙ ap (filled event_size room (Some filling)) (between_end pools numbers at end behind))
 
-  pub fill_more : at < end → {size : ℕ} {next : Filling}
-      → size ≡ event_size (event_of pools (front_record (drop (at * record_size) numbers)))
-      → next ≡ added room filling size
-      → FilledSoFar pools numbers from end room before next (at + 1)
-  fill_more inside {size} {next} is-size is_next_holds =
-      let e : Event = event_of pools (front_record (drop (at * record_size) numbers)) in
-      let one : suc at ≡ at + 1 = omega arith in
-      record {
-        same =
-            so_far.same
-            ∙ ap (filled event_size room filling) (between_more pools numbers at end inside)
-            ∙ ap (λ (f : Filling). filled event_size room f (events_between pools numbers (suc at) end))
-            (sym (is_next_holds ∙ ap (added room filling) is-size))
-            ∙ ap (λ (i : ℕ). filled event_size room next (events_between pools numbers i end)) one;
-      }
+  module _ (inside : at < end) {size : ℕ}
+      (is_size : size ≡ event_size (event_of pools (front_record (drop (at * record_size) numbers))))
+      {next : Option Filling} (is_next : next ≡ added room filling size) where
+    turn : filled event_size room before (events_between pools numbers from end)
+        ≡ filled event_size room next (events_between pools numbers (at + 1) end)
+    turn =
+        let one : suc at ≡ at + 1 = omega arith in
+        so_far.same
+        ∙ ap (filled event_size room (Some filling)) (between_more pools numbers at end inside)
+        ∙ ap (λ (f : Option Filling). filled event_size room f (events_between pools numbers (suc at) end))
+        (sym (is_next ∙ ap (added room filling) is_size))
+        ∙ ap (λ (i : ℕ). filled event_size room next (events_between pools numbers i end)) one
+
+    pub fill_more : {filled_next : Filling} → next ≡ Some filled_next
+        → FilledSoFar pools numbers from end room before filled_next (at + 1)
+    fill_more held =
+        record {
+          same =
+              turn
+              ∙ ap (λ (f : Option Filling). filled event_size room f (events_between pools numbers (at + 1) end)) held;
+        }
+
+    pub fill_none : next ≡ None → None ≡ filled event_size room before (events_between pools numbers from end)
+    fill_none not_held =
+        sym (turn
+        ∙ ap (λ (f : Option Filling). filled event_size room f (events_between pools numbers (at + 1) end)) not_held
+        ∙ filled_none event_size room (events_between pools numbers (at + 1) end))
 
 -- ---- halving
 
 -- a shorter chain is held where a longer one is
-shorter_holds : (room : ℕ) (before : Filling) (behind : List Event) (m n : ℕ) → m ≤ n → T (holds room before behind n)
-    → T (holds room before behind m)
+shorter_holds : (room : ℕ) (before : Filling) (behind : List Event) (m n : ℕ) → m ≤ n
+    → T (holds room (Some before) behind n)
+    → T (holds room (Some before) behind m)
 shorter_holds room before behind m n less =
-    smaller_held event_size room before (event_overhead + m) (event_overhead + n) behind (omega arith)
+    smaller_held event_size room (Some before) (event_overhead + m) (event_overhead + n) behind (omega arith)
 
 module _ (room : ℕ) (before : Filling) (behind : List Event) where
   abbrev passes : ℕ → Bool
-  passes n = holds room before behind n
+  passes n = holds room (Some before) behind n
 
   abbrev most : ℕ
   most = room - event_overhead
@@ -85,29 +101,18 @@ module _ (room : ℕ) (before : Filling) (behind : List Event) where
         above = λ n least few. absurd (omega arith);
       }
 
-  -- a trial of a length: the event, and those behind it
-  pub record Trial (size : ℕ) (all : Filling) : Type 0 where
-    pub with : Filling
-    pub one : with ≡ added room before (event_overhead + size)
-    pub others : all ≡ filled event_size room with behind
-
-  module _ {low high : ℕ} (h : Halving low high) (size : ℕ) {all : Filling} (t : Trial size all) where
-    shows : all.held ≡ passes size
-    shows =
-        ap (λ (f : Filling). f.held)
-        (t.others ∙ ap (λ (f : Filling). filled event_size room f behind) t.one)
-
-    pub halving_held : size < high → all.held ≡ true → Halving (size + 1) high
-    halving_held inside held =
+  -- a trial of a length
+  module _ {low high : ℕ} (h : Halving low high) (size : ℕ) {held : Bool} (shows : held ≡ passes size) where
+    pub halving_held : size < high → held ≡ true → Halving (size + 1) high
+    halving_held inside is =
         record {
           order = omega arith;
           few = h.few;
-          below = λ n less.
-              shorter_holds room before behind n size (omega arith) (subst T (sym (sym shows ∙ held)) tt);
+          below = λ n less. shorter_holds room before behind n size (omega arith) (subst T (sym is ∙ shows) tt);
           above = h.above;
         }
 
-    pub halving_not : low ≤ size → size < high → all.held ≡ false → Halving low size
+    pub halving_not : low ≤ size → size < high → held ≡ false → Halving low size
     halving_not least inside fails =
         record {
           order = least;
@@ -129,28 +134,20 @@ module _ (room : ℕ) (before : Filling) (behind : List Event) where
         behind = λ k more few. h.above k (omega arith) few;
       })
 
--- what has been packed before the place
-pub longest_is : (room : ℕ) (xs ys : List Event) {before : Filling} → before ≡ filled event_size room (begun room 7) xs
-    → largest (holds room before ys) (room - event_overhead) ≡ longest_between room xs ys
-longest_is room xs ys is = ap (λ (f : Filling). largest (holds room f ys) (room - event_overhead)) is
+-- ---- the length
 
--- ---- the answer, of how many lengths fit
+module _ (room : ℕ) (xs ys : List Event) where
+  -- the events before the place are packed, or one of them is not held, and then no length fits
+  pub longest_is : {before : Filling} → Some before ≡ filled event_size room (Some (begun room 7)) xs
+      → largest (holds room (Some before) ys) (room - event_overhead) ≡ longest_between room xs ys
+  longest_is is = ap (λ (f : Option Filling). largest (holds room f ys) (room - event_overhead)) is
 
-module _ (lengths : ℕ) where
-  pub answer_none : lengths ≡ 0 → outcome_of NoneFits ≡ record { number = 0; given = never_one (last_of lengths) }
-  answer_none is = rw is
-
-  pub answer_one : lengths ≡ 2 → outcome_of (Fits 0) ≡ record { number = 0; given = never_one (last_of lengths) }
-  answer_one is = rw is
-
-  pub answer_other : (lengths ≡ 0 → ⊥) → (lengths ≡ 2 → ⊥)
-      → outcome_of (Fits (lengths - 1)) ≡ record { number = 0; given = never_one (last_of lengths) }
-  answer_other some_fit not-two =
-      let n : ℕ = lengths - 1 in
-      let is : lengths ≡ suc n = pred_suc lengths some_fit in
-      ap (λ (o : Option ℕ). record { number = 0; given = o })
-      (sym (ap (λ (k : ℕ). never_one (last_of k)) is ∙ rw (never_one, ne_eqb n 1 (λ one. not-two (omega arith)))))
-    where
-      pred_suc : (k : ℕ) → (k ≡ 0 → ⊥) → k ≡ suc (k - 1)
-      pred_suc zero some = absurd (some refl)
-      pred_suc (suc k) some = omega arith
+  pub longest_none : None ≡ filled event_size room (Some (begun room 7)) xs
+      → None ≡ never_one (longest_between room xs ys)
+  longest_none is =
+      let none_held : (n : ℕ) → holds room None ys n ≡ false =
+      λ n. ap (λ (f : Option Filling). is_some f) (filled_none event_size room ys) in
+      ap never_one
+      (sym (largest_none (holds room None ys) (room - event_overhead)
+      (λ n few. subst (λ (b : Bool). T (not b)) (sym (none_held n)) tt))
+      ∙ ap (λ (f : Option Filling). largest (holds room f ys) (room - event_overhead)) is)

@@ -9,49 +9,41 @@ use build_counts::cut;
 use codec::pools::Pools;
 use packing::Filling;
 
-// One more event, of `size` bytes.
-pub fn add(filling: Filling, size: usize, room: usize) -> Filling
+// One more event, of `size` bytes. None: it is not held.
+#[tactic(auto, unfolding(packing::specs::OnePass::added))]
+pub fn add(filling: Filling, size: usize, room: usize) -> Option<Filling>
     ensures { result ≡ added room filling size }
 {
     if size <= filling.free {
-        return Filling {
-            held: filling.held,
-            more: filling.more,
+        return Some(Filling {
             free: filling.free - size,
-        };
+            ..filling
+        });
     }
-    if 1 <= filling.more && size <= room {
-        return Filling {
-            held: filling.held,
-            more: filling.more - 1,
-            free: room - size,
-        };
+    if filling.more == 0 || room < size {
+        return None;
     }
-    Filling {
-        held: false,
-        more: filling.more,
-        free: filling.free,
-    }
+    Some(Filling {
+        more: filling.more - 1,
+        free: room - size,
+    })
 }
 
-// The pass over the events from `from` to `end`.
+// The pass over the events from `from` to `end`. None: one of them, or of those before, is not held.
 pub fn fill(
     list: &[u32],
     from: usize,
     end: usize,
     pools: &Pools<'_>,
     room: usize,
-    before: Filling,
-) -> Filling
+    before: Option<Filling>,
+) -> Option<Filling>
     ensures { result ≡ filled event_size room before
         (events_between pools.now list.now from end) }
 {
-    let mut filling = before;
-    let mut at = from;
-    while at < end {
-        let size = cut::event_size(list, at, pools);
-        filling = add(filling, size, room);
-        at += 1;
+    let mut filling = before?;
+    for at in from..end {
+        filling = add(filling, cut::event_size(list, at, pools), room)?;
     }
-    filling
+    Some(filling)
 }

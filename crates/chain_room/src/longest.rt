@@ -3,10 +3,9 @@ ghost use Rattle.std.specs.Prelude.{◌≡◌, ◌-◌};
 ghost use Rattle.sections.specs.Section.{event_overhead};
 ghost use Rattle.room.specs.ChainRoom.{largest, never_one};
 ghost use Rattle.build_counts.specs.Between.{events_between};
-ghost use Rattle.chain_room.specs.Outcome.{outcome_of};
 ghost use Rattle.chain_room.specs.Trial.{holds, last_of, longest_between};
 
-use crate::{RoomAnswer, filling};
+use crate::filling;
 use codec::pools::Pools;
 use eit::limits::{EVENT_OVERHEAD, SEGMENT_SECTIONS_MAX};
 use packing::Filling;
@@ -15,10 +14,7 @@ use packing::Filling;
 fn chain_max(room: u16) -> u16
     ensures { result ≡ room - event_overhead }
 {
-    if room < EVENT_OVERHEAD as u16 {
-        return 0;
-    }
-    room - EVENT_OVERHEAD as u16
+    room.saturating_sub(EVENT_OVERHEAD as u16)
 }
 
 // How many lengths, from 0 on, the chain of one more event can have: the events before it are packed in `before`, and
@@ -32,7 +28,7 @@ fn count_lengths(
     before: Filling,
 ) -> u16
     ensures { largest
-        (holds room before
+        (holds room (Some before)
         (events_between pools.now list.now place end))
         (room - event_overhead)
         ≡ last_of result }
@@ -42,8 +38,7 @@ fn count_lengths(
     while low < high {
         let tried = low + (high - low) / 2;
         let with = filling::add(before, EVENT_OVERHEAD + tried as usize, room as usize);
-        let all = filling::fill(list, place, end, pools, room as usize, with);
-        if all.held {
+        if filling::fill(list, place, end, pools, room as usize, with).is_some() {
             low = tried + 1;
         } else {
             high = tried;
@@ -52,20 +47,18 @@ fn count_lengths(
     low
 }
 
-// The answer where so many lengths fit. 1 is a length that no chain has, and 0 is given then.
-fn answer_of(lengths: u16) -> RoomAnswer
-    ensures { outcome_of result ≡ record { number = 0; given = never_one (last_of lengths) } }
+// The length where so many fit. 1 is a length that no chain has, and 0 is given then.
+fn length_of(lengths: u16) -> Option<u32>
+    ensures { result ≡ never_one (last_of lengths) }
 {
-    if lengths == 0 {
-        return RoomAnswer::NoneFits;
+    match lengths {
+        0 => None,
+        2 => Some(0),
+        _ => Some(lengths as u32 - 1),
     }
-    if lengths == 2 {
-        return RoomAnswer::Fits(0);
-    }
-    RoomAnswer::Fits(lengths as u32 - 1)
 }
 
-// The answer for an event at `place` among those from `from` to `end`, which are its segment's.
+// The length for an event at `place` among those from `from` to `end`, which are its segment's.
 pub fn longest(
     list: &[u32],
     from: usize,
@@ -73,16 +66,14 @@ pub fn longest(
     end: usize,
     pools: &Pools<'_>,
     room: u16,
-) -> RoomAnswer
+) -> Option<u32>
     ensures { let lent = events_between pools.now list.now in
-        outcome_of result
-        ≡ record { number = 0; given = never_one (longest_between room (lent from place) (lent place end)) } }
+        result ≡ never_one (longest_between room (lent from place) (lent place end)) }
 {
     let begun = Filling {
-        held: true,
         more: SEGMENT_SECTIONS_MAX - 1,
         free: room as usize,
     };
-    let before = filling::fill(list, from, place, pools, room as usize, begun);
-    answer_of(count_lengths(list, place, end, pools, room, before))
+    let before = filling::fill(list, from, place, pools, room as usize, Some(begun))?;
+    length_of(count_lengths(list, place, end, pools, room, before))
 }

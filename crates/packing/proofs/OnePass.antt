@@ -113,7 +113,7 @@ module _ {A : Type 0} (size : A → ℕ) (room : ℕ) where
       no_room
 
   -- once an element is not held, the pass does not hold them all
-  filled_none : (xs : List A) → filled size room None xs ≡ None
+  pub filled_none : (xs : List A) → filled size room None xs ≡ None
   filled_none [] = refl
   filled_none (x ∷ xs) = filled_none xs
 

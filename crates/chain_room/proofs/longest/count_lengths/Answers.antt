@@ -4,19 +4,17 @@ use Rattle.std.proofs.Common.{◌+◌, ◌-◌, ◌/◌, arith}
 use Rattle.chain_room.proofs.TrialLaws.{halving_held, halving_not, halving_end}
 use Rattle.chain_room.proofs.longest.count_lengths.Goals as goal
 
-pub loop-low-preserved-then-all : goal.loop-low-preserved-then-all
-loop-low-preserved-then-all c =
+pub loop-low-preserved-then-is_some : goal.loop-low-preserved-then-is_some
+loop-low-preserved-then-is_some c =
     let turn = c.loop-low in
-    halving_held _ _ _ turn.invariant (turn.low + (turn.high - turn.low) / 2)
-    (record { with = c.add-with.result; one = c.add-with.ensures; others = c.fill-all.ensures })
-    (omega (arith, c.loop-low-test.true)) c.if-all.true
+    halving_held _ _ _ turn.invariant (turn.low + (turn.high - turn.low) / 2) (cc)
+    (omega (arith, c.loop-low-test.true)) c.if-is_some.true
 
 pub loop-low-preserved : goal.loop-low-preserved
 loop-low-preserved c =
     let turn = c.loop-low in
-    halving_not _ _ _ turn.invariant (turn.low + (turn.high - turn.low) / 2)
-    (record { with = c.add-with.result; one = c.add-with.ensures; others = c.fill-all.ensures })
-    (omega arith) (omega (arith, c.loop-low-test.true)) c.if-all.false
+    halving_not _ _ _ turn.invariant (turn.low + (turn.high - turn.low) / 2) (cc) (omega arith)
+    (omega (arith, c.loop-low-test.true)) c.if-is_some.false
 
 pub returns : goal.returns
 returns c = halving_end _ _ _ _ c.loop-low.invariant c.loop-low-test.false

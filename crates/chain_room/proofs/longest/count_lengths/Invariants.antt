@@ -1,7 +1,6 @@
 -- `count_lengths`: before each turn all lengths below `low` fit, and none does from `high` on. The measure is the
 -- lengths between them.
 use Rattle.std.proofs.Common.{◌-◌}
-use Rattle.eit.specs.Pools.{lent_pools}
 use Rattle.build_counts.specs.Between.{events_between}
 use Rattle.chain_room.proofs.TrialLaws.{Halving}
 use Rattle.chain_room.proofs.longest.count_lengths.Given as goal

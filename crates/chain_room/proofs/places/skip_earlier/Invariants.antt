@@ -1,10 +1,6 @@
--- `skip_earlier`: so far all records start before the start. The measure is the records left.
-use Rattle.std.proofs.Common.{◌-◌}
+-- `skip_earlier`: so far all records start before the start.
 use Rattle.chain_room.proofs.PlaceLaws.{EarlierSoFar}
 use Rattle.chain_room.proofs.places.skip_earlier.Given as goal
 
 abbrev pub invariant-loop-at : goal.invariant-loop-at
 invariant-loop-at l = EarlierSoFar l.list l.from l.end l.start l.at
-
-abbrev pub decreases-loop-at : goal.decreases-loop-at
-decreases-loop-at l = l.end - l.at

@@ -1,14 +1,14 @@
--- `answer_at` meets its contract: a start past the last segment, one that is taken, and else the longest chain between
+-- `length_at` meets its contract: a start past the last segment, one that is taken, and else the longest chain between
 -- the segment's events. Assumes nothing.
 use Rattle.std.proofs.Common.{ℕ, List, ◌≡◌, ◌+◌, ◌<◌, sym, ap, ◌∙◌}
 use borrow.Author.Tests.{ltb-true, ltb-false}
 use Rattle.eit.specs.Limits.{window_seconds}
-use Rattle.eit.specs.Pools.{Pools, lent_pools}
+use Rattle.eit.specs.Pools.{Pools}
 use Rattle.eit.specs.Events.{Event}
 use Rattle.sections.specs.Segment.{segment_index}
 use Rattle.build_counts.specs.Between.{events_between, leading}
 use Rattle.chain_room.proofs.RoomLaws.{past_answer, taken_answer, free_answer}
-use Rattle.chain_room.proofs.answer_at.Goals as goal
+use Rattle.chain_room.proofs.length_at.Goals as goal
 
 pub returns-then-not-is_start : goal.returns-then-not-is_start
 returns-then-not-is_start c =
