@@ -4,5 +4,3 @@ pub mod VersionLaws
 pub mod StepLaws
 -- the walk over the sections, one after the other
 pub mod WalkLaws
--- where the walk ends
-pub mod EndLaws

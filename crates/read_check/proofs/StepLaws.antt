@@ -2,19 +2,20 @@
 -- refusal, and all together are the way on. By the laws of each refusal (`step_20` to `step_26` of sections).
 -- Assumes nothing.
 use mathlib.Core.Path.{◌≡◌, sym, ap, ap₂, subst, ◌∙◌}
-use mathlib.Core.Logic.{⊎_elim}
 use mathlib.Core.Bool.{Bool, true, false, not, ◌&&◌}
 use mathlib.Core.List.{List, map, reverse, ◌++◌}
-use mathlib.Core.Option.{Option, none, some}
+use mathlib.Core.Option.{some}
 use Prim.Native.Nat.{ℕ, ◌+◌, ◌≤◌, ◌<◌}
 use native.Mathlib.Omega.{arith}
 use lib.Dec.{T, leb→le, le→leb}
 use borrow.Author.Tests.{lt-leb}
 use lib.ListN.{length, length-map}
+use Rattle.std.specs.Prelude.{Some, None, Ok}
+use Rattle.std.specs.Bool.{then_some}
 use Rattle.eit.specs.declared.Sizes.{Sizes}
 use Rattle.eit.specs.Fields.{Bytes}
 use Rattle.eit.specs.Events.{Event}
-use Rattle.eit.proofs.Test.{tests, true_is, false_is, test_or}
+use Rattle.eit.proofs.Test.{tests}
 use Rattle.sections.specs.Segment.{table_first, table_max}
 use Rattle.sections.specs.Section.{Header}
 use Rattle.sections.specs.Decode.{stated_event_size, event_in, header_in, event_loop, split_events}
@@ -26,23 +27,16 @@ use Rattle.sections.specs.Walk.{Progress, behind, refused, step}
 use Rattle.sections.proofs.Walk.{step_passes}
 use Rattle.sections.proofs.Answers.{step_20, step_21, step_22, step_23, step_24, step_26}
 use Rattle.sections.proofs.Order.{seen_length}
-use Rattle.codec_crc.specs.CrcTables.{right_crc_tables}
 use Rattle.codec_section.specs.HeaderRead.{held_header}
 use Rattle.codec_section.specs.Versions.{with_version}
 use Rattle.codec_section.specs.declared.header.SectionHeader.{SectionHeader}
-use Rattle.read_checks.specs.RightCrc.{has_right_crc_by}
-use Rattle.read_checks.specs.HeaderBefore.{header_before, passed_header, is_header_by, checked_header}
-use Rattle.read_events.specs.EventPass.{EventPass, checked_events, pass_of}
+use Rattle.read_checks.specs.HeaderBefore.{header_before, is_header_by, checked_header}
+use Rattle.read_events.specs.EventPass.{EventPass, checked_events}
 use Rattle.read_events.specs.EventsSoFar.{EventsSoFar}
-use Rattle.read_checks.specs.declared.header.HeaderBefore.TheVariants.{Header as Behind}
-use Rattle.read_checks.specs.declared.header.HeaderCheck.TheVariants.{Header as Passing, Refused as Refusing}
-use Rattle.read_events.specs.declared.EventCheck.{EventCheck}
-use Rattle.read_checks.proofs.RightCrcLaws.{right_crc_by_tables}
 use Rattle.read_events.proofs.EventsSoFarLaws.{loop_checked, loop_so_far}
 use Rattle.read_check.specs.Tracks.{Tracks, SameVerdict}
 use Rattle.read_check.specs.declared.section.WalkState.{WalkState}
 use Rattle.read_check.proofs.VersionLaws.{tables_come, versions_noted, same_test}
-use Rattle.read_check.specs.declared.section.SectionVerdict.TheVariants.{Passed}
 
 -- a test that was made, and its outcome
 holds : {a b : Bool} → a ≡ b → a ≡ true → T b
@@ -51,33 +45,14 @@ holds made is = subst T (sym is ∙ made) tt
 fails : {a b : Bool} → a ≡ b → a ≡ false → T (not b)
 fails made is = subst (λ (t : Bool). T (not t)) (sym is ∙ made) tt
 
--- what 22 keeps of a section
-module _ (before : Option Header) (versions bs : List ℕ) where
-  kept_only : {h : Header} → some h ≡ checked_header before versions bs
-      → T (is_header_by before versions bs) × (h ≡ header_in bs)
-  kept_only {h} kept =
-      ⊎_elim
-      (λ (t : T (is_header_by before versions bs)).
-      let shown : checked_header before versions bs ≡ some (header_in bs) =
-      rw (checked_header, true_is (is_header_by before versions bs) t) in
-      (t, cc))
-      (λ (f : T (not (is_header_by before versions bs))).
-      let shown : checked_header before versions bs ≡ none =
-      rw (checked_header, false_is (is_header_by before versions bs) f) in
-      let z : ◌≡◌ {A = ℕ} 0 1 = cc in
-      absurd (omega arith))
-      (test_or (is_header_by before versions bs))
+-- what is kept of a value, by a test
+some_only : {A : Type 0} (b : Bool) {x y : A} → Some y ≡ then_some b x → T b × (y ≡ x)
+some_only true kept = (tt, cc)
+some_only false kept = cc
 
-  nothing_only : none ≡ checked_header before versions bs → T (not (is_header_by before versions bs))
-  nothing_only kept =
-      ⊎_elim
-      (λ (t : T (is_header_by before versions bs)).
-      let shown : checked_header before versions bs ≡ some (header_in bs) =
-      rw (checked_header, true_is (is_header_by before versions bs) t) in
-      let z : ◌≡◌ {A = ℕ} 0 1 = cc in
-      absurd (omega arith))
-      (λ (f : T (not (is_header_by before versions bs))). f)
-      (test_or (is_header_by before versions bs))
+none_only : {A : Type 0} (b : Bool) (x : A) → None ≡ then_some b x → T (not b)
+none_only true x kept = cc
+none_only false x kept = tt
 
 module _ {offset : ℕ} {state : WalkState} {versions words : List ℕ} {p : Progress}
     (tracks : Tracks offset state versions words p)
@@ -92,21 +67,17 @@ module _ {offset : ℕ} {state : WalkState} {versions words : List ℕ} {p : Pro
       → step sizes base p bs ≡ refused 20 offset
   refuses_20 made is = at_offset (step_20 sizes base p bs (fails made is))
 
-  module _ (bytes : Bytes bs) {framed : Bool} (frame : framed ≡ is_framed sizes bs) (frame-holds : framed ≡ true)
-      {tables : List ℕ} (right : tables ≡ right_crc_tables) where
+  module _ (bytes : Bytes bs) {framed : Bool} (frame : framed ≡ is_framed sizes bs) (frame-holds : framed ≡ true) where
     is_framed_holds : T (is_framed sizes bs)
     is_framed_holds = holds frame frame-holds
 
-    same_crc : has_right_crc_by tables bs ≡ has_right_crc bs
-    same_crc = ap (λ (t : List ℕ). has_right_crc_by t bs) right ∙ right_crc_by_tables bs bytes
-
-    pub refuses_21 : {crc_right : Bool} → crc_right ≡ has_right_crc_by tables bs → crc_right ≡ false
+    pub refuses_21 : {crc_right : Bool} → crc_right ≡ has_right_crc bs → crc_right ≡ false
         → step sizes base p bs ≡ refused 21 offset
-    refuses_21 made is = at_offset (step_21 sizes base p bs is_framed_holds (fails (made ∙ same_crc) is))
+    refuses_21 made is = at_offset (step_21 sizes base p bs is_framed_holds (fails made is))
 
-    module _ {crc_right : Bool} (crc : crc_right ≡ has_right_crc_by tables bs) (crc-holds : crc_right ≡ true) where
+    module _ {crc_right : Bool} (crc : crc_right ≡ has_right_crc bs) (crc-holds : crc_right ≡ true) where
       has_right_crc_holds : T (has_right_crc bs)
-      has_right_crc_holds = holds (crc ∙ same_crc) crc-holds
+      has_right_crc_holds = holds crc crc-holds
 
       -- a framed section's table is in range
       in_range_holds : (table_first ≤ (header_in bs).table_id) × ((header_in bs).table_id ≤ table_max)
@@ -122,18 +93,18 @@ module _ {offset : ℕ} {state : WalkState} {versions words : List ℕ} {p : Pro
           (ap (λ (b : Bool). has_fixed_bits bs && (is_table g.last_table_id && (is_same_file (latest p.before) g && b)))
           (sym (same_test g in_range_holds.0 in_range_holds.1 p.before tracks.come)))
 
-      pub refuses_22 : passed_header Refusing ≡ checked_header (header_before state.before) versions bs
+      pub refuses_22 : None ≡ checked_header (header_before state.before) versions bs
           → step sizes base p bs ≡ refused 22 offset
       refuses_22 kept =
           at_offset (step_22 sizes base p bs is_framed_holds has_right_crc_holds
           (subst (λ (b : Bool). T (not b)) same_header
-          (nothing_only (header_before state.before) versions bs kept)))
+          (none_only (is_header_by (header_before state.before) versions bs) (header_in bs) kept)))
 
       module _ {h : SectionHeader}
-          (kept : passed_header (Passing h) ≡ checked_header (header_before state.before) versions bs) where
+          (kept : Some (held_header h) ≡ checked_header (header_before state.before) versions bs) where
         shown : T (is_header p.before bs) × (held_header h ≡ header_in bs)
         shown =
-            let (passes, is) = kept_only (header_before state.before) versions bs kept in
+            let (passes, is) = some_only (is_header_by (header_before state.before) versions bs) kept in
             (subst T same_header passes, is)
 
         same_numbering : has_right_numbering (header_before state.before) (held_header h)
@@ -149,13 +120,13 @@ module _ {offset : ℕ} {state : WalkState} {versions words : List ℕ} {p : Pro
         module _ {numbered : Bool}
             (numbering : numbered ≡ has_right_numbering (header_before state.before) (held_header h))
             (numbering-holds : numbered ≡ true)
-            {check : EventCheck} {words' : List ℕ}
-            (checked : pass_of check words'
+            {check : EventPass}
+            (checked : check
             ≡ checked_events base (held_header h) state.least words (split_by stated_event_size (event_loop bs))) where
           has_right_numbering_holds : T (has_right_numbering (latest p.before) (header_in bs))
           has_right_numbering_holds = holds (numbering ∙ same_numbering) numbering-holds
 
-          passes : pass_of check words'
+          passes : check
               ≡ checked_events base (header_in bs) state.least words (split_by stated_event_size (event_loop bs))
           passes =
               checked
@@ -175,7 +146,7 @@ module _ {offset : ℕ} {state : WalkState} {versions words : List ℕ} {p : Pro
             is_loop = holds same_loop whole
 
             kept_events : (check.events ≡ length (split_events bs))
-                × EventsSoFar check.least words' (reverse (map (event_in base) (split_events bs)) ++ p.seen)
+                × EventsSoFar check.least check.words (reverse (map (event_in base) (split_events bs)) ++ p.seen)
             kept_events =
                 subst
                 (λ (e : EventPass).
@@ -214,8 +185,8 @@ module _ {offset : ℕ} {state : WalkState} {versions words : List ℕ} {p : Pro
 
             pub goes_on : check.events + state.count ≤ sizes.event_limit
                 → SameVerdict (offset + length bs)
-                (Passed (record { before = Behind h; least = check.least; count = state.count + check.events }))
-                versions words'
+                (Ok (record { before = Some h; least = check.least; count = state.count + check.events }))
+                (with_version versions h.table_id h.version) check.words
                 (step sizes base p bs)
             goes_on few = (
               behind base p bs,

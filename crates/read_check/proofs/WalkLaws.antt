@@ -1,29 +1,26 @@
 -- The walk over the sections, one after the other: before each turn the walk over the whole file is the walk over the
 -- sections from the offset on (`WalkSoFar`), and what the code keeps is what the definition keeps. Assumes nothing.
-use mathlib.Core.Path.{◌≡◌, refl, sym, ap, subst, ◌∙◌}
+use mathlib.Core.Path.{◌≡◌, refl, ap, ◌∙◌}
 use mathlib.Core.List.{List, [], ◌∷◌}
 use Prim.Native.Nat.{ℕ, ◌+◌, ◌≤◌, ◌<◌}
 use borrow.Author.Tests.{le-leb}
 use native.Mathlib.Omega.{arith}
 use lib.ListN.{length, drop, replicate}
+use Rattle.std.specs.Prelude.{Result, None, Ok, Err}
 use Rattle.eit.specs.declared.Sizes.{Sizes}
 use Rattle.eit.specs.Limits.{base_day_max}
-use Rattle.eit.specs.Identity.{tables, zero_identity}
+use Rattle.eit.specs.Identity.{tables}
 use Rattle.sections.specs.Decode.{split_file}
 use Rattle.sections.specs.Walk.{Progress, at_start, passed, refused, step, walk}
 use Rattle.sections.specs.Read.{versions_in, at_end, check_file}
-use Rattle.sections.proofs.Version.{versions_length}
 use Rattle.read_walk.specs.SectionAt.{section_at, section_end}
 use Rattle.read_walk.proofs.SectionAtLaws.{walk_end, walk_next, end_inside, end_is}
-use Rattle.read_checks.specs.declared.header.HeaderBefore.TheVariants.{Nothing}
 use Rattle.read_events.proofs.EventsSoFarLaws.{so_far_start}
-use Rattle.read_answer.specs.Outcome.{answer_number, answer_value, outcome_of}
-use Rattle.read_check.specs.Tracks.{Tracks, noted, SameVerdict}
-use Rattle.read_answer.specs.declared.ReadAnswer.{ReadAnswer}
-use Rattle.read_answer.specs.declared.ReadResult.{ReadResult}
+use Rattle.read_answer.specs.Outcome.{error_number, error_value, outcome_of}
+use Rattle.read_check.specs.Tracks.{Tracks, SameVerdict}
+use Rattle.read_answer.specs.declared.FileRead.{FileRead}
+use Rattle.read_answer.specs.declared.ReadError.{ReadError}
 use Rattle.read_check.specs.declared.section.WalkState.{WalkState}
-use Rattle.read_check.specs.declared.section.SectionVerdict.{SectionVerdict}
-use Rattle.read_check.specs.declared.section.SectionVerdict.TheVariants.{Passed, Refused}
 
 -- ---- the equations that a reader expects
 
@@ -63,7 +60,7 @@ pub record WalkSoFar (sizes : Sizes) (base : ℕ) (file versions words : List �
 
 pub walk_start : (sizes : Sizes) (base : ℕ) (file : List ℕ)
     → WalkSoFar sizes base file (replicate tables 0) (replicate 1024 0)
-    (record { before = Nothing; least = 0; count = 0 }) 0
+    (record { before = None; least = 0; count = 0 }) 0
 walk_start sizes base file = record {
   progress = at_start;
   tracks =
@@ -81,60 +78,36 @@ walk_start sizes base file = record {
 
 module _ {sizes : Sizes} {base : ℕ} {file versions words : List ℕ} {state : WalkState} {offset : ℕ}
     (so_far : WalkSoFar sizes base file versions words state offset) where
-  module _ (here : offset < length file) {section : List ℕ} (is : section ≡ section_at file offset)
-      (verdict : SectionVerdict) (words' : List ℕ)
-      (verdict-is : SameVerdict (offset + length section) verdict versions words'
-      (step sizes base so_far.progress section)) where
+  module _ (here : offset < length file) {section : List ℕ} (is : section ≡ section_at file offset) where
     -- the section is the next piece
     next_piece : {end : ℕ} → end ≡ section_end file offset
         → split_file (drop offset file) ≡ section ∷ split_file (drop end file)
     next_piece ends = walk_next file offset ends is here
 
-    same_verdict : {v : SectionVerdict} → verdict ≡ v
-        → SameVerdict (offset + length section) v versions words' (step sizes base so_far.progress section)
-    same_verdict e =
-        subst
-        (λ (v : SectionVerdict). SameVerdict (offset + length section) v versions words'
-        (step sizes base so_far.progress section))
-        e verdict-is
-
-    pub walk_stops : {answer : ReadAnswer} → verdict ≡ Refused answer → base ≤ base_day_max
-        → check_file sizes base file ≡ outcome_of (record { answer = answer; identity = zero_identity })
-    walk_stops {answer} refuses legal =
-        let (stepped, none) = same_verdict refuses in
+    pub walk_stops : base ≤ base_day_max → (refusal : ReadError)
+        → step sizes base so_far.progress section ≡ refused (error_number refusal) (error_value refusal)
+        → check_file sizes base file ≡ outcome_of (Err refusal)
+    walk_stops legal refusal stepped =
         check_legal sizes base file legal
         ∙ ap (at_end (length file))
         (so_far.walked
         ∙ ap (walk sizes base so_far.progress) (next_piece refl)
         ∙ walk_refused sizes base so_far.progress section _ stepped)
-        ∙ ap
-        (λ (n : ℕ).
-        record { number = answer_number answer; value = answer_value answer; identity = zero_identity; count = n })
-        (sym none)
 
     -- the walk goes on at the offset behind the section
-    pub walk_more : {next : WalkState} {end : ℕ} {versions' : List ℕ} → verdict ≡ Passed next
-        → versions' ≡ noted versions next.before
-        → end ≡ section_end file offset
+    pub walk_more : (next : WalkState) (versions' words' : List ℕ) {end : ℕ} → end ≡ section_end file offset
+        → SameVerdict (offset + length section) (Ok next) versions' words' (step sizes base so_far.progress section)
         → WalkSoFar sizes base file versions' words' next end
-    walk_more {next} passes notes ends =
-        let (q, stepped, tracks) = same_verdict passes in
-        record {
-          progress = q;
-          tracks =
-              rw (notes, end_is file offset ends is) tracks;
-          walked =
-              so_far.walked
-              ∙ ap (walk sizes base so_far.progress) (next_piece ends)
-              ∙ walk_passed sizes base so_far.progress section _ stepped;
-          inside = end_inside file offset ends here;
-        }
+    walk_more next versions' words' ends (q, stepped, tracks) = record {
+      progress = q;
+      tracks = rw (end_is file offset ends is) tracks;
+      walked = so_far.walked
+          ∙ ap (walk sizes base so_far.progress) (next_piece ends)
+          ∙ walk_passed sizes base so_far.progress section _ stepped;
+      inside = end_inside file offset ends here;
+    }
 
-  -- the versions of all tables are as many as there are tables
-  pub walk_versions : length versions ≡ tables
-  walk_versions = sym (ap length so_far.tracks.versions_are) ∙ versions_length so_far.progress.before
-
-  pub walk_done : length file ≤ offset → base ≤ base_day_max → (r : ReadResult)
+  pub walk_done : length file ≤ offset → base ≤ base_day_max → (r : Result FileRead ReadError)
       → at_end (length file) (passed so_far.progress) ≡ outcome_of r → check_file sizes base file ≡ outcome_of r
   walk_done end legal r ended =
       check_legal sizes base file legal

@@ -1,21 +1,17 @@
 -- What the code keeps on its walk over the sections, beside what Read's definition keeps (`Progress`). Laws:
 -- proofs/StepLaws.antt, proofs/WalkLaws.antt. Assumes nothing.
-use Rattle.std.specs.Prelude.{◌≡◌, List, [], ◌∷◌, ℕ, ◌≤◌, ◌<◌, length}
+use Rattle.std.specs.Prelude.{◌≡◌, List, [], ◌∷◌, ℕ, ◌≤◌, ◌<◌, length, Result, Ok, Err}
 use Rattle.std.proofs.Math.Option.{none, some}
 use Rattle.sections.specs.Segment.{table_first}
 use Rattle.sections.specs.Section.{Header}
 use Rattle.sections.specs.HeaderTests.{latest, version_in}
 use Rattle.sections.specs.Read.{versions_in}
 use Rattle.sections.specs.Walk.{Progress, Verdict, passed, refused}
-use Rattle.codec_section.specs.Versions.{with_version}
 use Rattle.read_checks.specs.HeaderBefore.{header_before}
-use Rattle.read_checks.specs.declared.header.HeaderBefore.{HeaderBefore}
-use Rattle.read_checks.specs.declared.header.HeaderBefore.TheVariants.{Header as Behind, Nothing}
 use Rattle.read_events.specs.EventsSoFar.{EventsSoFar}
-use Rattle.read_answer.specs.Outcome.{answer_number, answer_value, answer_count}
+use Rattle.read_answer.specs.Outcome.{error_number, error_value}
+use Rattle.read_answer.specs.declared.ReadError.{ReadError}
 use Rattle.read_check.specs.declared.section.WalkState.{WalkState}
-use Rattle.read_check.specs.declared.section.SectionVerdict.{SectionVerdict}
-use Rattle.read_check.specs.declared.section.SectionVerdict.TheVariants.{Passed, Refused}
 
 -- of the tables from 0x50 on, those up to that of the latest header have come, and no other
 abbrev pub TablesCome : List Header → Type 0
@@ -34,15 +30,8 @@ pub record Tracks (offset : ℕ) (state : WalkState) (versions words : List ℕ)
   pub kept : EventsSoFar state.least words p.seen
   pub count_is : length p.seen ≡ state.count
 
--- the versions of the tables, with that of a header
-abbrev pub noted : List ℕ → HeaderBefore → List ℕ
-noted versions (Behind h) = with_version versions h.table_id h.version
-noted versions Nothing = versions
-
--- the verdict on a section that ends at `end`, with the versions before it and the set of ids after it, is that of the
--- definition; with a refusal the walk ends, and no one looks at the set again
-abbrev pub SameVerdict : ℕ → SectionVerdict → List ℕ → List ℕ → Verdict → Type 0
-SameVerdict end (Passed state) versions words v =
-    (q : Progress) × (v ≡ passed q) × Tracks end state (noted versions state.before) words q
-SameVerdict end (Refused answer) versions words v =
-    (v ≡ refused (answer_number answer) (answer_value answer)) × (answer_count answer ≡ 0)
+-- the verdict on a section that ends at `end`, with the versions and the set of ids after it, is that of the
+-- definition; with a refusal the walk ends, and no one looks at them again
+abbrev pub SameVerdict : ℕ → Result WalkState ReadError → List ℕ → List ℕ → Verdict → Type 0
+SameVerdict end (Ok state) versions words v = (q : Progress) × (v ≡ passed q) × Tracks end state versions words q
+SameVerdict end (Err refusal) versions words v = v ≡ refused (error_number refusal) (error_value refusal)

@@ -9,74 +9,65 @@ ghost use Rattle.sections.specs.Walk.{Progress, passed};
 ghost use Rattle.read_answer.specs.Outcome.{outcome_of};
 ghost use Rattle.read_check.specs.Tracks.{Tracks};
 
-use crate::section::{SectionVerdict, WalkState};
+use crate::section::WalkState;
+use codec_crc::CrcTables;
 use eit::limits::{BASE_DAY_MAX, ID_WORDS, TABLES};
 use eit::{Caller, Identity, Sizes};
-use read_answer::{ReadAnswer, ReadResult};
-use read_checks::header::HeaderBefore;
+use read_answer::{FileRead, ReadError};
 
 mod section;
 
 // At the end of a file of `size` bytes: it ends after last_table_id, or early (25).
-fn at_end(state: WalkState, versions: [u8; TABLES], size: usize) -> ReadResult
+fn at_end(state: WalkState, versions: [u8; TABLES], size: usize) -> Result<FileRead, ReadError>
     ensures { (p : Progress) (offset : ℕ) (words : List ℕ) → Tracks offset state versions words p
         → at_end size (passed p) ≡ outcome_of result }
 {
-    let before = state.before;
-    let HeaderBefore::Header(last) = before else {
-        return read_answer::refused(ReadAnswer::EarlyEnd(size));
+    let Some(last) = state.before else {
+        return Err(ReadError::EarlyEnd(size));
     };
     if last.section_number != last.last_section_number || last.table_id != last.last_table_id {
-        return read_answer::refused(ReadAnswer::EarlyEnd(size));
+        return Err(ReadError::EarlyEnd(size));
     }
     let triplet = last.triplet;
     let identity = Identity { triplet, versions };
-    ReadResult {
-        answer: ReadAnswer::Done(state.count),
+    Ok(FileRead {
         identity,
-    }
+        count: state.count,
+    })
 }
 
 // Check under any sizes: 1, then section after section, until one is refused or the file ends.
-fn check_within(file: &[u8], base_day: u32, sizes: Sizes) -> ReadResult
+fn check_within(file: &[u8], base_day: u32, sizes: Sizes) -> Result<FileRead, ReadError>
     ensures { check_file sizes base_day file.now ≡ outcome_of result }
 {
     if BASE_DAY_MAX < base_day {
-        return read_answer::refused(ReadAnswer::BaseDay);
+        return Err(ReadError::BaseDay);
     }
-    let crc_tables = codec_crc::tables();
+    let crc_tables = CrcTables::new();
     let mut versions = [0u8; TABLES];
     let mut seen = [0u64; ID_WORDS];
     let mut state = WalkState {
-        before: HeaderBefore::Nothing,
+        before: None,
         least: 0,
         count: 0,
     };
-    let mut offset = 0;
-    while offset < file.len() {
-        let section = read_walk::read_section(file, offset);
-        match section::check_section(
+    for (offset, section) in read_walk::sections(file) {
+        state = section::check_section(
             section,
             offset,
             state,
             base_day,
             sizes,
             &crc_tables,
-            &versions,
+            &mut versions,
             &mut seen,
-        ) {
-            SectionVerdict::Refused(answer) => return read_answer::refused(answer),
-            SectionVerdict::Passed(next) => state = next,
-        }
-        let before = state.before;
-        section::note_version(&mut versions, before);
-        offset = read_walk::next_offset(file, offset);
+        )?;
     }
     at_end(state, versions, file.len())
 }
 
 // Answer, identity and number of events are those of the definition. It never says 27.
-pub fn check(caller: Caller, file: &[u8], base_day: u32) -> ReadResult
+pub fn check(caller: Caller, file: &[u8], base_day: u32) -> Result<FileRead, ReadError>
     ensures { check_file (sizes_of caller) base_day file.now ≡ outcome_of result }
 {
     check_within(file, base_day, Sizes::from(caller))
