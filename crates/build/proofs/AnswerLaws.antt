@@ -1,26 +1,28 @@
 -- What Build answers, case by case, by what it has found out of the list. Assumes nothing.
-use mathlib.Core.Path.{◌≡◌, sym, ap, ap₂, subst, ◌∙◌}
-use mathlib.Core.Bool.{Bool, true, false, not}
+use mathlib.Core.Path.{◌≡◌, refl, sym, ap, ap₂, subst, ◌∙◌}
+use mathlib.Core.Bool.{not}
 use mathlib.Core.Logic.{⊎_elim}
 use mathlib.Core.List.{List, flatten}
-use mathlib.Core.Option.{Option, none, some}
+use mathlib.Core.Option as maybe
+use mathlib.Core.Option.{none, some}
 use Prim.Native.Nat.{ℕ, ◌≤◌, ◌<◌}
 use native.Mathlib.Omega.{arith}
 use lib.Dec.{T}
 use lib.ListN.{length}
+use Rattle.std.specs.Prelude.{Some, None}
 use Rattle.eit.specs.declared.Sizes.{Sizes}
 use Rattle.eit.specs.Limits.{base_day_max}
 use Rattle.eit.specs.Overwrite.{overwrite}
 use Rattle.eit.specs.Pools.{Pools}
 use Rattle.eit.specs.Records.{EventList, lent_list, records_in}
 use Rattle.eit.specs.Events.{Event, events_in}
-use Rattle.eit.specs.Sound.{sound, events_of}
+use Rattle.eit.specs.Sound.{events_of}
 use Rattle.eit.specs.declared.Identity.{Identity}
 use Rattle.sections.specs.Section.{section_sizes}
 use Rattle.sections.specs.Encode.{file_bytes}
 use Rattle.sections.specs.Each.{each}
 use Rattle.schedule.specs.SectionsOf.{is_unpackable, lowest_unpackable, sections_of}
-use Rattle.schedule.specs.Plan.{section_count, plan}
+use Rattle.schedule.specs.Plan.{section_count}
 use Rattle.schedule.specs.Build.{Built, written, build_events, are_versions, build}
 use Rattle.schedule.proofs.SoundEvents.{SoundStarts, sound_starts}
 use Rattle.schedule.proofs.Packable.{packable_or}
@@ -28,22 +30,35 @@ use Rattle.schedule.proofs.Plan.{plan_sound}
 use Rattle.schedule.proofs.ByIndex.{flat_plan}
 use Rattle.schedule.proofs.Build.{build_unsound, build_sound, events_refused, events_written, written_short}
 use Rattle.schedule.proofs.Build.{written_fits}
-use Rattle.build_counts.specs.Counting.{index_or512, need_of, counted_of}
+use Rattle.build_counts.specs.Counting.{index_found, counted_of}
 use Rattle.build_counts.specs.declared.count.Counted.{Counted}
 use Rattle.build_counts.proofs.WalkLaws.{events_are}
-use Rattle.build_counts.proofs.CountEnd.{sound_with, sound_is, counted_sound}
+use Rattle.build_counts.proofs.CountEnd.{SoundCount, counted_none, counted_some}
 use Rattle.build_counts.proofs.NeedLaws.{need_is}
 use Rattle.build.specs.Writing.{Writable}
 
-index_found : (o : Option ℕ) {n : ℕ} → n ≡ index_or512 o → n < 512 → o ≡ some n
-index_found none is few = absurd (omega arith)
-index_found (some index) is few = ap some (sym is)
+found_some : (o : maybe.Option ℕ) {n : ℕ} → Some n ≡ index_found o → o ≡ some n
+found_some none is = absurd (cc)
+found_some (some index) is = ap some (cc)
 
--- a call with a legal base day and legal versions, and what it counted of the list
+found_none : (o : maybe.Option ℕ) → None ≡ index_found o → o ≡ none
+found_none none is = refl
+found_none (some index) is = absurd (cc)
+
+-- a call with a legal base day and legal versions, and an unsound list
+pub answer_unsound : (sizes : Sizes) (pools : Pools) (list : EventList) (base : ℕ) (identity : Identity)
+    (output : List ℕ)
+    → base ≤ base_day_max → T (are_versions identity.versions) → None ≡ counted_of sizes pools list
+    → build sizes pools list base identity output ≡ record { number = 12; value = 0; output = output }
+answer_unsound sizes pools list base identity output legal_base legal_versions uncounted =
+    build_unsound sizes pools list base identity output legal_base legal_versions
+    (counted_none sizes pools list uncounted)
+
+-- .. and what it counted of a sound list
 pub record Asked (sizes : Sizes) (pools : Pools) (numbers : List ℕ) (count base : ℕ) (identity : Identity)
     (output : List ℕ) (counted : Counted)
     : Type 0 where
-  pub is_counted : counted ≡ counted_of sizes pools (lent_list numbers count)
+  pub is_counted : Some counted ≡ counted_of sizes pools (lent_list numbers count)
   pub legal_base_holds : base ≤ base_day_max
   pub legal_versions : T (are_versions identity.versions)
 
@@ -55,93 +70,76 @@ module _ {sizes : Sizes} {pools : Pools} {numbers : List ℕ} {count base : ℕ}
   abbrev answer : Built
   answer = build sizes pools list base identity output
 
-  pub answer_unsound : counted.is_sound ≡ false → answer ≡ record { number = 12; value = 0; output = output }
-  answer_unsound fails =
-      let unsound : sound sizes pools list ≡ false =
-      sym (counted_sound sizes pools list) ∙ sym (ap (λ (c : Counted). c.is_sound) asked.is_counted) ∙ fails in
-      build_unsound sizes pools list base identity output asked.legal_base_holds asked.legal_versions
-      (subst (λ (b : Bool). T (not b)) (sym unsound) tt)
+  abbrev es : List Event
+  es = events_of pools list
 
-  module _ (is : counted.is_sound ≡ true) where
-    abbrev es : List Event
-    es = events_of pools list
+  found : SoundCount sizes pools list counted
+  found = counted_some sizes pools list asked.is_counted
 
-    holds : T (sound sizes pools list)
-    holds =
-        let is_sound_holds : counted.is_sound ≡ sound sizes pools list =
-        ap (λ (c : Counted). c.is_sound) asked.is_counted ∙ counted_sound sizes pools list in
-        subst T (sym (sym is_sound_holds ∙ is)) tt
+  need_found : counted.need ≡ section_sizes (sections_of sizes identity es)
+  need_found = found.need ∙ sym (need_is sizes es identity)
 
-    found : counted
-        ≡ sound_with (flatten (plan sizes pools list)) (index_or512 (lowest_unpackable sizes es)) (need_of sizes es)
-    found = asked.is_counted ∙ sound_is sizes pools list holds
+  built_events : answer ≡ build_events sizes base identity es output
+  built_events = build_sound sizes pools list base identity output asked.legal_base_holds asked.legal_versions found.is_sound
 
-    lowest_found : counted.lowest ≡ index_or512 (lowest_unpackable sizes es)
-    lowest_found = ap (λ (c : Counted). c.lowest) found
+  pub answer_unpackable : {index : ℕ} → counted.lowest ≡ Some index
+      → answer ≡ record { number = 10; value = index; output = output }
+  answer_unpackable {index} is =
+      built_events
+      ∙ events_refused sizes base identity es output index
+      (found_some (lowest_unpackable sizes es) (sym is ∙ found.lowest))
 
-    need_found : counted.need ≡ section_sizes (sections_of sizes identity es)
-    need_found = ap (λ (c : Counted). c.need) found ∙ sym (need_is sizes es identity)
+  module _ (is : counted.lowest ≡ None) where
+    facts : SoundStarts es
+    facts = sound_starts sizes pools list found.is_sound
 
-    built_events : answer ≡ build_events sizes base identity es output
-    built_events = build_sound sizes pools list base identity output asked.legal_base_holds asked.legal_versions holds
+    none_unpackable : (lowest_unpackable sizes es ≡ none) × ((index : ℕ) → T (not (is_unpackable sizes es index)))
+    none_unpackable =
+        ⊎_elim
+        (λ fits. fits)
+        (λ (index, first, few, fails, before).
+        let none_found = found_none (lowest_unpackable sizes es) (sym is ∙ found.lowest) in absurd (cc))
+        (packable_or sizes es facts)
 
-    pub answer_unpackable : counted.lowest < 512
-        → answer ≡ record { number = 10; value = counted.lowest; output = output }
-    answer_unpackable few =
-        built_events
-        ∙ events_refused sizes base identity es output counted.lowest
-        (index_found (lowest_unpackable sizes es) lowest_found few)
+    built_sections : answer ≡ written base (sections_of sizes identity es) output
+    built_sections = built_events ∙ events_written sizes base identity es output none_unpackable.0
 
-    module _ (None-found : 512 ≤ counted.lowest) where
-      facts : SoundStarts es
-      facts = sound_starts sizes pools list holds
+    pub answer_short : length output < counted.need
+        → answer ≡ record { number = 11; value = counted.need; output = output }
+    answer_short short =
+        built_sections
+        ∙ written_short base (sections_of sizes identity es) output (omega (arith, need_found))
+        ∙ ap (λ (n : ℕ). record { number = 11; value = n; output = output }) (sym need_found)
 
-      none_unpackable : (lowest_unpackable sizes es ≡ none) × ((index : ℕ) → T (not (is_unpackable sizes es index)))
-      none_unpackable =
-          ⊎_elim
-          (λ fits. fits)
-          (λ (index, first, few, fails, before). absurd (omega (arith, lowest_found, ap index_or512 first)))
-          (packable_or sizes es facts)
+    counts_are : counted.counts ≡ each (section_count sizes es) 0 512
+    counts_are =
+        found.counts
+        ∙ ap flatten (plan_sound sizes pools list found.is_sound)
+        ∙ flat_plan (section_count sizes es)
 
-      built_sections : answer ≡ written base (sections_of sizes identity es) output
-      built_sections = built_events ∙ events_written sizes base identity es output none_unpackable.0
+    pub answer_writable : counted.need ≤ length output
+        → Writable sizes identity (events_in pools (records_in count numbers)) counted.counts output
+    answer_writable fits =
+        subst (λ (fs : List Event). Writable sizes identity fs counted.counts output)
+        (events_are pools numbers count)
+        (record {
+          rises = facts.rises;
+          starts = facts.starts;
+          packs = none_unpackable.1;
+          counted = counts_are;
+          fits = omega (arith, need_found);
+        })
 
-      pub answer_short : length output < counted.need
-          → answer ≡ record { number = 11; value = counted.need; output = output }
-      answer_short short =
-          built_sections
-          ∙ written_short base (sections_of sizes identity es) output (omega (arith, need_found))
-          ∙ ap (λ (n : ℕ). record { number = 11; value = n; output = output }) (sym need_found)
-
-      counts_are : counted.counts ≡ each (section_count sizes es) 0 512
-      counts_are =
-          ap (λ (c : Counted). c.counts) found
-          ∙ ap flatten (plan_sound sizes pools list holds)
-          ∙ flat_plan (section_count sizes es)
-
-      pub answer_writable : counted.need ≤ length output
-          → Writable sizes identity (events_in pools (records_in count numbers)) counted.counts output
-      answer_writable fits =
-          subst (λ (fs : List Event). Writable sizes identity fs counted.counts output)
-          (events_are pools numbers count)
-          (record {
-            rises = facts.rises;
-            starts = facts.starts;
-            packs = none_unpackable.1;
-            counted = counts_are;
-            fits = omega (arith, need_found);
-          })
-
-      pub answer_done : counted.need ≤ length output → {after : List ℕ}
-          → after
-          ≡ overwrite output 0
-          (file_bytes base (sections_of sizes identity (events_in pools (records_in count numbers))))
-          → answer ≡ record { number = 0; value = counted.need; output = after }
-      answer_done fits {after} is-after =
-          let same : after ≡ overwrite output 0 (file_bytes base (sections_of sizes identity es)) =
-          is-after
-          ∙ ap (λ (fs : List Event). overwrite output 0 (file_bytes base (sections_of sizes identity fs)))
-          (sym (events_are pools numbers count)) in
-          built_sections
-          ∙ written_fits base (sections_of sizes identity es) output (omega (arith, need_found))
-          ∙ ap₂ (λ (n : ℕ) (o : List ℕ). record { number = 0; value = n; output = o }) (sym need_found) (sym same)
+    pub answer_done : counted.need ≤ length output → {after : List ℕ}
+        → after
+        ≡ overwrite output 0
+        (file_bytes base (sections_of sizes identity (events_in pools (records_in count numbers))))
+        → answer ≡ record { number = 0; value = counted.need; output = after }
+    answer_done fits {after} is-after =
+        let same : after ≡ overwrite output 0 (file_bytes base (sections_of sizes identity es)) =
+        is-after
+        ∙ ap (λ (fs : List Event). overwrite output 0 (file_bytes base (sections_of sizes identity fs)))
+        (sym (events_are pools numbers count)) in
+        built_sections
+        ∙ written_fits base (sections_of sizes identity es) output (omega (arith, need_found))
+        ∙ ap₂ (λ (n : ℕ) (o : List ℕ). record { number = 0; value = n; output = o }) (sym need_found) (sym same)

@@ -31,6 +31,9 @@ module _ {sizes : Sizes} {identity : Identity} {es : List Event} {counts d : Lis
     pub counts_length : length counts ≡ 512
     counts_length = ap length ready.counted ∙ each_length (section_count sizes es) 0 512
 
+    pub within : {index : ℕ} → index < length counts → index < 512
+    within less = omega (arith, counts_length)
+
     -- ---- the count of a segment
 
     module _ (index : ℕ) (few : index < 512) where

@@ -1,15 +1,13 @@
--- The last section of a table, searched downwards from its last segment: behind the segment that is looked at none of
--- the table has sections. Assumes nothing.
+-- The last section of a table, searched downwards from its last segment. Assumes nothing.
 use mathlib.Core.Path.{◌≡◌, refl, sym, ap, ◌∙◌}
-use mathlib.Core.Logic.{◌⊎◌, inl, inr, ⊎_elim}
+use mathlib.Core.Logic.{◌⊎◌, inr, ⊎_elim}
 use mathlib.Core.List.{List}
 use Prim.Native.Nat.{ℕ, zero, suc, ◌+◌, ◌-◌, ◌*◌, ◌≤◌, ◌<◌}
 use native.Mathlib.Omega.{arith}
 use borrow.Author.Tests.{eq-eqb, ne_eqb}
-use lib.ListN.{length, get_or, drop, length-drop}
-use lib.Seq.{get_or-drop}
+use lib.ListN.{get_or}
 use Rattle.eit.proofs.Test.{le_or_lt}
-use Rattle.build.specs.Rows.{last_counted, row_last, IsRow}
+use Rattle.build.specs.Rows.{last_counted, row_last}
 
 -- ---- the last segment up to segment k that has sections
 
@@ -41,55 +39,23 @@ last_is counts k is = ap (λ (s : ℕ). 8 * s + (get_or counts s 0 - 1)) is
 
 -- ---- the search
 
-pub record LastSoFar (counts : List ℕ) (first segment : ℕ) : Type 0 where
-  pub row : IsRow (drop first counts)
-  pub few : segment ≤ 31
-  pub same : last_counted 31 (drop first counts) ≡ last_counted segment (drop first counts)
+-- from segment k on none has sections
+abbrev pub NoneFrom : List ℕ → ℕ → Type 0
+NoneFrom counts k = (j : ℕ) → k ≤ j → j ≤ 31 → get_or counts j 0 ≡ 0
 
-pub last_start : (counts : List ℕ) (first : ℕ) → IsRow (drop first counts) → LastSoFar counts first 31
-last_start counts first row = record { row = row; few = omega arith; same = refl }
+pub none_more : (counts : List ℕ) (k : ℕ) → NoneFrom counts k → 0 < k → get_or counts (k - 1) 0 ≤ 0
+    → NoneFrom counts (k - 1)
+none_more counts k none some here j least most =
+    ⊎_elim
+    (λ later. none j later most)
+    (λ same.
+    let place : j ≡ k - 1 = omega arith in
+    ap (λ (i : ℕ). get_or counts i 0) place ∙ omega arith)
+    (le_or_lt k j)
 
-module _ {counts : List ℕ} {first segment : ℕ} (so_far : LastSoFar counts first segment) where
-  at_row : get_or (drop first counts) segment 0 ≡ get_or counts (first + segment) 0
-  at_row = get_or-drop first counts segment 0
-
-  pub last_within : first + segment < length counts
-  last_within = omega (arith, so_far.few, so_far.row.long, length-drop first counts)
-
-  pub last_more : 0 < segment → get_or counts (first + segment) 0 ≡ 0 → LastSoFar counts first (segment - 1)
-  last_more some none =
-      let next : segment ≡ suc (segment - 1) = omega arith in
-      let empty : get_or (drop first counts) (suc (segment - 1)) 0 ≡ 0 =
-      ap (λ (k : ℕ). get_or (drop first counts) k 0) (sym next) ∙ at_row ∙ none in
-      record {
-        row = so_far.row;
-        few = omega (arith, so_far.few);
-        same =
-            so_far.same
-            ∙ ap (λ (k : ℕ). last_counted k (drop first counts)) next
-            ∙ counted_skip (segment - 1) (drop first counts) empty;
-      }
-
-  -- it ends at a segment with sections, at most eight
-  module _ (stops : (segment ≡ 0) ⊎ (get_or counts (first + segment) 0 ≡ 0 → ⊥)) where
-    pub last_some : 0 < get_or counts (first + segment) 0
-    last_some =
-        ⊎_elim
-        (λ zeroth.
-        let front : get_or (drop first counts) segment 0 ≡ get_or (drop first counts) 0 0 =
-        ap (λ (k : ℕ). get_or (drop first counts) k 0) zeroth in
-        omega (arith, at_row, so_far.row.some))
-        (λ some. omega arith)
-        stops
-
-    pub last_few : get_or counts (first + segment) 0 ≤ 8
-    last_few = rw (← at_row) (so_far.row.few segment (omega (arith, so_far.few)))
-
-    pub last_found : 8 * segment + (get_or counts (first + segment) 0 - 1) ≡ row_last (drop first counts)
-    last_found =
-        let here : last_counted segment (drop first counts) ≡ segment =
-        counted_here segment (drop first counts)
-        (⊎_elim (λ none. inl none) (λ some. inr (λ none. some (sym at_row ∙ none))) stops) in
-        sym
-        (last_is (drop first counts) segment (so_far.same ∙ here)
-        ∙ ap (λ (n : ℕ). 8 * segment + (n - 1)) at_row)
+-- the one before it has
+pub last_found : (counts : List ℕ) (k : ℕ) → NoneFrom counts k → 0 < k → k ≤ 32 → 0 < get_or counts (k - 1) 0
+    → row_last counts ≡ 8 * (k - 1) + (get_or counts (k - 1) 0 - 1)
+last_found counts k none some few here =
+    last_is counts (k - 1)
+    (counted_is 31 (k - 1) counts (omega arith) (inr (λ empty. omega arith)) (λ j later most. none j (omega arith) most))

@@ -5,14 +5,13 @@ use mathlib.Core.List.{List, ◌∷◌, ◌++◌}
 use mathlib.Core.Path.{◌≡◌, sym, ap, ap₂, ◌∙◌}
 use native.Mathlib.Omega.{arith}
 use lib.ListN.{length, take, drop}
-use Rattle.eit.specs.Fields.{Bytes, big_endian}
+use Rattle.eit.specs.Fields.{big_endian}
 use Rattle.eit.specs.Overwrite.{overwrite}
-use Rattle.eit.specs.Crc.{crc_first, crc32}
+use Rattle.eit.specs.Crc.{crc32}
 use Rattle.eit.specs.Pools.{Pools, choose}
 use Rattle.eit.specs.Records.{record_size, front_record}
 use Rattle.eit.specs.Events.{Event, event_with, event_of}
 use Rattle.eit.specs.declared.Record.{Record}
-use Rattle.eit.proofs.Fields.{bytes_take, bytes_drop}
 use Rattle.eit.proofs.Overwrite.{over_length, over_within, over_then}
 use Rattle.sections.specs.Section.{Section, header_size, event_overhead, event_sizes, section_size}
 use Rattle.sections.specs.Encode.{event_bytes, header_bytes, event_loop_bytes, covered_bytes, section_bytes}
@@ -20,10 +19,8 @@ use Rattle.sections.proofs.RowBytes.{loop_none, loop_more}
 use Rattle.sections.proofs.SectionBack.{section_is, covered_is}
 use Rattle.sections.proofs.Lengths.{event_length, loop_length, header_length, covered_length}
 use Rattle.codec.specs.Write.{write_at}
-use Rattle.codec_crc.specs.CrcTables.{right_crc_tables, crc_by}
 use Rattle.codec.proofs.WriteLaws.{write_fits}
 use Rattle.codec.proofs.LeftLaws.{Left, left_all, left_fits, left_more, left_end}
-use Rattle.codec_crc.proofs.BlockLaws.{crc32_by_tables}
 use Rattle.build_counts.specs.Between.{events_between}
 use Rattle.build_counts.proofs.BetweenLaws.{between_more, between_end}
 
@@ -105,30 +102,24 @@ module _ (base : ℕ) (s : Section) (d : List ℕ) (at : ℕ) {size : ℕ} (is-s
         over_then d at head loop first (filled ∙ ap (λ (k : ℕ). overwrite d₁ k loop) seam) (omega arith)
         ∙ ap (overwrite d at) (rw is-size (sym (covered_is base s)))
 
-    -- and CRC_32 over them, by the tables
-    pub section_written : {d₁ d₂ d₃ tables : List ℕ} {end register : ℕ}
+    -- and CRC_32 over them
+    pub section_written : {d₁ d₂ d₃ : List ℕ} {end register : ℕ}
         → d₁ ≡ write_at d at (header_bytes size s.header)
         → d₂ ≡ overwrite d₁ (at + header_size) (event_loop_bytes base s.events)
         → end ≡ at + header_size + event_sizes s.events
-        → Bytes d₂
-        → tables ≡ right_crc_tables
-        → register ≡ crc_by tables crc_first (take (end - at) (drop at d₂))
+        → register ≡ crc32 (take (end - at) (drop at d₂))
         → d₃ ≡ write_at d₂ end (big_endian 4 register)
         → d₃ ≡ overwrite d at (section_bytes base s)
-    section_written {d₁} {d₂} {d₃} {tables} {end} {register} headed filled ends bytes are-tables summed closed =
+    section_written {d₁} {d₂} {d₃} {end} {register} headed filled ends summed closed =
         let covered : List ℕ = covered_bytes base s in
         let width : length covered ≡ header_size + event_sizes s.events = covered_length base s in
         let written : d₂ ≡ overwrite d at covered = covered_written headed filled in
         let same : length d₂ ≡ length d = ap length written ∙ over_length d at covered (omega arith) in
         let run : end - at ≡ length covered = omega arith in
-        let slice : List ℕ = take (end - at) (drop at d₂) in
-        let seen : slice ≡ covered =
-        ap₂ (λ (n : ℕ) (l : List ℕ). take n (drop at l)) run written ∙ over_within d at covered (omega arith) in
         let sum : register ≡ crc32 covered =
         summed
-        ∙ ap (λ (t : List ℕ). crc_by t crc_first slice) are-tables
-        ∙ crc32_by_tables slice (bytes_take (end - at) (drop at d₂) (bytes_drop at d₂ bytes))
-        ∙ ap crc32 seen in
+        ∙ ap₂ (λ (n : ℕ) (l : List ℕ). crc32 (take n (drop at l))) run written
+        ∙ ap crc32 (over_within d at covered (omega arith)) in
         let seam : end ≡ at + length covered = omega arith in
         let last : d₃ ≡ overwrite d₂ (at + length covered) (big_endian 4 (crc32 covered)) =
         closed

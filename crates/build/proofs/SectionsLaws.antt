@@ -60,18 +60,15 @@ module _ (pools : Pools) (numbers : List ℕ) (room : ℕ) (first : SectionHeade
       sections_from room (held_header (numbered first (first.section_number + k))) (sections - k)
       (events_between pools numbers next end)
 
-  -- k sections are written; the header differs from the first one's in section_number only
-  pub record SegmentSoFar (base : ℕ) (d : List ℕ) (at from : ℕ) (out : List ℕ) (header : SectionHeader)
-      (offset next k : ℕ)
-      : Type 0 where
+  -- k sections are written
+  pub record SegmentSoFar (base : ℕ) (d : List ℕ) (at from : ℕ) (out : List ℕ) (offset next k : ℕ) : Type 0 where
     pub left : Left d at (file_bytes base (all_sections from)) out offset (file_bytes base (sections_behind k next))
     pub few : k ≤ sections
-    pub others : (n : ℕ) → numbered header n ≡ numbered first n
 
 pub segment_start : {pools : Pools} {numbers : List ℕ} {room : ℕ} {first : SectionHeader} {sections end base : ℕ}
     {d : List ℕ} {at from : ℕ}
     → at + section_sizes (all_sections pools numbers room first sections end from) ≤ length d
-    → SegmentSoFar pools numbers room first sections end base d at from d first at from 0
+    → SegmentSoFar pools numbers room first sections end base d at from d at from 0
 segment_start {pools} {numbers} {room} {first} {sections} {end} {base} {d} {at} {from} fits =
     let sections-all : List Section = all_sections pools numbers room first sections end from in
     let all : List ℕ = file_bytes base sections-all in
@@ -85,12 +82,11 @@ segment_start {pools} {numbers} {room} {first} {sections} {end} {base} {d} {at} 
           zeroth every)
           (left_all d at all (omega (arith, file_length base sections-all)));
       few = omega arith;
-      others = λ n. refl;
     }
 
 module _ {pools : Pools} {numbers : List ℕ} {room : ℕ} {first : SectionHeader} {sections end base : ℕ} {d : List ℕ}
-    {at from : ℕ} {out : List ℕ} {header : SectionHeader} {offset next k : ℕ}
-    (so_far : SegmentSoFar pools numbers room first sections end base d at from out header offset next k)
+    {at from : ℕ} {out : List ℕ} {offset next k : ℕ}
+    (so_far : SegmentSoFar pools numbers room first sections end base d at from out offset next k)
   where
     abbrev all : List Section
     all = all_sections pools numbers room first sections end from
@@ -118,7 +114,7 @@ module _ {pools : Pools} {numbers : List ℕ} {room : ℕ} {first : SectionHeade
         number = first.section_number + k
 
         abbrev next_section : Section
-        next_section = section_of (numbered header number) (events_between pools numbers next taken.to)
+        next_section = section_of (numbered first number) (events_between pools numbers next taken.to)
 
         next_events : let es = events_between pools numbers next end in
             events_between pools numbers next taken.to ≡ take (fit event_size room es) es
@@ -158,8 +154,8 @@ module _ {pools : Pools} {numbers : List ℕ} {room : ℕ} {first : SectionHeade
             ap (file_bytes base)
             (ap (λ (m : ℕ). sections_from room h m es) one
             ∙ first_section_holds room h others es
-            ∙ ap₂ (λ (g : SectionHeader) (fs : List Event). section_of g fs ∷ later (next_header h) (drop n es))
-            (sym (so_far.others number)) (sym next_events)
+            ∙ ap (λ (fs : List Event). section_of (numbered first number) fs ∷ later (next_header h) (drop n es))
+            (sym next_events)
             ∙ ap₂ (λ (m : ℕ) (fs : List Event). next_section ∷ later (held_header (numbered first m))
             fs)
             after after-them)
@@ -169,11 +165,10 @@ module _ {pools : Pools} {numbers : List ℕ} {room : ℕ} {first : SectionHeade
         segment_fits = omega (arith, left_fits so_far.left section_now behind parts, next_size)
 
         pub segment_more : {out' : List ℕ} → out' ≡ overwrite out offset (section_bytes base next_section)
-            → SegmentSoFar pools numbers room first sections end base d at from out' (numbered header number)
+            → SegmentSoFar pools numbers room first sections end base d at from out'
             (offset + (section_overhead + taken.bytes)) taken.to (k + 1)
         segment_more written =
             record {
               left = left_more so_far.left section_now behind parts written (ap (λ (n : ℕ). offset + n) next_size);
               few = omega arith;
-              others = λ n. so_far.others n;
             }

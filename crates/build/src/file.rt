@@ -5,7 +5,6 @@ ghost use Rattle.eit.specs.Records.{records_in};
 ghost use Rattle.eit.specs.Events.{events_in};
 ghost use Rattle.sections.specs.Section.{section_sizes};
 ghost use Rattle.sections.specs.Encode.{file_bytes};
-ghost use Rattle.codec_crc.specs.CrcTables.{right_crc_tables};
 ghost use Rattle.codec_section.specs.HeaderRead.{held_header};
 ghost use Rattle.build_counts.specs.Between.{events_between};
 ghost use Rattle.schedule.specs.SectionsOf.{sections_of};
@@ -16,10 +15,10 @@ ghost use Rattle.build.specs.Writing.{Writable};
 use crate::section;
 use build_counts::{count, cut, segment};
 use codec::pools::Pools;
-use codec_crc::CRC_ENTRIES;
+use codec_crc::CrcTables;
 use codec_section::header::SectionHeader;
 use codec_section::segment::{first_section, table_of};
-use eit::limits::{SECTION_OVERHEAD, SEGMENTS, TABLE_SEGMENTS};
+use eit::limits::{SECTION_OVERHEAD, TABLE_SEGMENTS};
 use eit::{Identity, Sizes};
 
 // The sections of a segment, as many as `sections` says, with the events from `from` to `end`: each takes as many of
@@ -35,15 +34,14 @@ fn write_segment(
     end: usize,
     pools: &Pools<'_>,
     room: u16,
-    crc_tables: &[u32; CRC_ENTRIES],
+    crc_tables: &CrcTables,
 ) -> usize
     requires { (at
         + section_sizes
         (sections_from room (held_header first) sections
         (events_between pools.now list.now from end))
         ≤ length out.old)
-        × (first.section_number + sections ≤ 256)
-        × (crc_tables.now ≡ right_crc_tables) }
+        × (first.section_number + sections ≤ 256) }
     ensures { (out.new
         ≡ overwrite out.old at
         (file_bytes base_day
@@ -55,12 +53,13 @@ fn write_segment(
         (sections_from room (held_header first) sections
         (events_between pools.now list.now from end))) }
 {
-    let mut header = first;
     let mut offset = at;
     let mut next = from;
-    let mut k: u8 = 0;
-    while k < sections {
-        header.section_number = first.section_number + k;
+    for k in 0..sections {
+        let header = SectionHeader {
+            section_number: first.section_number + k,
+            ..first
+        };
         let taken = cut::next_cut(list, next, end, pools, room as usize);
         let size = SECTION_OVERHEAD + taken.bytes;
         section::write_section(
@@ -68,22 +67,24 @@ fn write_segment(
         );
         offset += size;
         next = taken.to;
-        k += 1;
     }
     offset
 }
 
-// last_section_number of the table whose first segment has this index: that of the last section of its last segment.
-fn last_section(counts: &[u8], first: usize) -> u8
-    requires { IsRow (drop first counts.now) }
-    ensures { result ≡ row_last (drop first counts.now) }
+// last_section_number of the table with these section counts: that of the last section of its last segment that has
+// sections.
+fn last_section(counts: &[u8]) -> u8
+    requires { IsRow counts.now }
+    ensures { result ≡ row_last counts.now }
 {
-    let mut segment = TABLE_SEGMENTS - 1;
-    while 0 < segment && counts[first + segment] == 0 {
-        segment -= 1;
+    for segment in (0..TABLE_SEGMENTS).rev() {
+        let sections = counts[segment];
+        if 0 < sections {
+            // In every table a segment begins at the same section as in the first, where it is its own index.
+            return first_section(segment) as u8 + (sections - 1);
+        }
     }
-    // In every table a segment begins at the same section as in the first, where the segment is its own index.
-    first_section(segment) as u8 + (counts[first + segment] - 1)
+    0
 }
 
 // The header of the first of a segment's sections, as many as `sections` says.
@@ -98,16 +99,14 @@ fn first_header(
     ensures { result ≡ first_header index sections last last_table_id identity }
 {
     let number = first_section(index) as u8;
-    let triplet = identity.triplet;
-    let versions = identity.versions;
     SectionHeader {
         table_id: table_of(index) as u8,
         section_number: number,
         last_section_number: last,
         segment_last_section_number: number + (sections - 1),
         last_table_id,
-        triplet,
-        version: versions[index / TABLE_SEGMENTS],
+        triplet: identity.triplet,
+        version: identity.versions[index / TABLE_SEGMENTS],
     }
 }
 
@@ -130,17 +129,17 @@ pub fn write_file(
         (sections_of sizes identity
         (events_in pools.now (records_in count list.now)))) }
 {
-    let crc_tables = codec_crc::tables();
+    let crc_tables = CrcTables::new();
     let last_table_id = table_of(segment::last_index(list, count)) as u8;
+    let room = count::room_of(sizes);
     let mut last: u8 = 0;
     let mut at = 0;
     let mut from = 0;
-    let mut index = 0;
-    while index < SEGMENTS {
-        let sections = counts[index];
+    for (index, sections) in counts.iter().enumerate() {
+        let sections = *sections;
         if 0 < sections {
             if index % TABLE_SEGMENTS == 0 {
-                last = last_section(counts, index);
+                last = last_section(&counts[index..]);
             }
             let end = segment::end_of(list, from, count, index);
             let header = first_header(index, sections, last, last_table_id, identity);
@@ -154,11 +153,10 @@ pub fn write_file(
                 from,
                 end,
                 pools,
-                count::room_of(sizes),
+                room,
                 &crc_tables,
             );
             from = end;
         }
-        index += 1;
     }
 }

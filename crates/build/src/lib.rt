@@ -8,14 +8,17 @@ ghost use Rattle.schedule.specs.Plan.{plan};
 ghost use Rattle.schedule.specs.Build.{are_versions, build};
 ghost use Rattle.build_answer.specs.Outcome.{outcome_of};
 
-use build_answer::BuildAnswer;
+use build_answer::BuildError;
 use build_counts::count;
 use codec::pools::Pools;
-use eit::limits::{BASE_DAY_MAX, SEGMENTS, TABLE_SEGMENTS, TABLES, VERSION_MAX};
+use eit::limits::{BASE_DAY_MAX, TABLE_SEGMENTS, TABLES, VERSION_MAX};
 use eit::{Caller, Identity, Sizes};
 
 mod file;
 mod section;
+
+// Plan's entries for an unsound list.
+const UNSOUND: u8 = 254;
 
 // Plan under any sizes: the counts of all segments, 254 each if the list is unsound.
 fn plan_within(
@@ -26,9 +29,10 @@ fn plan_within(
 ) -> [[u8; TABLE_SEGMENTS]; TABLES]
     ensures { result ≡ plan sizes pools.now (lent_list list.now count) }
 {
-    let counted = count::count_sections(list, count, pools, sizes);
-    let counts = counted.counts;
-    build_plan::tables_of(&counts)
+    match count::count_sections(list, count, pools, sizes) {
+        Some(counted) => build_plan::tables_of(&counted.counts),
+        None => [[UNSOUND; TABLE_SEGMENTS]; TABLES],
+    }
 }
 
 // 01's Plan: sixteen tables of thirty-two section counts, each that of the definition.
@@ -49,14 +53,7 @@ pub fn plan(
 fn are_versions(versions: &[u8]) -> bool
     ensures { result ≡ are_versions versions.now }
 {
-    let mut i = 0;
-    while i < versions.len() {
-        if VERSION_MAX < versions[i] {
-            return false;
-        }
-        i += 1;
-    }
-    true
+    versions.iter().all(|version| *version <= VERSION_MAX)
 }
 
 // Build under any sizes. Its refusals in their order, 1, 2, 12, 10, 11, come before anything is written.
@@ -68,34 +65,37 @@ fn build_within(
     identity: Identity,
     out: &mut [u8],
     sizes: Sizes,
-) -> BuildAnswer
+) -> Result<usize, BuildError>
     ensures { build sizes pools.now (lent_list list.now count) base_day
         identity out.old
         ≡ outcome_of result out.new }
 {
     if BASE_DAY_MAX < base_day {
-        return BuildAnswer::BaseDay;
+        return Err(BuildError::BaseDay);
     }
-    let versions = identity.versions;
-    if !are_versions(&versions) {
-        return BuildAnswer::Version;
+    if !are_versions(&identity.versions) {
+        return Err(BuildError::Version);
     }
-    let counted = count::count_sections(list, count, pools, sizes);
-    if !counted.is_sound {
-        return BuildAnswer::Unsound;
+    let Some(counted) = count::count_sections(list, count, pools, sizes) else {
+        return Err(BuildError::Unsound);
+    };
+    if let Some(index) = counted.lowest {
+        return Err(BuildError::Unpackable(index));
     }
-    if counted.lowest < SEGMENTS {
-        return BuildAnswer::Unpackable(counted.lowest);
+    if out.len() < counted.need {
+        return Err(BuildError::OutputShort(counted.need));
     }
-    let need = counted.need;
-    if out.len() < need {
-        return BuildAnswer::OutputShort(need);
-    }
-    let counts = counted.counts;
     file::write_file(
-        out, base_day, identity, list, count, pools, sizes, &counts,
+        out,
+        base_day,
+        identity,
+        list,
+        count,
+        pools,
+        sizes,
+        &counted.counts,
     );
-    BuildAnswer::Done(need)
+    Ok(counted.need)
 }
 
 // 01's Build: number, value and every byte of the output are those of the definition.
@@ -107,7 +107,7 @@ pub fn build(
     base_day: u32,
     identity: Identity,
     out: &mut [u8],
-) -> BuildAnswer
+) -> Result<usize, BuildError>
     ensures { build (sizes_of caller) pools.now
         (lent_list list.now count) base_day identity out.old
         ≡ outcome_of result out.new }

@@ -4,13 +4,12 @@ ghost use Rattle.std.specs.Prelude.{◌≡◌, ◌+◌, ◌≤◌, length};
 ghost use Rattle.eit.specs.Overwrite.{overwrite};
 ghost use Rattle.sections.specs.Section.{event_sizes};
 ghost use Rattle.sections.specs.Encode.{event_loop_bytes, section_bytes};
-ghost use Rattle.codec_crc.specs.CrcTables.{right_crc_tables};
 ghost use Rattle.build_counts.specs.Between.{events_between};
 ghost use Rattle.build.specs.Sections.{section_of, section_size_of};
 
 use codec::fields;
 use codec::pools::Pools;
-use codec_crc::{CRC_ENTRIES, CRC_FIRST};
+use codec_crc::CrcTables;
 use codec_section::header::SectionHeader;
 use codec_section::{event, header};
 use eit::limits::{CRC_SIZE, EVENT_OVERHEAD, HEADER_SIZE};
@@ -36,13 +35,11 @@ fn write_events(
         (events_between pools.now list.now from to)) }
 {
     let mut offset = at;
-    let mut i = from;
-    while i < to {
+    for i in from..to {
         let r = records::record_at(list, i);
         let chain = pools.choose(r.marks, r.offset, r.chain_length);
         event::write_event(out, offset, base_day, r, chain);
         offset += EVENT_OVERHEAD + chain.len();
-        i += 1;
     }
     offset
 }
@@ -58,11 +55,10 @@ pub fn write_section(
     from: usize,
     to: usize,
     pools: &Pools<'_>,
-    crc_tables: &[u32; CRC_ENTRIES],
+    crc_tables: &CrcTables,
 )
     requires { (size ≡ section_size_of (events_between pools.now list.now from to))
-        × (at + size ≤ length out.old)
-        × (crc_tables.now ≡ right_crc_tables) }
+        × (at + size ≤ length out.old) }
     ensures { out.new
         ≡ overwrite out.old at
         (section_bytes base_day
@@ -71,6 +67,6 @@ pub fn write_section(
 {
     header::write_header(out, at, size, header);
     let end = write_events(out, at + HEADER_SIZE, base_day, list, from, to, pools);
-    let crc = codec_crc::crc_by(crc_tables, CRC_FIRST, &out[at..end]);
+    let crc = crc_tables.crc32(&out[at..end]);
     fields::write_field(out, end, CRC_SIZE, crc as usize);
 }

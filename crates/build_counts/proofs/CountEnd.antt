@@ -9,7 +9,7 @@ use native.Mathlib.Omega.{arith}
 use lib.Dec.{T}
 use lib.ListN.{length}
 use lib.Seq.{ext_get_or}
-use Rattle.std.specs.Prelude.{Option, Some, None, nat_eq, position}
+use Rattle.std.specs.Prelude.{Option, Some, None, nat_eq, position, unwrap_or}
 use Rattle.std.specs.List.{position_from}
 use Rattle.std.proofs.lemmas.Iterator.Adapters.{position_from-zero}
 use Rattle.eit.specs.declared.Sizes.{Sizes}
@@ -58,9 +58,30 @@ module _ (sizes : Sizes) (pools : Pools) (list : EventList) where
   counted_none none =
       ⊎_elim (λ is. let found = sound_is is in absurd (cc)) (λ fails. fails) (test_or (sound sizes pools list))
 
-  pub counted_some : {counted : Counted} → Some counted ≡ counted_of sizes pools list → T (sound sizes pools list)
-  counted_some some =
-      ⊎_elim (λ is. is) (λ fails. let found = unsound_is (false_is (sound sizes pools list) fails) in absurd (cc)) (test_or (sound sizes pools list))
+  -- what a count says
+  pub record SoundCount (counted : Counted) : Type 0 where
+    pub is_sound : T (sound sizes pools list)
+    pub counts : counted.counts ≡ flatten (plan sizes pools list)
+    pub lowest : counted.lowest ≡ index_found (lowest_unpackable sizes (events_of pools list))
+    pub need : counted.need ≡ need_of sizes (events_of pools list)
+
+  pub counted_some : {counted : Counted} → Some counted ≡ counted_of sizes pools list → SoundCount counted
+  counted_some {counted} some =
+      ⊎_elim
+      (λ is.
+      let same : Some counted
+      ≡ counted_with (flatten (plan sizes pools list))
+      (index_found (lowest_unpackable sizes (events_of pools list)))
+      (need_of sizes (events_of pools list)) =
+      some ∙ sound_is is in
+      record {
+        is_sound = is;
+        counts = ap (λ (o : Option Counted). (unwrap_or o counted).counts) same;
+        lowest = ap (λ (o : Option Counted). (unwrap_or o counted).lowest) same;
+        need = ap (λ (o : Option Counted). (unwrap_or o counted).need) same;
+      })
+      (λ fails. let found = unsound_is (false_is (sound sizes pools list) fails) in absurd (cc))
+      (test_or (sound sizes pools list))
 
 -- ---- the lowest unpackable segment, by the counts
 

@@ -1,14 +1,8 @@
--- `write_file` meets its contract: before each turn the segments before it are written, and the events from `from` on
--- are those of this segment and of later ones (`FileSoFar`).
-use Rattle.std.proofs.Common.{◌-◌}
-use Rattle.eit.specs.Pools.{lent_pools}
+-- `write_file`: before each turn the segments before it are written, and the events from `from` on are those of this
+-- segment and of later ones (`FileSoFar`).
 use Rattle.build.proofs.FileLaws.{FileSoFar}
 use Rattle.build.proofs.file.write_file.Given as goal
 
 abbrev pub invariant-loop-index : goal.invariant-loop-index
 invariant-loop-index l =
-    FileSoFar l.pools l.list l.count l.sizes l.identity l.base_day l.fn.out l.out l.last l.at
-    l.from l.index
-
-abbrev pub decreases-loop-index : goal.decreases-loop-index
-decreases-loop-index l = 512 - l.index
+    FileSoFar l.pools l.list l.count l.fn.sizes l.identity l.base_day l.fn.out l.out l.last l.at l.from l.index

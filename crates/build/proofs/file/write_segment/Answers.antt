@@ -17,7 +17,6 @@ write_section-requires c =
     let taken = c.next_cut-taken in (
       segment_size c.loop-k.invariant c.loop-k-test.true taken.result taken.ensures,
       segment_fits c.loop-k.invariant c.loop-k-test.true taken.result taken.ensures,
-      c.requires.2,
     )
 
 pub overflow_add-offset : goal.overflow_add-offset

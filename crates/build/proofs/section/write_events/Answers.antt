@@ -1,7 +1,6 @@
 -- `build::section::write_events` meets its contract: a turn writes the event of record i (`next_written`). Assumes
 -- nothing.
 use Rattle.std.proofs.Common.{arith}
-use Rattle.eit.specs.Pools.{lent_pools}
 use Rattle.sections.proofs.Lengths.{loop_length}
 use Rattle.build_counts.specs.Between.{events_between}
 use Rattle.build.proofs.SectionLaws.{events_start, next_fits, next_written, events_written}
