@@ -1,68 +1,46 @@
 -- The event at the front of some bytes, test by test: what the code reads from the bytes on is what the event's own
 -- bytes show, since they are a front of these. Assumes nothing.
 use Prim.Native.Nat.{ℕ, ◌+◌, ◌-◌, ◌*◌, ◌/◌, ◌%◌, ◌^◌, ◌≤◌, ◌<◌}
-use mathlib.Core.Bool.{Bool, true, false, ◌&&◌, ◌||◌}
+use mathlib.Core.Bool.{true, false, ◌&&◌, ◌||◌}
 use mathlib.Core.List.{List}
-use mathlib.Core.Logic.{⊎_elim}
-use mathlib.Core.Path.{◌≡◌, refl, sym, ap, ◌∙◌}
+use mathlib.Core.Path.{◌≡◌, sym, ap, ◌∙◌}
 use native.Mathlib.Omega.{arith}
 use borrow.Author.Tests.{eq-eqb, ne_eqb}
-use lib.Dec.{eqb, eqb→eq}
+use lib.Dec.{eqb}
 use lib.ListN.{length, take, drop, get_or, length-drop}
 use lib.Seq.{take_all, take-take, length-take-le}
 use Rattle.std.specs.Prelude.{Some, None, slice_range}
+use Rattle.std.proofs.lemmas.Bool.Decides.{nat_tests}
 use Rattle.eit.specs.Fields.{value_of, bytes_at, field}
 use Rattle.eit.specs.Time.{is_start_bytes, is_duration_bytes, seconds_of, start_of}
 use Rattle.eit.specs.Chain.{is_chain}
 use Rattle.eit.specs.Pools.{odd}
 use Rattle.eit.specs.declared.Record.{Record}
 use Rattle.eit.proofs.Fields.{bytes_all}
-use Rattle.eit.proofs.Test.{true_is, or_cases, eq_or_not}
+use Rattle.eit.proofs.Test.{true_is}
 use Rattle.sections.specs.Section.{Header, event_overhead}
-use Rattle.sections.specs.Encode.{running_status, bit_of}
+use Rattle.sections.specs.Encode.{bit_of}
 use Rattle.sections.specs.Decode.{status_field, stated_event_size, event_in}
 use Rattle.sections.specs.Offsets.{record_at}
 use Rattle.sections.specs.EventTests.{is_in_segment, is_event}
 use Rattle.sections.proofs.EventBytes.{bit_forth}
 use Rattle.codec.proofs.FieldLaws.{drop_take, field_read}
 use Rattle.codec_time.specs.TimeRead.{duration_at, start_at}
-use Rattle.codec_time.proofs.TimeReadLaws.{some_only, none_only, no_start, is_start, no_duration, is_duration}
+use Rattle.codec_time.proofs.TimeReadLaws.{no_start, is_start, no_duration, is_duration}
 use Rattle.codec_section.specs.EventRead.{is_whole_event, front_event, event_read}
 
 -- ---- the segment is all that `is_event` asks besides
 
-and_last : (a b c d e f : Bool) → (a && (b && (c && (d && (e && f))))) ≡ ((a && (b && (c && (d && e)))) && f)
-and_last false b c d e f = refl
-and_last true false c d e f = refl
-and_last true true false d e f = refl
-and_last true true true false e f = refl
-and_last true true true true e f = refl
-
 pub event_whole : (base : ℕ) (h : Header) (bs : List ℕ)
     → is_event base h bs ≡ (is_whole_event base bs && is_in_segment h (start_of base (bytes_at 2 5 bs)))
 unfolding is_event is_whole_event
-event_whole base h bs =
-    let status = status_field bs / 0x2000 in
-    and_last (eqb (length bs) (stated_event_size bs)) (is_start_bytes base (bytes_at 2 5 bs))
-    (is_duration_bytes (bytes_at 7 3 bs))
-    (eqb status 0 || eqb status 5) (is_chain (drop event_overhead bs)) (is_in_segment h (start_of base (bytes_at 2 5 bs)))
+event_whole base h bs = grind (arith, nat_tests)
 
 -- ---- marks and the bits of the word
 
-pub running_is : (n : ℕ) → running_status (odd n) ≡ n % 2 * 5
-running_is n =
-    ⊎_elim
-    (λ one. rw (running_status, eq-eqb (n % 2) 1 one) (omega arith))
-    (λ other. rw (running_status, ne_eqb (n % 2) 1 other) (omega (arith, other)))
-    (eq_or_not (n % 2) 1)
-
 -- 5 is off air, 0 is not
 off_air_is : (status : ℕ) → (eqb status 0 || eqb status 5) ≡ true → bit_of (eqb status 5) ≡ status / 5
-off_air_is status passed =
-    ⊎_elim
-    (λ none. let zero_is : status ≡ 0 = eqb→eq status 0 none in rw zero_is)
-    (λ five. let five-is : status ≡ 5 = eqb→eq status 5 five in rw five-is)
-    (or_cases (eqb status 0) (eqb status 5) (rw passed tt))
+off_air_is status passed = grind (arith, nat_tests)
 
 -- ---- what was read, and what it says of the event's bytes
 
@@ -79,21 +57,13 @@ module _ (base : ℕ) (bs : List ℕ) where
   pub whole_only : {r : Record} → event_read base bs ≡ Some r
       → (is_whole_event base (front_event bs) ≡ true) × (r ≡ record_at 0 (event_in base (front_event bs)))
   unfolding event_read
-  whole_only {r} read =
-      let (holds, same) =
-      some_only (is_whole_event base (front_event bs)) (record_at 0 (event_in base (front_event bs))) r read in
-      (true_is (is_whole_event base (front_event bs)) holds, sym same)
+  whole_only {r} read = grind (arith, nat_tests)
 
   pub broken_only : event_read base bs ≡ None → is_whole_event base (front_event bs) ≡ false
   unfolding event_read
-  broken_only read =
-      none_only (is_whole_event base (front_event bs)) (record_at 0 (event_in base (front_event bs))) read
+  broken_only read = grind (arith, nat_tests)
 
 -- ---- the bytes of the event are a front of the bytes
-
-and_false : (a : Bool) → (a && false) ≡ false
-and_false true = refl
-and_false false = refl
 
 -- the word of the status, as it is read
 module _ (base : ℕ) (bs : List ℕ) {word : ℕ} (all : (k : ℕ) → get_or bs k 0 < 256)
@@ -147,18 +117,14 @@ module _ (base : ℕ) (bs : List ℕ) {word : ℕ} (all : (k : ℕ) → get_or b
         )
 
     pub event_no_status : (eqb (word / 0x2000) 0 || eqb (word / 0x2000) 5) ≡ false → event_read base bs ≡ None
-    event_no_status none =
-        broken_read base bs
-        (whole_is ∙ rw (none, and_false (is_duration_bytes (bytes_at 7 3 bs)))
-        (and_false (is_start_bytes base (bytes_at 2 5 bs))))
+    event_no_status none = broken_read base bs (grind (arith, nat_tests, whole_is))
 
     pub event_no_start : start_at base 2 bs ≡ None → event_read base bs ≡ None
-    event_no_start none = broken_read base bs (whole_is ∙ rw (no_start base 2 bs (omega arith) none))
+    event_no_start none = broken_read base bs (grind (arith, nat_tests, whole_is, no_start))
 
     pub event_no_duration : duration_at 7 bs ≡ None → event_read base bs ≡ None
     event_no_duration none =
-        broken_read base bs
-        (whole_is ∙ rw (no_duration 7 bs (omega arith) none) (and_false (is_start_bytes base (bytes_at 2 5 bs))))
+        let lasts = no_duration 7 bs (omega arith) none in broken_read base bs (grind (arith, nat_tests, whole_is))
 
     module _ {start duration : ℕ} {chain : List ℕ}
         (status : (eqb (word / 0x2000) 0 || eqb (word / 0x2000) 5) ≡ true)

@@ -2,10 +2,8 @@
 -- the header that the bytes show. Assumes nothing.
 use Prim.Native.Nat.{ℕ, ◌+◌, ◌%◌, ◌^◌, ◌≤◌, ◌<◌}
 use mathlib.Core.List.{List, ◌++◌}
-use mathlib.Core.Path.{◌≡◌, refl, sym, ap, ◌∙◌}
+use mathlib.Core.Path.{◌≡◌, refl, ap, ◌∙◌}
 use native.Mathlib.Omega.{arith}
-use borrow.Author.Tests.{leb-false}
-use lib.Dec.{leb, leb→le}
 use lib.ListN.{length}
 use Rattle.std.specs.Prelude.{Some, None, option_map}
 use Rattle.eit.specs.Fields.{big_endian}
@@ -18,7 +16,7 @@ use Rattle.codec.specs.Write.{write_at}
 use Rattle.codec_section.specs.HeaderRead.{held_header, front_bytes, rest_bytes, header_read}
 use Rattle.codec_section.specs.declared.header.SectionHeader.{SectionHeader}
 use Rattle.codec.proofs.WriteLaws.{write_then, write_short}
-use Rattle.codec_time.proofs.TimeReadLaws.{some_only, none_only}
+use Rattle.std.proofs.lemmas.Bool.Decides.{nat_tests}
 
 pub header_joined : (size : ℕ) (h : SectionHeader) → front_bytes size h ++ rest_bytes h ≡ header_bytes size (held_header h)
 unfolding header_bytes
@@ -83,10 +81,7 @@ pub ruleset header_laws = (header_written, header_short)
 module _ (bs : List ℕ) where
   pub header_only : {h : SectionHeader} → option_map held_header (Some h) ≡ header_read bs
       → (header_size ≤ length bs) × (held_header h ≡ header_in bs)
-  header_only {h} read =
-      let (enough, same) = some_only (leb header_size (length bs)) (header_in bs) (held_header h) (sym read) in
-      (leb→le header_size (length bs) enough, sym same)
+  header_only {h} read = grind (arith, nat_tests)
 
   pub short_only : option_map held_header None ≡ header_read bs → length bs < header_size
-  short_only read =
-      leb-false header_size (length bs) (none_only (leb header_size (length bs)) (header_in bs) (sym read))
+  short_only read = grind (arith, nat_tests)

@@ -1,50 +1,27 @@
 -- What the bytes of a time show, by the parts that the code reads one after the other: the three bytes of a time, and
 -- of a start its day before them. Assumes nothing.
 use Prim.Native.Nat.{ℕ, ◌+◌, ◌-◌, ◌*◌, ◌%◌, ◌^◌, ◌≤◌, ◌<◌}
-use mathlib.Core.Bool.{Bool, true, false, ◌&&◌}
+use mathlib.Core.Bool.{false, ◌&&◌}
 use mathlib.Core.List.{List}
-use mathlib.Core.Path.{◌≡◌, refl, sym, ap, ◌∙◌}
+use mathlib.Core.Path.{◌≡◌, ap, ◌∙◌}
 use native.Mathlib.Omega.{arith}
-use borrow.Author.Tests.{le-leb, lt-leb, le-ltb, lt-ltb}
-use lib.Dec.{T, leb, ltb, leb→le}
+use borrow.Author.Tests.{le-leb, lt-leb}
+use lib.Dec.{T, leb, ltb}
 use lib.ListN.{length, take, drop, get_or}
 use lib.Seq.{take-take, drop-drop}
 use Rattle.std.specs.Prelude.{Some, None}
 use Rattle.std.specs.Bool.{then_some}
 use Rattle.std.proofs.Common.{Fits, w8}
+use Rattle.std.proofs.lemmas.Bool.Decides.{nat_tests}
 use Rattle.eit.specs.Limits.{window_seconds, duration_min, duration_max}
 use Rattle.eit.specs.Limits.{start_hours_max, duration_hours_max}
 use Rattle.eit.specs.Fields.{bytes_at, field}
 use Rattle.eit.specs.Time.{seconds_of_day, is_time, seconds_of, is_duration_bytes, start_of}
 use Rattle.eit.specs.Time.{is_start_bytes}
 use Rattle.eit.proofs.Fields.{bytes_all, field_length}
-use Rattle.eit.proofs.Test.{true_is, and_right, and_parts}
 use Rattle.eit.proofs.TimeLaws.{time_only}
 use Rattle.codec.proofs.FieldLaws.{drop_take, field_exact, field_small}
 use Rattle.codec_time.specs.TimeRead.{time_at, duration_at, start_at}
-
--- ---- a test and what it lets through
-
-module _ {A : Type 0} where
-  pub some_only : (b : Bool) (x y : A) → then_some b x ≡ Some y → T b × (x ≡ y)
-  some_only true x y e = (tt, cc)
-  some_only false x y e = cc
-
-  pub none_only : (b : Bool) (x : A) → then_some b x ≡ None → b ≡ false
-  none_only true x e = cc
-  none_only false x e = refl
-
-and_no : (a b c : Bool) → (a && b) ≡ false → (a && (b && c)) ≡ false
-and_no true b c e = rw e
-and_no false b c e = refl
-
-and_second : (a b : Bool) → a ≡ true → (a && b) ≡ false → b ≡ false
-and_second true b e fails = fails
-and_second false b e fails = cc
-
-and_true : (a : Bool) → (a && true) ≡ a
-and_true true = refl
-and_true false = refl
 
 -- ---- a field of two bytes
 
@@ -62,42 +39,25 @@ pub ruleset word_laws = (word_small, word_exact)
 module _ (at : ℕ) (bs : List ℕ) where
   pub duration_no_time : time_at duration_hours_max at bs ≡ None → duration_at at bs ≡ None
   unfolding time_at duration_at
-  duration_no_time none =
-      let fits : Bool = leb (at + 3) (length bs) in
-      let time : Bool = is_time duration_hours_max (bytes_at at 3 bs) in
-      let least : Bool = leb duration_min (seconds_of (bytes_at at 3 bs)) in
-      rw (and_no fits time least (none_only (fits && time) (seconds_of (bytes_at at 3 bs)) none))
+  duration_no_time none = grind (arith, nat_tests)
 
   -- a time of up to 99 hours is a duration if it is in range; it is never too long
   pub duration_time : (n : ℕ) → time_at duration_hours_max at bs ≡ Some n
       → duration_at at bs ≡ then_some (leb duration_min n && leb n duration_max) n
   unfolding time_at duration_at
   duration_time n is =
-      let fits : Bool = leb (at + 3) (length bs) in
-      let time : Bool = is_time duration_hours_max (bytes_at at 3 bs) in
-      let (passed, same) = some_only (fits && time) (seconds_of (bytes_at at 3 bs)) n is in
-      let (room, shown) = and_parts fits time passed in
-      let three : length (bytes_at at 3 bs) ≡ 3 = field_length bs at 3 (leb→le (at + 3) (length bs) room) in
-      let few : seconds_of (bytes_at at 3 bs) < 100 * 3600 =
-      (time_only duration_hours_max (bytes_at at 3 bs) three shown).1 in
-      let most : n ≤ duration_max = omega arith in
-      rw (true_is fits room, true_is time shown, same, le-leb n duration_max most, and_true (leb duration_min n))
+      let three : at + 3 ≤ length bs → length (bytes_at at 3 bs) ≡ 3 = field_length bs at 3 in
+      grind (arith, nat_tests, time_only)
 
   -- what was found in bytes that are there
   pub no_duration : at + 3 ≤ length bs → duration_at at bs ≡ None → is_duration_bytes (bytes_at at 3 bs) ≡ false
   unfolding duration_at
-  no_duration fits none =
-      let test : Bool = is_duration_bytes (bytes_at at 3 bs) in
-      and_second (leb (at + 3) (length bs)) test (le-leb (at + 3) (length bs) fits)
-      (none_only (leb (at + 3) (length bs) && test) (seconds_of (bytes_at at 3 bs)) none)
+  no_duration fits none = grind (arith, nat_tests)
 
   pub is_duration : {n : ℕ} → duration_at at bs ≡ Some n
       → T (is_duration_bytes (bytes_at at 3 bs)) × (seconds_of (bytes_at at 3 bs) ≡ n)
   unfolding duration_at
-  is_duration {n} found =
-      let test : Bool = is_duration_bytes (bytes_at at 3 bs) in
-      let (passed, same) = some_only (leb (at + 3) (length bs) && test) (seconds_of (bytes_at at 3 bs)) n found in
-      (and_right (leb (at + 3) (length bs)) test passed, same)
+  is_duration {n} found = grind (arith, nat_tests)
 
 -- ---- a start: a day and a time of that day
 
@@ -124,16 +84,9 @@ module _ (base at : ℕ) (bs : List ℕ) where
   start_parts fits = rw (le-leb (at + 5) (length bs) fits, day_of_holds, time_of_holds)
 
   module _ (fits : at + 5 ≤ length bs) where
-    inside : leb (at + 2 + 3) (length bs) ≡ true
-    inside = le-leb (at + 2 + 3) (length bs) (omega arith)
-
     pub start_no_time : time_at start_hours_max (at + 2) bs ≡ None → start_at base at bs ≡ None
     unfolding time_at
-    start_no_time none =
-        let time : Bool = is_time start_hours_max (bytes_at (at + 2) 3 bs) in
-        let fails : time ≡ false =
-        sym (ap (λ (b : Bool). b && time) inside) ∙ none_only (leb (at + 2 + 3) (length bs) && time) _ none in
-        start_parts fits ∙ rw fails
+    start_no_time none = grind (arith, nat_tests, start_parts)
 
     -- a time that was read, behind its day
     module _ {n : ℕ} (is-time : time_at start_hours_max (at + 2) bs ≡ Some n) where
@@ -141,43 +94,28 @@ module _ (base at : ℕ) (bs : List ℕ) where
           ≡ then_some (leb base (field at 2 bs) && ltb ((field at 2 bs - base) * seconds_of_day + n) window_seconds)
           ((field at 2 bs - base) * seconds_of_day + n)
       unfolding time_at
-      start_read =
-          let time : Bool = is_time start_hours_max (bytes_at (at + 2) 3 bs) in
-          let (passed, same) =
-          some_only (leb (at + 2 + 3) (length bs) && time) (seconds_of (bytes_at (at + 2) 3 bs)) n is-time in
-          let (room, shown) = and_parts (leb (at + 2 + 3) (length bs)) time passed in
-          start_parts fits ∙ rw (true_is time shown, same)
+      start_read = grind (arith, nat_tests, start_parts)
 
       pub start_early : field at 2 bs < base → start_at base at bs ≡ None
-      start_early early = start_read ∙ rw (lt-leb base (field at 2 bs) early)
+      start_early early = grind (arith, nat_tests, start_read)
 
       pub start_late : base ≤ field at 2 bs → window_seconds ≤ (field at 2 bs - base) * seconds_of_day + n
           → start_at base at bs ≡ None
-      start_late later late =
-          start_read
-          ∙ rw (le-leb base (field at 2 bs) later, le-ltb ((field at 2 bs - base) * seconds_of_day + n) window_seconds late)
+      start_late later late = grind (arith, nat_tests, start_read)
 
       pub start_shown : base ≤ field at 2 bs → (field at 2 bs - base) * seconds_of_day + n < window_seconds
           → start_at base at bs ≡ Some ((field at 2 bs - base) * seconds_of_day + n)
-      start_shown later soon =
-          start_read
-          ∙ rw (le-leb base (field at 2 bs) later, lt-ltb ((field at 2 bs - base) * seconds_of_day + n) window_seconds soon)
+      start_shown later soon = grind (arith, nat_tests, start_read)
 
   -- what was found in bytes that are there
   pub no_start : at + 5 ≤ length bs → start_at base at bs ≡ None → is_start_bytes base (bytes_at at 5 bs) ≡ false
   unfolding start_at
-  no_start fits none =
-      let test : Bool = is_start_bytes base (bytes_at at 5 bs) in
-      and_second (leb (at + 5) (length bs)) test (le-leb (at + 5) (length bs) fits)
-      (none_only (leb (at + 5) (length bs) && test) (start_of base (bytes_at at 5 bs)) none)
+  no_start fits none = grind (arith, nat_tests)
 
   pub is_start : {n : ℕ} → start_at base at bs ≡ Some n
       → T (is_start_bytes base (bytes_at at 5 bs)) × (start_of base (bytes_at at 5 bs) ≡ n)
   unfolding start_at
-  is_start {n} found =
-      let test : Bool = is_start_bytes base (bytes_at at 5 bs) in
-      let (passed, same) = some_only (leb (at + 5) (length bs) && test) (start_of base (bytes_at at 5 bs)) n found in
-      (and_right (leb (at + 5) (length bs)) test passed, same)
+  is_start {n} found = grind (arith, nat_tests)
 
 pub ruleset duration_laws = (duration_no_time, duration_time)
 
