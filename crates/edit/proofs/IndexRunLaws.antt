@@ -14,7 +14,7 @@ use Rattle.eit.specs.Records.{EventList, record_size}
 use Rattle.eit.specs.Sound.{sound}
 use Rattle.codec.specs.Seen.{is_seen}
 use Rattle.script.specs.Form.{Command}
-use Rattle.edit_index.specs.declared.index.Index.{Index}
+use Rattle.edit_index.specs.Index.{Index}
 use Rattle.edit_index.specs.Index.{Holds, indexed_list}
 use Rattle.edit.specs.Run.{run_one}
 use Rattle.edit.specs.Indexed.{Kept, Leaves}

@@ -29,7 +29,7 @@ use Rattle.script.specs.Machine.{step, done, refused, find, without}
 use Rattle.script.specs.Edit as model
 use Rattle.edit_answer.specs.Outcome.{outcome_of}
 use Rattle.edit_answer.specs.declared.EditError.{EditError}
-use Rattle.edit_index.specs.declared.index.Index.{Index}
+use Rattle.edit_index.specs.Index.{Index}
 use Rattle.edit_index.specs.Index.{id_limit, no_slot, slot_record, held_records, held_starts, Holds, taken_out}
 use Rattle.edit_index.specs.Index.{indexed_numbers, indexed_list}
 use Rattle.edit_index.specs.Rises.{Rises}

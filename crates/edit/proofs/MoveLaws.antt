@@ -32,7 +32,7 @@ use Rattle.script.proofs.Places.{insert_place, without_position}
 use Rattle.script.proofs.Steps.{move_5, move_6, move_30, move_passes}
 use Rattle.edit_answer.specs.declared.EditError.{EditError}
 use Rattle.edit_answer.specs.declared.EditError.TheVariants.{OutOfRange, WrongId, Overlap}
-use Rattle.edit_index.specs.declared.index.Index.{Index}
+use Rattle.edit_index.specs.Index.{Index}
 use Rattle.edit_index.specs.Index.{slot_limit, id_limit, no_slot, slot_record, held_records, held_starts, Holds}
 use Rattle.edit_index.specs.Index.{added, taken_out, indexed_numbers, indexed_list}
 use Rattle.edit_index.specs.Neighbours.{overlaps_neighbour}

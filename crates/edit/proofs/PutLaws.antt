@@ -33,7 +33,7 @@ use Rattle.script.proofs.Steps.{put_5, put_9, put_6, put_30, put_8, put_passes}
 use Rattle.edit_answer.specs.declared.EditError.{EditError}
 use Rattle.edit_answer.specs.declared.EditError.TheVariants.{OutOfRange, WrongId, ListFull}
 use Rattle.edit_answer.specs.declared.EditError.TheVariants.{NoChain, Overlap}
-use Rattle.edit_index.specs.declared.index.Index.{Index}
+use Rattle.edit_index.specs.Index.{Index}
 use Rattle.edit_index.specs.Index.{slot_limit, id_limit, no_slot, held_records, held_starts, added, indexed_numbers}
 use Rattle.edit_index.specs.Index.{indexed_list}
 use Rattle.edit_index.specs.Neighbours.{overlaps_neighbour}

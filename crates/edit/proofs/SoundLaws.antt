@@ -17,7 +17,7 @@ use Rattle.eit.proofs.Events.{rising_any}
 use Rattle.eit.proofs.Records.{records_length, record_at_holds}
 use Rattle.eit.proofs.Sound.{RecordFacts, sound_list, valid_at, range_facts}
 use Rattle.script.specs.Machine.{zero_record}
-use Rattle.edit_index.specs.declared.index.Index.{Index}
+use Rattle.edit_index.specs.Index.{Index}
 use Rattle.edit_index.specs.Index.{slot_limit, id_limit, slot_record, held_records, Holds, loaded, indexed_list}
 use Rattle.edit_index.proofs.IndexLaws.{index_records, indexed_own}
 use Rattle.edit_index.proofs.LoadLaws.{Loadable, loaded_holds, loaded_count, loaded_records}

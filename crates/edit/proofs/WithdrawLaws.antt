@@ -24,7 +24,7 @@ use Rattle.script.proofs.Steps.{withdraw_6, withdraw_passes}
 use Rattle.list_records.specs.Written.{record_written}
 use Rattle.list_records.proofs.WriteLaws.{over_ahead, written_is}
 use Rattle.edit_answer.specs.declared.EditError.TheVariants.{WrongId}
-use Rattle.edit_index.specs.declared.index.Index.{Index}
+use Rattle.edit_index.specs.Index.{Index}
 use Rattle.edit_index.specs.Index.{no_slot, slot_record, held_records, held_starts, taken_out, indexed_numbers}
 use Rattle.edit_index.specs.Index.{indexed_list}
 use Rattle.edit.specs.Indexed.{Kept, Leaves}

@@ -10,7 +10,7 @@ use Rattle.script.specs.Edit as model
 use Rattle.edit_answer.specs.Outcome.{outcome_of}
 use Rattle.edit_answer.specs.declared.EditError.{EditError}
 use Rattle.edit_index.specs.Index.{id_limit, held_records, Holds, indexed_numbers}
-use Rattle.edit_index.specs.declared.index.Index.{Index}
+use Rattle.edit_index.specs.Index.{Index}
 
 -- the place of a start, of `place`, once the record before place `out` is taken out
 abbrev pub place_left : ℕ → ℕ → ℕ

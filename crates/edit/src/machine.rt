@@ -40,7 +40,7 @@ fn limit_of(list: &[u32], caller: Caller) -> usize
 // PUT: 5, 9, 6, 30, 8; then the record is put in its place.
 fn put(
     list: &[u32],
-    index: &mut Index,
+    index: &mut Index<'_>,
     pools: &Pools<'_>,
     caller: Caller,
     at: usize,
@@ -61,11 +61,12 @@ fn put(
     if index.slot_of(event.id).is_some() {
         return Err(EditError::WrongId(at));
     }
+    let count = index.count();
     let found = search::place_of(index.entries(), event.start);
-    if neighbours::overlaps_neighbour(index, index.count, found.place, event) {
+    if neighbours::overlaps_neighbour(index, count, found.place, event) {
         return Err(EditError::Overlap(at));
     }
-    if limit_of(list, caller) <= index.count {
+    if limit_of(list, caller) <= count {
         return Err(EditError::ListFull(at));
     }
     index.add(found.place, event);
@@ -73,7 +74,7 @@ fn put(
 }
 
 // WITHDRAW: 6; then the record is taken out, and the freed record of the lent list is set to six zeros.
-fn withdraw(list: &mut [u32], index: &mut Index, at: usize, id: u32) -> Result<(), EditError>
+fn withdraw(list: &mut [u32], index: &mut Index<'_>, at: usize, id: u32) -> Result<(), EditError>
     requires { Kept list.old index.old }
     ensures { (sizes : Sizes) (pools : LentPools) →
         Leaves
@@ -85,7 +86,7 @@ fn withdraw(list: &mut [u32], index: &mut Index, at: usize, id: u32) -> Result<(
     };
     let found = search::place_of(index.entries(), event.start);
     index.take_out(found.place - 1, id);
-    records::write_record(list, index.count, ZEROS);
+    records::write_record(list, index.count(), ZEROS);
     Ok(())
 }
 
@@ -98,7 +99,13 @@ fn place_left(place: usize, out: usize) -> usize
 }
 
 // MOVE: 5, 6, 30; then the record goes to the place of its new start among the others.
-fn move_to(list: &[u32], index: &mut Index, at: usize, id: u32, start: u32) -> Result<(), EditError>
+fn move_to(
+    list: &[u32],
+    index: &mut Index<'_>,
+    at: usize,
+    id: u32,
+    start: u32,
+) -> Result<(), EditError>
     requires { Kept list.now index.old }
     ensures { (sizes : Sizes) (pools : LentPools) →
         Leaves
@@ -125,7 +132,7 @@ fn move_to(list: &[u32], index: &mut Index, at: usize, id: u32, start: u32) -> R
 // The command at an offset of the script; an UNDO changes nothing.
 pub fn carry_out(
     list: &mut [u32],
-    index: &mut Index,
+    index: &mut Index<'_>,
     pools: &Pools<'_>,
     caller: Caller,
     script: &[u8],

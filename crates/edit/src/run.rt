@@ -23,7 +23,7 @@ use list_records::records::RECORD_SIZE;
 // where one is refused.
 fn run_indexed(
     list: &mut [u32],
-    index: &mut Index,
+    index: &mut Index<'_>,
     pools: &Pools<'_>,
     caller: Caller,
     script: &[u8],
@@ -69,15 +69,18 @@ pub fn run_noted(
         ≡ outcome_of result count.new list.new }
 {
     places::mark_live(noted, k as u32, undos as u32);
+    let mut slots = [0u32; SLOTS * RECORD_SIZE];
+    let mut order = [0u64; SLOTS];
+    let mut ids = [NO_SLOT; IDS];
     let mut index = Index {
-        slots: [0; SLOTS * RECORD_SIZE],
-        order: [0; SLOTS],
-        ids: [NO_SLOT; IDS],
+        slots: &mut slots,
+        order: &mut order,
+        ids: &mut ids,
         count: 0,
     };
     index.load(list, *count);
     let ran = run_indexed(list, &mut index, pools, caller, script, at, k, noted);
     index.store(list);
-    *count = index.count;
+    *count = index.count();
     ran
 }

@@ -20,7 +20,7 @@ use Rattle.eit.proofs.Test.{and_left, eq_or_not, eq_test, ne_test}
 use Rattle.list_records.specs.Written.{record_written}
 use Rattle.list_records.proofs.WriteLaws.{written_is}
 use Rattle.edit_index.specs.Order.{entry_of, slot_in, start_in, slots_in, starts_in, with_entry}
-use Rattle.edit_index.specs.declared.index.Index.{Index}
+use Rattle.edit_index.specs.Index.{Index}
 use Rattle.edit_index.specs.Index.{slot_limit, id_limit, no_slot, slot_record, held_slots, held_starts}
 use Rattle.edit_index.specs.Index.{held_records, slot_of, Holds, free_slot, added}
 use Rattle.edit_index.proofs.OrderLaws.{with_length, with_around, with_behind}

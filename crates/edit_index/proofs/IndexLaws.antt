@@ -27,7 +27,7 @@ use Rattle.eit.proofs.Test.{test_or, eq_or_not}
 use Rattle.script.specs.Machine.{find, zero_record}
 use Rattle.script.proofs.Places.{find_at}
 use Rattle.edit_index.specs.Order.{slot_in, slots_in}
-use Rattle.edit_index.specs.declared.index.Index.{Index}
+use Rattle.edit_index.specs.Index.{Index}
 use Rattle.edit_index.specs.Index.{slot_limit, id_limit, no_slot, slot_record, held_slots, held_starts}
 use Rattle.edit_index.specs.Index.{held_records, slot_led, record_led, AllBelow, Holds, indexed_numbers, indexed_list}
 use Rattle.edit_index.proofs.SlotLaws.{below_at, below_front, map_joined, map_at, slot_none, slot_some}

@@ -20,7 +20,7 @@ use Rattle.eit.proofs.Test.{tests, ne_test}
 use Rattle.list_records.specs.Written.{record_written}
 use Rattle.list_records.proofs.WriteLaws.{over_behind, written_is}
 use Rattle.edit_index.specs.Order.{slot_in, slots_in, slots_from}
-use Rattle.edit_index.specs.declared.index.Index.{Index}
+use Rattle.edit_index.specs.Index.{Index}
 use Rattle.edit_index.specs.Index.{slot_limit, id_limit, no_slot, slot_record, held_records}
 use Rattle.edit_index.specs.Index.{AllBelow, Holds, emptied, loaded, indexed_numbers, stored}
 use Rattle.edit_index.proofs.OrderLaws.{from_length}

@@ -16,7 +16,7 @@ use Rattle.eit.proofs.OverlapLaws.{overlaps_first, overlaps_beside}
 use Rattle.eit.proofs.Test.{true_is, le_or_lt}
 use Rattle.script.specs.Machine.{zero_record}
 use Rattle.edit_index.specs.Order.{slot_in}
-use Rattle.edit_index.specs.declared.index.Index.{Index}
+use Rattle.edit_index.specs.Index.{Index}
 use Rattle.edit_index.specs.Index.{slot_record, held_records, Holds}
 use Rattle.edit_index.specs.Neighbours.{other_at, overlaps_at, overlaps_neighbour}
 use Rattle.edit_index.proofs.SlotLaws.{leave, leave_before, leave_behind}

@@ -18,7 +18,7 @@ use Rattle.script.specs.Machine.{without, zero_record}
 use Rattle.script.proofs.Placing.{without_gone, find_id}
 use Rattle.script.proofs.Places.{find_at, without_position}
 use Rattle.edit_index.specs.Order.{slot_in, start_in, slots_in, starts_in, without_entry}
-use Rattle.edit_index.specs.declared.index.Index.{Index}
+use Rattle.edit_index.specs.Index.{Index}
 use Rattle.edit_index.specs.Index.{slot_limit, id_limit, no_slot, slot_record, held_slots, held_starts}
 use Rattle.edit_index.specs.Index.{held_records, slot_of, Holds, taken_out}
 use Rattle.edit_index.proofs.OrderLaws.{without_length, without_around, without_behind}

@@ -10,7 +10,6 @@ use Rattle.eit.specs.Sound.{starts_of}
 use Rattle.eit.specs.declared.Record.{Record}
 use Rattle.list_records.specs.Written.{record_written}
 use Rattle.edit_index.specs.Order.{entry_of, slot_in, slots_in, starts_in, slots_from, with_entry, without_entry}
-use Rattle.edit_index.specs.declared.index.Index.{Index}
 
 -- how many slots there are, and so how many records an index has room for; how many ids; and what stands for no slot
 abbrev pub slot_limit : ℕ
@@ -23,6 +22,12 @@ abbrev pub no_slot : ℕ
 no_slot = 65535
 
 -- ---- what an index holds
+
+pub record Index : Type 0 where
+  pub slots : List ℕ
+  pub order : List ℕ
+  pub ids : List ℕ
+  pub count : ℕ
 
 -- the record in a slot
 abbrev pub slot_record : List ℕ → ℕ → Record

@@ -5,7 +5,7 @@ use Rattle.eit.specs.Overlap.{overlap}
 use Rattle.eit.specs.declared.Record.{Record}
 use Rattle.edit_index.specs.Order.{slot_in}
 use Rattle.edit_index.specs.Index.{slot_record}
-use Rattle.edit_index.specs.declared.index.Index.{Index}
+use Rattle.edit_index.specs.Index.{Index}
 
 -- where record i of the others stands, if the record in place `own` is left out
 abbrev pub other_at : ℕ → ℕ → ℕ

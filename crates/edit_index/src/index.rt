@@ -1,13 +1,14 @@
 // The index: its records are looked up by id, put in and taken out, made from the list and written back to it. Edit
-// makes it on its stack, in place, and passes it by reference.
-ghost use Rattle.std.specs.Prelude.{◌≡◌, List, ℕ, length, set, take};
+// lends it arrays of its stack.
+ghost use Rattle.std.specs.Prelude.{◌≡◌, List, ℕ, length, get_or, set, take};
+ghost use Rattle.edit_index.specs.Order.{slot_in};
 ghost use Rattle.edit_index.specs.Index.{slot_led, record_led, one_more, added, taken_out, emptied, loaded, stored};
 
 use crate::order;
 use eit::Record;
 use eit::limits::EVENTS_MAX;
 use list_records::records;
-use list_records::records::RECORD_SIZE;
+use std::marker::Model;
 
 // Slots of an index that has room for any list.
 pub const SLOTS: usize = EVENTS_MAX;
@@ -21,11 +22,19 @@ pub const NO_SLOT: u16 = 65_535;
 // A record in each slot; the order of the slots by the starts of their records, those of no record behind the others;
 // and the slot of each id's record.
 #[derive(Drop)]
-pub struct Index {
-    pub slots: [u32; SLOTS * RECORD_SIZE],
-    pub order: [u64; SLOTS],
-    pub ids: [u16; IDS],
+pub struct Index<'a> {
+    pub slots: &'a mut [u32],
+    pub order: &'a mut [u64],
+    pub ids: &'a mut [u16],
     pub count: usize,
+}
+
+impl<'a> Model for Index<'a> {
+    ghost use Rattle.edit_index.specs.Index.{Index};
+
+    ghost Value = { Index };
+
+    ghost view = { λ x. record { slots = x.slots.now; order = x.order.now; ids = x.ids.now; count = x.count } };
 }
 
 // Leads an id to a slot. Beyond the ids, all stays.
@@ -45,12 +54,19 @@ fn one_more(count: usize) -> usize
     if count < SLOTS { count + 1 } else { count }
 }
 
-impl Index {
+impl Index<'_> {
+    // How many records it has.
+    pub fn count(&self) -> usize
+        ensures { result ≡ self.now.count }
+    {
+        self.count
+    }
+
     // The entries of its records, in their order.
     pub fn entries(&self) -> &[u64]
         ensures { result.now ≡ take self.now.count self.now.order }
     {
-        &self.order[..self.count.min(SLOTS)]
+        &self.order[..self.count.min(self.order.len())]
     }
 
     // The slot of the record that has the id.
@@ -58,7 +74,7 @@ impl Index {
         ensures { result ≡ slot_led self.now id }
     {
         let i = id as usize;
-        if i < IDS && self.ids[i] != NO_SLOT {
+        if i < self.ids.len() && self.ids[i] != NO_SLOT {
             Some(self.ids[i])
         } else {
             None
@@ -70,31 +86,34 @@ impl Index {
         ensures { result ≡ record_led self.now id }
     {
         let slot = self.slot_of(id)?;
-        Some(records::record_at(&self.slots, slot as usize))
+        Some(records::record_at(self.slots, slot as usize))
+    }
+
+    // The slot of entry i of the order; that of entry `count` is the first that is free.
+    fn slot_at(&self, i: usize) -> u16
+        ensures { result ≡ slot_in (get_or self.now.order i 0) }
+    {
+        order::slot_at(self.order, i)
     }
 
     // Puts a record in a place of the others, in the first slot that is free.
     pub fn add(&mut self, place: usize, event: Record)
         ensures { self.new ≡ added place event self.old }
     {
-        let slot = order::slot_at(&self.order, self.count);
-        records::write_record(&mut self.slots, slot as usize, event);
-        order::insert(
-            &mut self.order,
-            self.count,
-            place,
-            order::entry_of(event.start, slot),
-        );
-        set_slot(&mut self.ids, event.id, slot);
-        self.count = one_more(self.count);
+        let count = self.count;
+        let slot = self.slot_at(count);
+        records::write_record(self.slots, slot as usize, event);
+        order::insert(self.order, count, place, order::entry_of(event.start, slot));
+        set_slot(self.ids, event.id, slot);
+        self.count = one_more(count);
     }
 
     // Takes the record in a place, which has the id, out.
     pub fn take_out(&mut self, place: usize, id: u32)
         ensures { self.new ≡ taken_out place id self.old }
     {
-        order::remove(&mut self.order, self.count, place);
-        set_slot(&mut self.ids, id, NO_SLOT);
+        order::remove(self.order, self.count, place);
+        set_slot(self.ids, id, NO_SLOT);
         self.count = self.count.saturating_sub(1);
     }
 
@@ -104,10 +123,10 @@ impl Index {
     pub fn re_place(&mut self, from: usize, to: usize, id: u32, event: Record)
         ensures { self.new ≡ added to event (taken_out from id self.old) }
     {
-        let slot = order::move_entry(&mut self.order, self.count, from, to, event.start);
-        records::write_record(&mut self.slots, slot as usize, event);
-        set_slot(&mut self.ids, id, NO_SLOT);
-        set_slot(&mut self.ids, event.id, slot);
+        let slot = order::move_entry(self.order, self.count, from, to, event.start);
+        records::write_record(self.slots, slot as usize, event);
+        set_slot(self.ids, id, NO_SLOT);
+        set_slot(self.ids, event.id, slot);
         self.count = one_more(self.count.saturating_sub(1));
     }
 
@@ -115,7 +134,7 @@ impl Index {
     pub fn load(&mut self, list: &[u32], count: usize)
         ensures { self.new ≡ loaded list.now count (emptied self.old) }
     {
-        order::number_slots(&mut self.order);
+        order::number_slots(self.order);
         self.count = 0;
         for i in 0..count {
             self.add(i, records::record_at(list, i));
@@ -127,8 +146,8 @@ impl Index {
         ensures { list.new ≡ stored list.old self.now self.now.count }
     {
         for i in 0..self.count {
-            let slot = order::slot_at(&self.order, i);
-            records::write_record(list, i, records::record_at(&self.slots, slot as usize));
+            let slot = self.slot_at(i);
+            records::write_record(list, i, records::record_at(self.slots, slot as usize));
         }
     }
 }

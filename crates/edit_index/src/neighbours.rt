@@ -24,7 +24,7 @@ fn overlap(one: Record, other: Record) -> bool
 
 // Whether an event overlaps record i of the others, which are the records of the index but that in place `own`; if
 // there is no record i, it does not.
-fn overlaps_at(index: &Index, own: usize, i: usize, event: Record) -> bool
+fn overlaps_at(index: &Index<'_>, own: usize, i: usize, event: Record) -> bool
     ensures { result ≡ overlaps_at event index.now own i }
 {
     if index.count <= i {
@@ -34,13 +34,13 @@ fn overlaps_at(index: &Index, own: usize, i: usize, event: Record) -> bool
     if index.count <= at {
         return false;
     }
-    let slot = order::slot_at(&index.order, at);
-    overlap(event, records::record_at(&index.slots, slot as usize))
+    let slot = order::slot_at(index.order, at);
+    overlap(event, records::record_at(index.slots, slot as usize))
 }
 
 // Whether it overlaps the one before place `place` of the others, or the one behind it. With the count for `own` no
 // record is left out.
-pub fn overlaps_neighbour(index: &Index, own: usize, place: usize, event: Record) -> bool
+pub fn overlaps_neighbour(index: &Index<'_>, own: usize, place: usize, event: Record) -> bool
     ensures { result ≡ overlaps_neighbour event index.now own place }
 {
     if place == 0 {

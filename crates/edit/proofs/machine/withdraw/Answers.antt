@@ -31,4 +31,4 @@ returns c = λ sizes pools.
     withdraw_present sizes pools _ _ c.requires c.args.at _ some.0 _ some.1 _
     (c.place_of-found.ensures
     ∙ ap (λ (es : List ℕ). placing c.in-Some.event.start (starts_in es)) c.entries.ensures)
-    _ c.take_out.ensures _ c.write_record.ensures
+    _ c.take_out.ensures _ (rw c.count.ensures at c.write_record.ensures)

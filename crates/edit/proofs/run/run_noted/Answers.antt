@@ -13,7 +13,7 @@ use Rattle.edit_scan.specs.Commands.{commands_at}
 use Rattle.edit_scan.specs.Places.{LivePlaces}
 use Rattle.edit_scan.proofs.LiveLaws.{live_marked_holds}
 use Rattle.edit_index.specs.Index.{Holds, emptied}
-use Rattle.edit_index.specs.declared.index.Index.{Index}
+use Rattle.edit_index.specs.Index.{Index}
 use Rattle.edit_index.proofs.LoadLaws.{holds_none, stored_is}
 use Rattle.edit.specs.Run.{run_part}
 use Rattle.edit.proofs.SoundLaws.{made_holds, made_fits, made_stands}
@@ -64,9 +64,10 @@ returns c =
     (live_marked_holds a.noted.now a.undos a.k cs c.requires.5 size c.requires.4) in
     let ran = c.run_indexed-ran.ensures in
     let end = c.run_indexed-ran.new in
-    ap (λ (list : EventList). run_part sizes a.pools.now list a.undos a.k a.at a.script.now)
+    rw c.count.ensures
+    (ap (λ (list : EventList). run_part sizes a.pools.now list a.undos a.k a.at a.script.now)
     (sym (made_stands sizes a.pools.now list a.count.now (caller_few a.caller) c.requires.0 (emptied begun) none refl
     c.load.new.self c.load.ensures))
     ∙ ran.0 a.undos lives
     ∙ ap (outcome_of c.run_indexed-ran.result end.index.count)
-    (sym (c.store.ensures ∙ stored_is end.list end.index ran.1 ran.2))
+    (sym (c.store.ensures ∙ stored_is end.list end.index ran.1 ran.2)))
