@@ -9,25 +9,24 @@ ghost use Rattle.read.specs.ReadOutcome.{read_outcome};
 
 use eit::Caller;
 use list_records::records::RECORD_SIZE;
-use read_answer::{ReadAnswer, ReadResult};
+use read_answer::{FileRead, ReadError};
 
 mod fill;
 
 // 01's Read: answer, identity, count and every number of the record buffer are those of the definition.
-#[tactic(auto, using(crate::proofs::AnswerLaws::read_stops))]
-pub fn read(caller: Caller, file: &[u8], base_day: u32, records: &mut [u32]) -> ReadResult
+pub fn read(
+    caller: Caller,
+    file: &[u8],
+    base_day: u32,
+    records: &mut [u32],
+) -> Result<FileRead, ReadError>
     ensures { read (sizes_of caller) base_day file.now records.old
         ≡ read_outcome result records.new }
 {
-    let checked = read_check::check(caller, file, base_day);
-    let answer = checked.answer;
-    if read_answer::number_of(answer) != 0 {
-        return checked;
-    }
-    let count = read_answer::count_of(answer);
-    if records.len() / RECORD_SIZE < count {
-        return read_answer::refused(ReadAnswer::RecordsShort(count));
+    let accepted = read_check::check(caller, file, base_day)?;
+    if records.len() / RECORD_SIZE < accepted.count {
+        return Err(ReadError::RecordsShort(accepted.count));
     }
     fill::fill_file(records, file, base_day);
-    checked
+    Ok(accepted)
 }

@@ -1,37 +1,31 @@
 -- `read` meets its contract: check decides, then the length of the record buffer. Assumes nothing.
-use mathlib.Core.Path.{sym, ap, ◌∙◌}
-use native.Mathlib.Omega.{arith}
+use Rattle.std.proofs.lemmas.Result.{err_from_is_err_and}
 use Rattle.eit.specs.Sizes.{sizes_of}
 use Rattle.eit.proofs.Numbers.{caller_most}
 use Rattle.eit.proofs.Fields.{bytes_all}
-use Rattle.read_answer.specs.declared.ReadResult.{ReadResult}
-use Rattle.read.specs.ReadOutcome.{read_outcome}
 use Rattle.read.proofs.FillableLaws.{accepted_fills, accepted_below}
-use Rattle.read.proofs.AnswerLaws.{accepted, read_27, records_fit, read_fills}
+use Rattle.read.proofs.AnswerLaws.{read_stops, accepted_0, read_27, records_fit, read_fills}
 use Rattle.read.proofs.read.Goals as goal
 
-pub returns-then-records-count : goal.returns-then-records-count
-returns-then-records-count c =
-    read_27 _ _ _ _ c.check-checked.result c.check-checked.ensures c.number_of.ensures (omega arith)
-    c.count_of-count.ensures c.if-records-count.true
-    ∙ sym (ap (λ (r : ReadResult). read_outcome r c.args.records.now) c.refused.ensures)
+pub returns-in_err-accepted : goal.returns-in_err-accepted
+returns-in_err-accepted c =
+    let exit = err_from_is_err_and c.from_residual.result c.from_residual.ensures.1 in
+    rw (exit.1, exit.2) (read_stops _ _ _ c.args.records.now c.in_err-accepted.field-0.0 c.in_err-accepted.ensures)
+
+pub returns-then-records-accepted : goal.returns-then-records-accepted
+returns-then-records-accepted c = read_27 _ _ _ _ c.in_ok-accepted.ensures c.if-records-accepted.true
 
 pub fill_file-requires : goal.fill_file-requires
 fill_file-requires c =
     let sizes = sizes_of c.args.caller in
     let base = c.args.base_day in
     let file = c.args.file.now in
-    let zero =
-    accepted sizes base file c.args.records.now c.check-checked.result c.check-checked.ensures
-    c.number_of.ensures (omega arith) c.count_of-count.ensures in
+    let accepted = accepted_0 sizes base file c.args.records.now c.in_ok-accepted.ensures in
     let bytes = bytes_all file (λ k. (c.type_inv.file k).fits) in (
-      accepted_fills sizes base file bytes zero,
-      records_fit sizes base file c.args.records.now c.check-checked.result c.check-checked.ensures
-          c.number_of.ensures (omega arith) c.count_of-count.ensures c.if-records-count.false,
-      accepted_below sizes base file bytes zero (caller_most c.args.caller),
+      accepted_fills sizes base file bytes accepted,
+      records_fit sizes base file c.args.records.now c.in_ok-accepted.ensures c.if-records-accepted.false,
+      accepted_below sizes base file bytes accepted (caller_most c.args.caller),
     )
 
 pub returns : goal.returns
-returns c =
-    read_fills _ _ _ _ c.check-checked.result c.check-checked.ensures c.number_of.ensures (omega arith)
-    c.count_of-count.ensures c.if-records-count.false c.fill_file.ensures
+returns c = read_fills _ _ _ _ c.in_ok-accepted.ensures c.if-records-accepted.false c.fill_file.ensures
