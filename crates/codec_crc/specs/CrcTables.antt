@@ -1,6 +1,6 @@
 -- CRC_32 by eight tables of 256 entries, eight bytes a step. Laws: proofs/TableLaws.antt, BlockLaws.antt.
 -- Assumes nothing.
-use Rattle.std.specs.Prelude.{ℕ, zero, suc, ◌+◌, ◌*◌, ◌/◌, ◌^◌, List, [], ◌∷◌, ◌++◌, map, get_or}
+use Rattle.std.specs.Prelude.{ℕ, zero, suc, ◌+◌, ◌*◌, ◌/◌, ◌%◌, ◌^◌, List, [], ◌∷◌, ◌++◌, map, length, get_or, take, drop}
 use Rattle.std.specs.Int.Bits.{bit_xor}
 use Rattle.eit.specs.Crc.{crc_bits}
 
@@ -32,3 +32,20 @@ right_crc_tables = tables_from block_size (entries_from 0 table_size)
 -- the entry that the register's high byte and a byte choose: of the table for as many bytes as come behind it
 abbrev pub chosen_entry : List ℕ → ℕ → ℕ → ℕ → ℕ
 chosen_entry tables behind r b = get_or tables (behind * table_size + bit_xor (r / 2 ^ 24) b) 0
+
+-- the register after a block, by any tables: each byte adds the entry that it chooses, and the rest of the register
+-- moves up
+unfoldable pub crc_block : List ℕ → ℕ → List ℕ → ℕ
+crc_block tables r [] = r
+crc_block tables r (b ∷ bs) = bit_xor (chosen_entry tables (length bs) r b) (crc_block tables (r * 2 ^ 8 % 2 ^ 32) bs)
+
+-- n whole blocks, and the bytes behind them
+unfoldable pub crc_blocks : ℕ → List ℕ → ℕ → List ℕ → ℕ
+unfolding crc_block
+crc_blocks zero tables r bs = crc_block tables r bs
+crc_blocks (suc n) tables r bs = crc_blocks n tables (crc_block tables r (take block_size bs)) (drop block_size bs)
+
+-- the register after the bytes
+unfoldable pub crc_by : List ℕ → ℕ → List ℕ → ℕ
+unfolding crc_blocks
+crc_by tables r bs = crc_blocks (length bs / block_size) tables r bs
