@@ -82,8 +82,9 @@ fn build_within(
     if let Some(index) = counted.lowest {
         return Err(BuildError::Unpackable(index));
     }
-    if out.len() < counted.need {
-        return Err(BuildError::OutputShort(counted.need));
+    let need = counted.need;
+    if out.len() < need {
+        return Err(BuildError::OutputShort(need));
     }
     file::write_file(
         out,
@@ -95,7 +96,7 @@ fn build_within(
         sizes,
         &counted.counts,
     );
-    Ok(counted.need)
+    Ok(need)
 }
 
 // 01's Build: number, value and every byte of the output are those of the definition.

@@ -40,15 +40,15 @@ returns-in-Some-lowest c =
     })
     c.in-Some-lowest.is
 
-pub returns-then-out-counted : goal.returns-then-out-counted
-returns-then-out-counted c =
+pub returns-then-out-need : goal.returns-then-out-need
+returns-then-out-need c =
     answer_short
     (record {
       is_counted = sym c.in-Some.is ∙ c.count_sections.ensures;
       legal_base_holds = c.if-base_day-gt-BASE_DAY_MAX.false;
       legal_versions = holds (sym c.are_versions.ensures ∙ c.if-not-are_versions.false);
     })
-    c.in_default-lowest.is c.if-out-counted.true
+    c.in_default-lowest.is c.if-out-need.true
 
 pub write_file-requires : goal.write_file-requires
 write_file-requires c =
@@ -58,7 +58,7 @@ write_file-requires c =
       legal_base_holds = c.if-base_day-gt-BASE_DAY_MAX.false;
       legal_versions = holds (sym c.are_versions.ensures ∙ c.if-not-are_versions.false);
     })
-    c.in_default-lowest.is c.if-out-counted.false
+    c.in_default-lowest.is c.if-out-need.false
 
 pub returns : goal.returns
 returns c =
@@ -68,4 +68,4 @@ returns c =
       legal_base_holds = c.if-base_day-gt-BASE_DAY_MAX.false;
       legal_versions = holds (sym c.are_versions.ensures ∙ c.if-not-are_versions.false);
     })
-    c.in_default-lowest.is c.if-out-counted.false c.write_file.ensures
+    c.in_default-lowest.is c.if-out-need.false c.write_file.ensures
