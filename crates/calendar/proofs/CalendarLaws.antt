@@ -2,15 +2,15 @@
 -- computed test of every day. Assumes nothing.
 use Prim.Native.Nat.{ℕ, zero, suc, ◌+◌, ◌-◌, ◌<◌}
 use mathlib.Core.Bool.{Bool, true, ◌&&◌}
-use mathlib.Core.Path.{◌≡◌, refl, ap, ◌∙◌}
+use mathlib.Core.Path.{◌≡◌, refl, ap}
 use native.Mathlib.Omega.{arith}
-use lib.Dec.{T, eqb, eqb→eq}
+use lib.Dec.{T, eqb}
 use Rattle.std.specs.Prelude.{Some}
-use Rattle.eit.proofs.Test.{and_left, and_right, and_parts, and_both}
-use Rattle.calendar.specs.Date.{date_within, date_of}
+use Rattle.std.proofs.lemmas.Bool.Decides.{nat_tests}
+use borrow.Author.Tests.{le-leb}
+use Rattle.calendar.specs.Date.{first_day, last_day, date_within, date_of}
 use Rattle.calendar.specs.Calendar.{next_date, Dates, FollowsOn}
 use Rattle.calendar.specs.declared.Date.{Date}
-use Rattle.calendar.proofs.DateLaws.{date_inside}
 
 pub dates : Dates
 unfolding date_of
@@ -66,15 +66,11 @@ followed_5 = tt
 
 followed_joined : (m n mjd : ℕ) → T (are_followed m mjd) → T (are_followed n (mjd + m)) → T (are_followed (m + n) mjd)
 unfolding are_followed
-followed_joined zero n mjd first second =
-    let sum : 0 + n ≡ n = omega arith in let same : mjd + 0 ≡ mjd = omega arith in rw sum (rw same at second)
+followed_joined zero n mjd first second = grind (arith, nat_tests)
 followed_joined (suc m) n mjd first second =
-    let (this, rest) = and_parts (is_followed mjd) (are_followed m (suc mjd)) first in
-    let place : mjd + suc m ≡ suc mjd + m = omega arith in
     let sum : suc m + n ≡ suc (m + n) = omega arith in
-    rw sum
-    (and_both (is_followed mjd) (are_followed (m + n) (suc mjd)) this
-    (followed_joined m n (suc mjd) rest (rw place at second)))
+    let place : mjd + suc m ≡ suc mjd + m = omega arith in
+    rw sum (grind (arith, nat_tests, followed_joined m n (suc mjd)))
 
 all_followed : T (are_followed 73_048 15_079)
 all_followed =
@@ -85,28 +81,18 @@ all_followed =
 followed_at : (n mjd k : ℕ) → T (are_followed n mjd) → k < n → T (is_followed (mjd + k))
 unfolding are_followed
 followed_at zero mjd k all less = absurd (omega arith)
-followed_at (suc n) mjd zero all less =
-    let same : mjd + 0 ≡ mjd = omega arith in rw same (and_left (is_followed mjd) (are_followed n (suc mjd)) all)
-followed_at (suc n) mjd (suc k) all less =
-    let place : mjd + suc k ≡ suc mjd + k = omega arith in
-    rw place (followed_at n (suc mjd) k (and_right (is_followed mjd) (are_followed n (suc mjd)) all) (omega arith))
+followed_at (suc n) mjd zero all less = grind (arith, nat_tests)
+followed_at (suc n) mjd (suc k) all less = grind (arith, nat_tests, followed_at n (suc mjd) k)
 
 same_date : (a b : Date) → T (is_same a b) → a ≡ b
 unfolding is_same
-same_date a b t =
-    let (years, rest) = and_parts (eqb a.year b.year) _ t in
-    let (months, days) = and_parts (eqb a.month b.month) (eqb a.day b.day) rest in
-    λ i. record {
-      year = eqb→eq a.year b.year years i;
-      month = eqb→eq a.month b.month months i;
-      day = eqb→eq a.day b.day days i;
-    }
+same_date a b t = grind (arith, nat_tests)
 
 pub follows_on : FollowsOn
-unfolding is_followed
+unfolding is_followed date_of
 follows_on mjd least less =
     let place : 15_079 + (mjd - 15_079) ≡ mjd = omega arith in
     let followed : T (is_followed mjd) =
     rw place at (followed_at 73_048 15_079 (mjd - 15_079) all_followed (omega arith)) in
-    date_inside (mjd + 1) (omega arith) (omega arith)
-    ∙ ap Some (same_date (date_within (mjd + 1)) (next_date (date_within mjd)) followed)
+    rw (le-leb first_day (mjd + 1) (omega arith), le-leb (mjd + 1) last_day (omega arith))
+    (ap Some (same_date (date_within (mjd + 1)) (next_date (date_within mjd)) followed))

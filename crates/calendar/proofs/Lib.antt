@@ -1,5 +1,3 @@
 -- Laws of this crate's definitions, and the proofs of its functions.
--- which days have a date
-pub mod DateLaws
 -- some dates, and each date after the one before
 pub mod CalendarLaws

@@ -1,5 +1,5 @@
 -- The date of a Modified Julian Date (EN 300 468, annex C): the annex's formulas in whole numbers, each decimal
--- fraction taken away by a factor. Laws: proofs/DateLaws.antt, proofs/CalendarLaws.antt. Assumes nothing.
+-- fraction taken away by a factor. Laws: proofs/CalendarLaws.antt. Assumes nothing.
 use Rattle.std.specs.Prelude.{ℕ, ◌+◌, ◌-◌, ◌*◌, ◌/◌, ◌&&◌, ◌||◌, eqb, leb, if◌then◌else◌, Option}
 use Rattle.std.specs.Bool.{then_some}
 use Rattle.calendar.specs.declared.Date.{Date}

@@ -48,7 +48,7 @@ pub fn write_event(out: &mut [u8], at: usize, base_day: u32, event: Record, chai
 fn is_status(status: u32) -> bool
     ensures { result ≡ (eqb status 0 || eqb status 5) }
 {
-    status == 0 || status == 5
+    matches!(status, 0 | 5)
 }
 
 // The event at the front of the bytes, which go on to the end of the event loop: one that keeps the rules, its segment

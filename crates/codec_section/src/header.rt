@@ -25,10 +25,7 @@ pub struct SectionHeader {
 fn length_word(size: usize) -> usize
     ensures { result ≡ length_word size % 0x1_0000 }
 {
-    if size < 3 {
-        return 0xF000;
-    }
-    (0xF000 + (size - 3) % 0x1_0000) % 0x1_0000
+    (0xF000 + size.saturating_sub(3) % 0x1_0000) % 0x1_0000
 }
 
 // The first six bytes: table_id, section_length, service_id, version.
