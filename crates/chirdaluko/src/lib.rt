@@ -130,7 +130,7 @@ pub extern "C" fn eit_edit<'a>(
     let edited = edit::edit(caller_of(caller), list, &mut held, &pools, script);
     EitEdited {
         number: refusal::number_of(edited),
-        value: refusal::value_of(edited.map(|()| held)),
+        value: edit_answer::value_of(edited, held),
         count: held,
     }
 }

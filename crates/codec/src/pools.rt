@@ -8,6 +8,7 @@ use eit::Record;
 use std::marker::Model;
 
 // 01's term: pool. Descriptor bytes lie in one of two lent pools.
+#[derive(Drop)]
 pub struct Pools<'a> {
     pub day: &'a [u8],
     pub series: &'a [u8],
