@@ -6,69 +6,58 @@ ghost use Rattle.eit.specs.Events.{events_in};
 ghost use Rattle.sections.specs.Section.{section_sizes};
 ghost use Rattle.sections.specs.Encode.{file_bytes};
 ghost use Rattle.codec_section.specs.HeaderRead.{held_header};
-ghost use Rattle.build_counts.specs.Between.{events_between};
 ghost use Rattle.schedule.specs.SectionsOf.{sections_of};
 ghost use Rattle.build.specs.Sections.{first_header, sections_from};
 ghost use Rattle.build.specs.Rows.{IsRow, row_last};
+ghost use Rattle.build.specs.Held.{held};
 ghost use Rattle.build.specs.Writing.{Writable};
 
-use crate::section;
+use crate::section::Writer;
 use build_counts::{count, cut, segment};
-use codec::pools::Pools;
-use codec_crc::CrcTables;
 use codec_section::header::SectionHeader;
 use codec_section::segment::{first_section, table_of};
 use eit::limits::{SECTION_OVERHEAD, TABLE_SEGMENTS};
 use eit::{Identity, Sizes};
 
-// The sections of a segment, as many as `sections` says, with the events from `from` to `end`: each takes as many of
-// the next events as fit, and is numbered from the first header's section_number on. Returns the offset behind them.
-fn write_segment(
-    out: &mut [u8],
-    at: usize,
-    first: SectionHeader,
-    sections: u8,
-    base_day: u32,
-    list: &[u32],
-    from: usize,
-    end: usize,
-    pools: &Pools<'_>,
-    room: u16,
-    crc_tables: &CrcTables,
-) -> usize
-    requires { (at
-        + section_sizes
-        (sections_from room (held_header first) sections
-        (events_between pools.now list.now from end))
-        ≤ length out.old)
-        × (first.section_number + sections ≤ 256) }
-    ensures { (out.new
-        ≡ overwrite out.old at
-        (file_bytes base_day
-        (sections_from room (held_header first) sections
-        (events_between pools.now list.now from end))))
-        × (result
-        ≡ at
-        + section_sizes
-        (sections_from room (held_header first) sections
-        (events_between pools.now list.now from end))) }
-{
-    let mut offset = at;
-    let mut next = from;
-    for k in 0..sections {
-        let header = SectionHeader {
-            section_number: first.section_number + k,
-            ..first
-        };
-        let taken = cut::next_cut(list, next, end, pools, room as usize);
-        let size = SECTION_OVERHEAD + taken.bytes;
-        section::write_section(
-            out, offset, size, header, base_day, list, next, taken.to, pools, crc_tables,
-        );
-        offset += size;
-        next = taken.to;
+impl<'a> Writer<'a> {
+    // The sections of a segment, as many as `sections` says, with the events from `from` to `end`: each takes as many
+    // of the next events as fit, and is numbered from the first header's section_number on. Returns the offset behind
+    // them.
+    fn write_segment(
+        &self,
+        out: &mut [u8],
+        at: usize,
+        first: SectionHeader,
+        sections: u8,
+        from: usize,
+        end: usize,
+        room: u16,
+    ) -> usize
+        requires { (at + section_sizes (sections_from room (held_header first) sections (held self.now from end))
+            ≤ length out.old)
+            × (first.section_number + sections ≤ 256) }
+        ensures { (out.new
+            ≡ overwrite out.old at
+            (file_bytes self.now.base_day
+            (sections_from room (held_header first) sections (held self.now from end))))
+            × (result
+            ≡ at + section_sizes (sections_from room (held_header first) sections (held self.now from end))) }
+    {
+        let mut offset = at;
+        let mut next = from;
+        for k in 0..sections {
+            let header = SectionHeader {
+                section_number: first.section_number + k,
+                ..first
+            };
+            let taken = cut::next_cut(self.list, next, end, self.pools, room as usize);
+            let size = SECTION_OVERHEAD + taken.bytes;
+            self.write_section(out, offset, size, header, next, taken.to);
+            offset += size;
+            next = taken.to;
+        }
+        offset
     }
-    offset
 }
 
 // last_section_number of the table with these section counts: that of the last section of its last segment that has
@@ -84,6 +73,7 @@ fn last_section(counts: &[u8]) -> u8
             return first_section(segment) as u8 + (sections - 1);
         }
     }
+    // Not reached: such a table's first segment has sections.
     0
 }
 
@@ -110,53 +100,39 @@ fn first_header(
     }
 }
 
-// The whole file, by the sections counted in each segment.
-pub fn write_file(
-    out: &mut [u8],
-    base_day: u32,
-    identity: Identity,
-    list: &[u32],
-    count: usize,
-    pools: &Pools<'_>,
-    sizes: Sizes,
-    counts: &[u8],
-)
-    requires { Writable sizes identity (events_in pools.now (records_in count list.now))
-        counts.now out.old }
-    ensures { out.new
-        ≡ overwrite out.old 0
-        (file_bytes base_day
-        (sections_of sizes identity
-        (events_in pools.now (records_in count list.now)))) }
-{
-    let crc_tables = CrcTables::new();
-    let last_table_id = table_of(segment::last_index(list, count)) as u8;
-    let room = count::room_of(sizes);
-    let mut last: u8 = 0;
-    let mut at = 0;
-    let mut from = 0;
-    for (index, sections) in counts.iter().enumerate() {
-        let sections = *sections;
-        if 0 < sections {
-            if index % TABLE_SEGMENTS == 0 {
-                last = last_section(&counts[index..]);
+impl<'a> Writer<'a> {
+    // The whole file, by the sections counted in each segment.
+    pub fn write_file(
+        &self,
+        out: &mut [u8],
+        identity: Identity,
+        count: usize,
+        sizes: Sizes,
+        counts: &[u8],
+    )
+        requires { Writable sizes identity (events_in self.now.pools.now (records_in count self.now.list.now)) counts.now
+            out.old }
+        ensures { out.new
+            ≡ overwrite out.old 0
+            (file_bytes self.now.base_day
+            (sections_of sizes identity (events_in self.now.pools.now (records_in count self.now.list.now)))) }
+    {
+        let last_table_id = table_of(segment::last_index(self.list, count)) as u8;
+        let room = count::room_of(sizes);
+        let mut last: u8 = 0;
+        let mut at = 0;
+        let mut from = 0;
+        for (index, sections) in counts.iter().enumerate() {
+            let sections = *sections;
+            if 0 < sections {
+                if index % TABLE_SEGMENTS == 0 {
+                    last = last_section(&counts[index..]);
+                }
+                let end = segment::end_of(self.list, from, count, index);
+                let header = first_header(index, sections, last, last_table_id, identity);
+                at = self.write_segment(out, at, header, sections, from, end, room);
+                from = end;
             }
-            let end = segment::end_of(list, from, count, index);
-            let header = first_header(index, sections, last, last_table_id, identity);
-            at = write_segment(
-                out,
-                at,
-                header,
-                sections,
-                base_day,
-                list,
-                from,
-                end,
-                pools,
-                room,
-                &crc_tables,
-            );
-            from = end;
         }
     }
 }

@@ -8,9 +8,11 @@ ghost use Rattle.schedule.specs.Plan.{plan};
 ghost use Rattle.schedule.specs.Build.{are_versions, build};
 ghost use Rattle.build_answer.specs.Outcome.{outcome_of};
 
+use crate::section::Writer;
 use build_answer::BuildError;
 use build_counts::count;
 use codec::pools::Pools;
+use codec_crc::CrcTables;
 use eit::limits::{BASE_DAY_MAX, TABLE_SEGMENTS, TABLES, VERSION_MAX};
 use eit::{Caller, Identity, Sizes};
 
@@ -86,16 +88,13 @@ fn build_within(
     if out.len() < need {
         return Err(BuildError::OutputShort(need));
     }
-    file::write_file(
-        out,
+    let writer = Writer {
         base_day,
-        identity,
         list,
-        count,
         pools,
-        sizes,
-        &counted.counts,
-    );
+        crc_tables: &CrcTables::new(),
+    };
+    writer.write_file(out, identity, count, sizes, &counted.counts);
     Ok(need)
 }
 

@@ -4,7 +4,7 @@ ghost use Rattle.std.specs.Prelude.{◌≡◌, ◌+◌, ◌≤◌, length};
 ghost use Rattle.eit.specs.Overwrite.{overwrite};
 ghost use Rattle.sections.specs.Section.{event_sizes};
 ghost use Rattle.sections.specs.Encode.{event_loop_bytes, section_bytes};
-ghost use Rattle.build_counts.specs.Between.{events_between};
+ghost use Rattle.build.specs.Held.{held};
 ghost use Rattle.build.specs.Sections.{section_of, section_size_of};
 
 use codec::fields;
@@ -15,58 +15,49 @@ use codec_section::{event, header};
 use eit::limits::{CRC_SIZE, EVENT_OVERHEAD, HEADER_SIZE};
 use list_records::records;
 
-// The events from `from` to `to`, written from `at` on. Returns the offset behind them.
-fn write_events(
-    out: &mut [u8],
-    at: usize,
-    base_day: u32,
-    list: &[u32],
-    from: usize,
-    to: usize,
-    pools: &Pools<'_>,
-) -> usize
-    requires { at + event_sizes (events_between pools.now list.now from to) ≤ length
-        out.old }
-    ensures { out.new
-        ≡ overwrite out.old at
-        (event_loop_bytes base_day
-        (events_between pools.now list.now from to))
-        × (result ≡ at + event_sizes
-        (events_between pools.now list.now from to)) }
-{
-    let mut offset = at;
-    for i in from..to {
-        let r = records::record_at(list, i);
-        let chain = pools.choose(r.marks, r.offset, r.chain_length);
-        event::write_event(out, offset, base_day, r, chain);
-        offset += EVENT_OVERHEAD + chain.len();
-    }
-    offset
+// What every section of a file is written from.
+#[derive(Drop)]
+pub struct Writer<'a> {
+    pub base_day: u32,
+    pub list: &'a [u32],
+    pub pools: &'a Pools<'a>,
+    pub crc_tables: &'a CrcTables,
 }
 
-// The section of `size` bytes with the events from `from` to `to`, written from `at` on.
-pub fn write_section(
-    out: &mut [u8],
-    at: usize,
-    size: usize,
-    header: SectionHeader,
-    base_day: u32,
-    list: &[u32],
-    from: usize,
-    to: usize,
-    pools: &Pools<'_>,
-    crc_tables: &CrcTables,
-)
-    requires { (size ≡ section_size_of (events_between pools.now list.now from to))
-        × (at + size ≤ length out.old) }
-    ensures { out.new
-        ≡ overwrite out.old at
-        (section_bytes base_day
-        (section_of header
-        (events_between pools.now list.now from to))) }
-{
-    header::write_header(out, at, size, header);
-    let end = write_events(out, at + HEADER_SIZE, base_day, list, from, to, pools);
-    let crc = crc_tables.crc32(&out[at..end]);
-    fields::write_field(out, end, CRC_SIZE, crc as usize);
+impl<'a> Writer<'a> {
+    // The events from `from` to `to`, written from `at` on. Returns the offset behind them.
+    fn write_events(&self, out: &mut [u8], at: usize, from: usize, to: usize) -> usize
+        requires { at + event_sizes (held self.now from to) ≤ length out.old }
+        ensures { out.new ≡ overwrite out.old at (event_loop_bytes self.now.base_day (held self.now from to))
+            × (result ≡ at + event_sizes (held self.now from to)) }
+    {
+        let mut offset = at;
+        for i in from..to {
+            let r = records::record_at(self.list, i);
+            let chain = self.pools.choose(r.marks, r.offset, r.chain_length);
+            event::write_event(out, offset, self.base_day, r, chain);
+            offset += EVENT_OVERHEAD + chain.len();
+        }
+        offset
+    }
+
+    // The section of `size` bytes with the events from `from` to `to`, written from `at` on.
+    pub fn write_section(
+        &self,
+        out: &mut [u8],
+        at: usize,
+        size: usize,
+        header: SectionHeader,
+        from: usize,
+        to: usize,
+    )
+        requires { (size ≡ section_size_of (held self.now from to)) × (at + size ≤ length out.old) }
+        ensures { out.new
+            ≡ overwrite out.old at (section_bytes self.now.base_day (section_of header (held self.now from to))) }
+    {
+        header::write_header(out, at, size, header);
+        let end = self.write_events(out, at + HEADER_SIZE, from, to);
+        let crc = self.crc_tables.crc32(&out[at..end]);
+        fields::write_field(out, end, CRC_SIZE, crc as usize);
+    }
 }

@@ -1,10 +1,10 @@
--- `build::section::write_events` meets its contract: a turn writes the event of record i (`next_written`). Assumes
+-- `Writer::write_events` meets its contract: a turn writes the event of record i (`next_written`). Assumes
 -- nothing.
 use Rattle.std.proofs.Common.{arith}
 use Rattle.sections.proofs.Lengths.{loop_length}
-use Rattle.build_counts.specs.Between.{events_between}
+use Rattle.build.specs.Held.{held}
 use Rattle.build.proofs.SectionLaws.{events_start, next_fits, next_written, events_written}
-use Rattle.build.proofs.section.write_events.Goals as goal
+use Rattle.build.proofs.section.Writer.write_events.Goals as goal
 
 pub loop-i-init : goal.loop-i-init
 loop-i-init c = events_start c.requires
@@ -21,6 +21,6 @@ loop-i-preserved c =
 pub returns : goal.returns
 returns c =
     let a = c.args in
-    let all = events_between a.pools.now a.list.now a.from a.to in
+    let all = held a.self.now a.from a.to in
     let (written, ends) = events_written c.loop-i.invariant (omega arith) in
-    (written, omega (arith, ends, loop_length a.base_day all))
+    (written, omega (arith, ends, loop_length a.self.now.base_day all))

@@ -1,4 +1,4 @@
--- `write_file` meets its contract: a segment with sections adds its part, and one without adds nothing. Assumes
+-- `Writer::write_file` meets its contract: a segment with sections adds its part, and one without adds nothing. Assumes
 -- nothing.
 use Rattle.std.proofs.Common.{◌≡◌, ◌/◌, arith}
 use mathlib.Core.Path.{sym, ap, subst, ◌∙◌}
@@ -12,13 +12,13 @@ use Rattle.build.specs.Rows.{IsRow, row_last}
 use Rattle.build.proofs.CountsLaws.{counts_length, within, count_few, row_is, row_last_holds}
 use Rattle.build.proofs.FileLaws.{file_same, table_small, file_start, file_end, file_skip, last_later}
 use Rattle.build.proofs.FileLaws.{part_fits, file_more}
-use Rattle.build.proofs.file.write_file.Goals as goal
-use Rattle.build.proofs.file.write_file.Goals.{then-sections-gt0, else-sections-gt0, then-index-eq0, else-index-eq0}
+use Rattle.build.proofs.section.Writer.write_file.Goals as goal
+use Rattle.build.proofs.section.Writer.write_file.Goals.{then-sections-gt0, else-sections-gt0, then-index-eq0, else-index-eq0}
 
 -- last_table_id
 pub overflow_cast-last_table_id : goal.overflow_cast-last_table_id
 overflow_cast-last_table_id c =
-    let pools = c.args.pools.now in
+    let pools = c.args.self.now.pools.now in
     omega (
       arith,
       table_small pools _ _ c.requires,
@@ -26,7 +26,7 @@ overflow_cast-last_table_id c =
     )
 
 pub loop-index-init : goal.loop-index-init
-loop-index-init c = file_start c.args.pools.now _ _ c.requires _ _
+loop-index-init c = file_start c.args.self.now.pools.now _ _ c.requires _ _
 
 pub last_section-last-requires : goal.last_section-last-requires
 last_section-last-requires c =
@@ -42,12 +42,12 @@ first_header-header-requires c =
 pub write_segment-at-requires : goal.write_segment-at-requires
 write_segment-at-requires c =
     let a = c.args in
-    let pools : Pools = a.pools.now in
+    let pools : Pools = a.self.now.pools.now in
     let turn = c.loop-index in
     let few = within c.requires c.loop-index-test.true in
     let some = c.if-sections-gt0.true in
     let made = c.first_header-header in
-    let last : c.if-index-eq0.last ≡ table_last a.sizes (held_events pools a.list.now a.count) (turn.index / 32) =
+    let last : c.if-index-eq0.last ≡ table_last a.sizes (held_events pools a.self.now.list.now a.count) (turn.index / 32) =
     elim c.if-index-eq0.branch [
       | then-index-eq0 w ↦
           w.last-is
@@ -69,14 +69,14 @@ write_segment-at-requires c =
 pub loop-index-preserved : goal.loop-index-preserved
 loop-index-preserved c =
     let a = c.args in
-    let pools : Pools = a.pools.now in
+    let pools : Pools = a.self.now.pools.now in
     let turn = c.loop-index in
     let few = within c.requires c.loop-index-test.true in
     let id = c.table_of-last_table_id.ensures ∙ ap table_of (c.last_index.ensures pools) in
     elim c.if-sections-gt0.branch [
       | then-sections-gt0 w ↦
           let some = w.if-sections-gt0.true in
-          let last : w.if-index-eq0.last ≡ table_last a.sizes (held_events pools a.list.now a.count) (turn.index / 32) =
+          let last : w.if-index-eq0.last ≡ table_last a.sizes (held_events pools a.self.now.list.now a.count) (turn.index / 32) =
           elim w.if-index-eq0.branch [
             | then-index-eq0 v ↦
                 v.last-is
@@ -96,4 +96,4 @@ loop-index-preserved c =
 
 pub returns : goal.returns
 returns c =
-    file_end c.args.pools.now _ _ c.requires c.loop-index.invariant (omega (arith, counts_length c.requires))
+    file_end c.args.self.now.pools.now _ _ c.requires c.loop-index.invariant (omega (arith, counts_length c.requires))

@@ -1,8 +1,8 @@
--- `write_segment` meets its contract: a turn writes the next section, with as many of the next events as fit
+-- `Writer::write_segment` meets its contract: a turn writes the next section, with as many of the next events as fit
 -- (`segment_more`). Assumes nothing.
 use Rattle.std.proofs.Common.{arith}
 use Rattle.build.proofs.SectionsLaws.{segment_start, segment_end, segment_size, segment_fits, segment_more}
-use Rattle.build.proofs.file.write_segment.Goals as goal
+use Rattle.build.proofs.section.Writer.write_segment.Goals as goal
 
 pub loop-k-init : goal.loop-k-init
 loop-k-init c = segment_start c.requires.0

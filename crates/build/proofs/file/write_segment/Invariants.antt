@@ -1,8 +1,0 @@
--- `write_segment`: after k turns k sections are written, and the events from `next` on are left for the others.
-use Rattle.build.proofs.SectionsLaws.{SegmentSoFar}
-use Rattle.build.proofs.file.write_segment.Given as goal
-
-abbrev pub invariant-loop-k : goal.invariant-loop-k
-invariant-loop-k l =
-    SegmentSoFar l.pools l.list l.room l.first l.sections l.end l.base_day l.fn.out l.at l.from l.out l.offset l.next
-    l.k
