@@ -22,12 +22,12 @@ fn at_end(state: WalkState, versions: [u8; TABLES], size: usize) -> Result<FileR
     ensures { (p : Progress) (offset : ℕ) (words : List ℕ) → Tracks offset state versions words p
         → at_end size (passed p) ≡ outcome_of result }
 {
-    let Some(last) = state.before else {
-        return Err(ReadError::EarlyEnd(size));
-    };
-    if last.section_number != last.last_section_number || last.table_id != last.last_table_id {
-        return Err(ReadError::EarlyEnd(size));
-    }
+    let last = state
+        .before
+        .filter(|last| {
+            last.section_number == last.last_section_number && last.table_id == last.last_table_id
+        })
+        .ok_or(ReadError::EarlyEnd(size))?;
     let triplet = last.triplet;
     let identity = Identity { triplet, versions };
     Ok(FileRead {
