@@ -1,5 +1,5 @@
 // Starts and durations as bytes, and back (01, "The file of sections": MJD and BCD digits). Every public function is
-// total: a read says where bytes are truncated or broken, and a write that does not fit leaves all as it was.
+// total: a read is `None` where bytes are truncated or broken, and a write that does not fit leaves all as it was.
 #![tactic(auto)]
 
 ghost use Rattle.std.specs.Prelude.{◌≡◌, ◌&&◌, ◌+◌, ◌*◌, ◌<◌};
