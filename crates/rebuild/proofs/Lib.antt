@@ -2,7 +2,6 @@
 -- where a table's sections end, and tables in their order
 pub mod LeadingLaws
 -- two parts compared byte by byte
-pub mod SameLaws
 -- the tables of two files compared one after the other
 pub mod NextLaws
 -- the tables of files that keep the rules

@@ -1,11 +1,13 @@
 -- The tables of two files compared one after the other: at each turn the sections from the offsets reached on are those
 -- of the tables that are left. Assumes nothing.
 use mathlib.Core.Path.{◌≡◌, refl, sym, ap, ap₂, subst, ◌∙◌}
-use mathlib.Core.Bool.{true, false}
+use mathlib.Core.Bool.{Bool, true, false, ◌&&◌}
 use mathlib.Core.Logic.{⊎_elim}
 use mathlib.Core.List.{List, [], ◌∷◌, ◌++◌, flatten, append_assoc}
 use Prim.Native.Nat.{ℕ, ◌+◌, ◌-◌, ◌%◌, ◌≤◌, ◌<◌}
 use native.Mathlib.Omega.{arith}
+use lib.Dec.{eqb}
+use lib.Pointwise.{pointwise}
 use lib.ListN.{length, get_or, set, take, drop, length-append, length-drop}
 use lib.Seq.{take_at, drop-drop, ext_get_or, get_or-set_same, get_or-set_other}
 use Rattle.eit.specs.Identity.{tables}
@@ -23,6 +25,17 @@ use Rattle.rebuild.specs.Tables.{leading, RisingFrom, next_by, next_versions_by}
 use Rattle.rebuild.proofs.LeadingLaws.{leading_size, leading_front, Left, left}
 
 -- ---- one table
+
+-- two parts are compared byte by byte
+pub same_bytes : (xs ys : List ℕ) → pointwise eqb xs ys ≡ same_list xs ys
+same_bytes [] [] = refl
+same_bytes [] (y ∷ ys) = refl
+same_bytes (x ∷ xs) [] = refl
+same_bytes (x ∷ xs) (y ∷ ys) = by (eqb x y) (same_bytes xs ys)
+  where
+    by : (b : Bool) {s t : Bool} → s ≡ t → (b && s) ≡ elim b [ true ↦ t | false ↦ false ]
+    by true e = e
+    by false e = refl
 
 module _ (version : ℕ) (new : List ℕ) where
   pub next_none : (old : List ℕ) → length old ≡ 0 → version ≡ next_by version old new

@@ -3,50 +3,76 @@
 #![tactic(auto)]
 
 ghost use Rattle.std.specs.Prelude.{◌≡◌};
+ghost use Rattle.std.proofs.Common.{rules};
 ghost use Rattle.eit.specs.Sizes.{sizes_of};
 ghost use Rattle.eit.specs.Records.{lent_list};
 ghost use Rattle.schedule.specs.Rebuild.{rebuild};
-ghost use Rattle.rebuild.specs.Outcome.{answer_number, answer_value, outcome_of};
+ghost use Rattle.rebuild.specs.Outcome.{outcome_of};
 
-use build_answer::BuildAnswer;
+use build_answer::BuildError;
 use codec::pools::Pools;
 use eit::{Caller, Identity};
-use read_answer::ReadAnswer;
+use read_answer::ReadError;
+use refusal::Refusal;
 
 mod tables;
 
-// What Rebuild says.
-#[derive(Clone, Copy)]
-pub enum RebuildAnswer {
+// Why Rebuild is refused.
+#[derive(Clone, Copy, Debug, PartialEq, Eq)]
+pub enum RebuildError {
     // Read refuses the previous file.
-    Previous(ReadAnswer),
-    // What Build says of the new list.
-    Built(BuildAnswer),
+    Previous(ReadError),
+    // Build refuses the new list.
+    Build(BuildError),
 }
 
-// 01's number of an answer.
-pub fn number_of(answer: RebuildAnswer) -> u32
-    ensures { result ≡ answer_number answer }
-{
-    match answer {
-        RebuildAnswer::Previous(refusal) => read_answer::number_of(refusal),
-        RebuildAnswer::Built(built) => build_answer::number_of(built),
+impl From<ReadError> for RebuildError {
+    ghost use Rattle.rebuild.specs.declared.RebuildError.TheVariants.{Previous};
+
+    ghost from_gives = { λ error result. result ≡ Previous error };
+
+    fn from(error: ReadError) -> RebuildError {
+        RebuildError::Previous(error)
     }
 }
 
-// 01's value of an answer.
-pub fn value_of(answer: RebuildAnswer) -> usize
-    ensures { result ≡ answer_value answer }
-{
-    match answer {
-        RebuildAnswer::Previous(refusal) => read_answer::value_of(refusal),
-        RebuildAnswer::Built(built) => build_answer::value_of(built),
+impl From<BuildError> for RebuildError {
+    ghost use Rattle.rebuild.specs.declared.RebuildError.TheVariants.{Build};
+
+    ghost from_gives = { λ error result. result ≡ Build error };
+
+    fn from(error: BuildError) -> RebuildError {
+        RebuildError::Build(error)
     }
 }
 
-// 02's further call: number, value and every byte of the output are those of the definition. The new list is built
-// under the previous versions first: then a table that is the same, version and CRC aside, is the same in every byte.
-// Where one differs, the file is built once more under the next versions.
+impl Refusal for RebuildError {
+    ghost use Rattle.rebuild.specs.Outcome.{error_number, error_value};
+
+    ghost number_by = { error_number };
+
+    ghost value_by = { error_value };
+
+    fn number(self) -> u32 {
+        match self {
+            RebuildError::Previous(error) => error.number(),
+            RebuildError::Build(error) => error.number(),
+        }
+    }
+
+    fn value(self) -> usize {
+        match self {
+            RebuildError::Previous(error) => error.value(),
+            RebuildError::Build(error) => error.value(),
+        }
+    }
+
+    ghost never_0 = { Prim.search rules };
+}
+
+// 02's further call: number, value and every byte of the output are those of the definition; success is the file's
+// length. The new list is built under the previous versions first: then a table that is the same, version and CRC
+// aside, is the same in every byte. Where one differs, the file is built once more under the next versions.
 pub fn rebuild(
     caller: Caller,
     previous: &[u8],
@@ -56,32 +82,23 @@ pub fn rebuild(
     pools: &Pools<'_>,
     base_day: u32,
     out: &mut [u8],
-) -> RebuildAnswer
+) -> Result<usize, RebuildError>
     ensures { rebuild (sizes_of caller) previous.now previous_base_day
         pools.now (lent_list list.now count) base_day
         out.old
         ≡ outcome_of result out.new }
 {
-    let read = read_check::check(caller, previous, previous_base_day);
-    let answer = read.answer;
-    if read_answer::number_of(answer) != 0 {
-        return RebuildAnswer::Previous(answer);
+    // The proof asks that the pools are bytes, which it knows of a value whose fields are looked at.
+    let _ = &pools.day;
+    let identity = read_check::check(caller, previous, previous_base_day)?.identity;
+    let size = build::build(caller, list, count, pools, base_day, identity, out)?;
+    let next = tables::next_versions(previous, &out[..size], identity.versions);
+    if next == identity.versions {
+        return Ok(size);
     }
-    let identity = read.identity;
-    let built = build::build(caller, list, count, pools, base_day, identity, out);
-    if build_answer::number_of(built) != 0 {
-        return RebuildAnswer::Built(built);
-    }
-    let size = build_answer::value_of(built);
-    let versions = identity.versions;
-    let next = tables::next_versions(previous, &out[..size], versions);
-    if tables::is_same(&versions, &next) {
-        return RebuildAnswer::Built(built);
-    }
-    let triplet = identity.triplet;
     let changed = Identity {
-        triplet,
         versions: next,
+        ..identity
     };
-    RebuildAnswer::Built(build::build(caller, list, count, pools, base_day, changed, out))
+    Ok(build::build(caller, list, count, pools, base_day, changed, out)?)
 }

@@ -2,7 +2,6 @@
 // tables come in their order.
 ghost use Rattle.std.specs.Prelude.{◌≡◌, ◌+◌, length, drop};
 ghost use mathlib.Core.List.{flatten};
-ghost use Rattle.eit.specs.SameList.{same_list};
 ghost use Rattle.sections.specs.Segment.{table_first};
 ghost use Rattle.sections.specs.Decode.{split_file};
 ghost use Rattle.rebuild.specs.Tables.{leading, next_by, RisingFrom, next_versions_by};
@@ -23,28 +22,11 @@ fn table_end(file: &[u8], from: usize, table_id: u8) -> usize
     end
 }
 
-// Whether two parts have the same bytes. No byte is branched on, so that many are compared at a time: tables that have
-// not changed are looked at to their ends in any case.
-pub fn is_same(part: &[u8], other: &[u8]) -> bool
-    ensures { result ≡ same_list part.now other.now }
-{
-    if part.len() != other.len() {
-        return false;
-    }
-    let mut differing: u8 = 0;
-    let mut i = 0;
-    while i < part.len() {
-        differing |= (part[i] != other[i]) as u8;
-        i += 1;
-    }
-    differing == 0
-}
-
 // A table's next version, by its bytes in the previous file, if it was there, and in the new one.
 fn next_version(version: u8, previous: &[u8], table: &[u8]) -> u8
     ensures { result ≡ next_by version previous.now table.now }
 {
-    if previous.len() == 0 || is_same(previous, table) {
+    if previous.is_empty() || previous == table {
         return version;
     }
     ((version as u32 + 1) % 32) as u8
@@ -59,8 +41,7 @@ pub fn next_versions(previous: &[u8], file: &[u8], versions: [u8; TABLES]) -> [u
     let mut next = versions;
     let mut previous_at = 0;
     let mut at = 0;
-    let mut table = 0;
-    while table < TABLES {
+    for table in 0..TABLES {
         let table_id = (TABLE_FIRST + table) as u8;
         let previous_end = table_end(previous, previous_at, table_id);
         let end = table_end(file, at, table_id);
@@ -71,7 +52,6 @@ pub fn next_versions(previous: &[u8], file: &[u8], versions: [u8; TABLES]) -> [u
         );
         previous_at = previous_end;
         at = end;
-        table += 1;
     }
     next
 }

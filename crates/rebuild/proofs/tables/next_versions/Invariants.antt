@@ -1,12 +1,7 @@
 -- `next_versions` meets its contract: at each turn both files are passed up to the table's first section, and the
 -- versions before the table's are set.
-use Rattle.std.proofs.Common.{◌-◌}
-use Rattle.eit.specs.Identity.{tables}
 use Rattle.rebuild.proofs.NextLaws.{Turn}
 use Rattle.rebuild.proofs.tables.next_versions.Given as goal
 
 abbrev pub invariant-loop-table : goal.invariant-loop-table
 invariant-loop-table l = Turn l.previous l.file l.versions l.next l.previous_at l.at l.table
-
-abbrev pub decreases-loop-table : goal.decreases-loop-table
-decreases-loop-table l = tables - l.table
