@@ -1,7 +1,6 @@
 -- What Rebuild answers, by what the calls before have found: Read of the previous file, Build under its identity, and
 -- the next versions of all tables. Assumes nothing.
 use mathlib.Core.Path.{◌≡◌, sym, ap, ap₂, subst, ◌∙◌}
-use mathlib.Core.Bool.{true}
 use mathlib.Core.Logic.{⊎_elim}
 use mathlib.Core.List.{List}
 use Prim.Native.Nat.{ℕ, ◌≤◌}
@@ -13,7 +12,6 @@ use Rattle.std.proofs.Common.{rules}
 use Rattle.eit.specs.declared.Sizes.{Sizes}
 use Rattle.eit.specs.Limits.{base_day_max}
 use Rattle.eit.specs.Identity.{tables}
-use Rattle.eit.specs.SameList.{same_list}
 use Rattle.eit.specs.Fields.{Bytes}
 use Rattle.eit.specs.Overwrite.{overwrite}
 use Rattle.eit.specs.Pools.{Pools}
@@ -22,7 +20,6 @@ use Rattle.eit.specs.Sound.{sound}
 use Rattle.eit.specs.declared.Identity.{Identity}
 use Rattle.eit.proofs.Test.{test_or, le_or_lt}
 use Rattle.eit.proofs.Overwrite.{over_length}
-use Rattle.eit.proofs.SameList.{same_list_holds}
 use Rattle.sections.specs.Segment.{table_first}
 use Rattle.sections.specs.Section.{Section, section_sizes}
 use Rattle.sections.specs.Encode.{file_bytes}
