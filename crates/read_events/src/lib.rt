@@ -13,7 +13,7 @@ use codec::seen;
 use codec_section::header::SectionHeader;
 use codec_section::{event, segment};
 use eit::Record;
-use eit::limits::EVENT_OVERHEAD;
+use read_walk::events;
 
 // The events of a loop that passed: how many, and the least start that the next event may have.
 #[derive(Clone, Copy)]
@@ -60,9 +60,8 @@ pub fn check_events(
         (split_by stated_event_size events.now) }
 {
     let mut passed = EventsPassed { count: 0, least };
-    let mut rest = events;
-    while !rest.is_empty() {
-        let Some(event) = event::read_event(rest, base_day) else {
+    for bytes in events::events(events) {
+        let Some(event) = event::read_event(bytes, base_day) else {
             return Err(passed);
         };
         if !is_in_segment(header, event.start) || !is_new(event, passed.least, seen) {
@@ -73,7 +72,6 @@ pub fn check_events(
             count: passed.count + 1,
             least: eit::least_behind(event),
         };
-        rest = &rest[EVENT_OVERHEAD + event.chain_length as usize..];
     }
     if passed.count == 0 && !is_alone(header) {
         return Err(passed);
