@@ -1,6 +1,6 @@
 -- What Build answers, case by case, by what it has found out of the list. Assumes nothing.
 use mathlib.Core.Path.{◌≡◌, refl, sym, ap, ap₂, subst, ◌∙◌}
-use mathlib.Core.Bool.{not}
+use mathlib.Core.Bool.{Bool, true, not}
 use mathlib.Core.Logic.{⊎_elim}
 use mathlib.Core.List.{List, flatten}
 use mathlib.Core.Option as maybe
@@ -9,7 +9,7 @@ use Prim.Native.Nat.{ℕ, ◌≤◌, ◌<◌}
 use native.Mathlib.Omega.{arith}
 use lib.Dec.{T}
 use lib.ListN.{length}
-use Rattle.std.specs.Prelude.{Some, None}
+use Rattle.std.specs.Prelude.{Option, Some, None}
 use Rattle.eit.specs.declared.Sizes.{Sizes}
 use Rattle.eit.specs.Limits.{base_day_max}
 use Rattle.eit.specs.Overwrite.{overwrite}
@@ -33,7 +33,7 @@ use Rattle.schedule.proofs.Build.{written_fits}
 use Rattle.build_counts.specs.Counting.{index_found, counted_of}
 use Rattle.build_counts.specs.declared.count.Counted.{Counted}
 use Rattle.build_counts.proofs.WalkLaws.{events_are}
-use Rattle.build_counts.proofs.CountEnd.{SoundCount, counted_none, counted_some}
+use Rattle.build_counts.proofs.CountEnd.{holds, SoundCount, counted_none, counted_some}
 use Rattle.build_counts.proofs.NeedLaws.{need_is}
 use Rattle.build.specs.Writing.{Writable}
 
@@ -61,6 +61,18 @@ pub record Asked (sizes : Sizes) (pools : Pools) (numbers : List ℕ) (count bas
   pub is_counted : Some counted ≡ counted_of sizes pools (lent_list numbers count)
   pub legal_base_holds : base ≤ base_day_max
   pub legal_versions : T (are_versions identity.versions)
+
+pub asked_of : {sizes : Sizes} {pools : Pools} {numbers : List ℕ} {count base : ℕ} {identity : Identity}
+    {output : List ℕ} {counted : Counted} {found : Option Counted} {legal : Bool}
+    → base ≤ base_day_max → legal ≡ are_versions identity.versions → legal ≡ true
+    → found ≡ counted_of sizes pools (lent_list numbers count) → found ≡ Some counted
+    → Asked sizes pools numbers count base identity output counted
+asked_of legal_base legal_is legal is_counted sound_list =
+    record {
+      is_counted = sym sound_list ∙ is_counted;
+      legal_base_holds = legal_base;
+      legal_versions = holds (sym legal_is ∙ legal);
+    }
 
 module _ {sizes : Sizes} {pools : Pools} {numbers : List ℕ} {count base : ℕ} {identity : Identity} {output : List ℕ}
     {counted : Counted} (asked : Asked sizes pools numbers count base identity output counted) where

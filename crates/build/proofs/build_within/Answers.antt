@@ -7,7 +7,7 @@ use lib.Dec.{T}
 use Rattle.eit.specs.Records.{lent_list}
 use Rattle.schedule.proofs.Build.{build_base, build_version}
 use Rattle.build_counts.proofs.CountEnd.{holds}
-use Rattle.build.proofs.AnswerLaws.{answer_unsound, answer_unpackable, answer_short, answer_writable}
+use Rattle.build.proofs.AnswerLaws.{asked_of, answer_unsound, answer_unpackable, answer_short, answer_writable}
 use Rattle.build.proofs.AnswerLaws.{answer_done}
 use Rattle.build.proofs.build_within.Goals as goal
 
@@ -33,39 +33,27 @@ returns-in_default c =
 pub returns-in-Some-lowest : goal.returns-in-Some-lowest
 returns-in-Some-lowest c =
     answer_unpackable
-    (record {
-      is_counted = sym c.in-Some.is ∙ c.count_sections.ensures;
-      legal_base_holds = c.if-base_day-gt-BASE_DAY_MAX.false;
-      legal_versions = holds (sym c.are_versions.ensures ∙ c.if-not-are_versions.false);
-    })
+    (asked_of c.if-base_day-gt-BASE_DAY_MAX.false c.are_versions.ensures c.if-not-are_versions.false
+    c.count_sections.ensures c.in-Some.is)
     c.in-Some-lowest.is
 
 pub returns-then-out-need : goal.returns-then-out-need
 returns-then-out-need c =
     answer_short
-    (record {
-      is_counted = sym c.in-Some.is ∙ c.count_sections.ensures;
-      legal_base_holds = c.if-base_day-gt-BASE_DAY_MAX.false;
-      legal_versions = holds (sym c.are_versions.ensures ∙ c.if-not-are_versions.false);
-    })
+    (asked_of c.if-base_day-gt-BASE_DAY_MAX.false c.are_versions.ensures c.if-not-are_versions.false
+    c.count_sections.ensures c.in-Some.is)
     c.in_default-lowest.is c.if-out-need.true
 
 pub write_file-requires : goal.write_file-requires
 write_file-requires c =
     answer_writable
-    (record {
-      is_counted = sym c.in-Some.is ∙ c.count_sections.ensures;
-      legal_base_holds = c.if-base_day-gt-BASE_DAY_MAX.false;
-      legal_versions = holds (sym c.are_versions.ensures ∙ c.if-not-are_versions.false);
-    })
+    (asked_of c.if-base_day-gt-BASE_DAY_MAX.false c.are_versions.ensures c.if-not-are_versions.false
+    c.count_sections.ensures c.in-Some.is)
     c.in_default-lowest.is c.if-out-need.false
 
 pub returns : goal.returns
 returns c =
     answer_done
-    (record {
-      is_counted = sym c.in-Some.is ∙ c.count_sections.ensures;
-      legal_base_holds = c.if-base_day-gt-BASE_DAY_MAX.false;
-      legal_versions = holds (sym c.are_versions.ensures ∙ c.if-not-are_versions.false);
-    })
+    (asked_of c.if-base_day-gt-BASE_DAY_MAX.false c.are_versions.ensures c.if-not-are_versions.false
+    c.count_sections.ensures c.in-Some.is)
     c.in_default-lowest.is c.if-out-need.false c.write_file.ensures
