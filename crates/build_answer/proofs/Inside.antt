@@ -1,7 +1,8 @@
 -- A built file lies in the output: every other outcome is a refusal. Assumes nothing.
 use Prim.Native.Nat.{ℕ, ◌≤◌}
 use mathlib.Core.List.{List}
-use mathlib.Core.Path.{◌≡◌, sym, ap, subst, ◌∙◌}
+use mathlib.Core.Path.{◌≡◌, refl, sym, ap, subst, ◌∙◌}
+use Rattle.std.specs.Prelude.{Result, Ok, Err, IfOk}
 use native.Mathlib.Omega.{arith}
 use lib.ListN.{length}
 use Rattle.eit.specs.declared.Sizes.{Sizes}
@@ -10,6 +11,8 @@ use Rattle.eit.specs.Records.{EventList}
 use Rattle.eit.specs.declared.Identity.{Identity}
 use Rattle.sections.specs.Section.{Section, section_sizes}
 use Rattle.schedule.specs.Build.{Built, build, written}
+use Rattle.build_answer.specs.Outcome.{outcome_of}
+use Rattle.build_answer.specs.declared.BuildError.{BuildError}
 use Rattle.schedule.proofs.Build.{build_is, written_fits}
 
 abbrev Inside : List ℕ → Built → Type 0
@@ -31,3 +34,9 @@ module _ (sizes : Sizes) (pools : Pools) (list : EventList) (base : ℕ) (identi
   built_inside built is {number} {size} number_is value success =
       let inside : Inside output built =
       subst (Inside output) is build_inside in omega (arith, inside (sym number_is ∙ success))
+
+  pub ok_inside : (answer : Result ℕ BuildError) (after : List ℕ)
+      → build sizes pools list base identity output ≡ outcome_of answer after → length after ≡ length output
+      → IfOk answer (λ size. size ≤ length after)
+  ok_inside (Ok size) after is same = omega (arith, built_inside (outcome_of (Ok size) after) is refl refl refl, same)
+  ok_inside (Err refusal) after is same = tt
