@@ -92,7 +92,8 @@ module _ {sizes : Sizes} {pools : Pools} {numbers : List ℕ} {count base : ℕ}
   need_found = found.need ∙ sym (need_is sizes es identity)
 
   built_events : answer ≡ build_events sizes base identity es output
-  built_events = build_sound sizes pools list base identity output asked.legal_base_holds asked.legal_versions found.is_sound
+  built_events =
+      build_sound sizes pools list base identity output asked.legal_base_holds asked.legal_versions found.is_sound
 
   pub answer_unpackable : {index : ℕ} → counted.lowest ≡ Some index
       → answer ≡ record { number = 10; value = index; output = output }

@@ -35,7 +35,8 @@ module _ (sizes : Sizes) (pools : Pools) (list : EventList) where
       ∙ tabled_each count
       ∙ sym tables
 
-  pub plan_uncounted : None ≡ counted_of sizes pools list → replicate 16 (replicate {A = ℕ} 32 254) ≡ plan sizes pools list
+  pub plan_uncounted : None ≡ counted_of sizes pools list
+      → replicate 16 (replicate {A = ℕ} 32 254) ≡ plan sizes pools list
   unfolding tabled
   plan_uncounted none =
       ap (replicate 16) (each_same_value 254 0 32)

@@ -58,4 +58,5 @@ pub last_found : (counts : List ℕ) (k : ℕ) → NoneFrom counts k → 0 < k �
     → row_last counts ≡ 8 * (k - 1) + (get_or counts (k - 1) 0 - 1)
 last_found counts k none some few here =
     last_is counts (k - 1)
-    (counted_is 31 (k - 1) counts (omega arith) (inr (λ empty. omega arith)) (λ j later most. none j (omega arith) most))
+    (counted_is 31 (k - 1) counts (omega arith) (inr (λ empty. omega arith))
+    (λ j later most. none j (omega arith) most))

@@ -1,15 +1,13 @@
 // The file written: its segments one behind the other (01, "The file of sections", "Build, Read").
 ghost use Rattle.std.specs.Prelude.{◌≡◌, ◌+◌, ◌≤◌, ◌<◌, length, drop};
 ghost use Rattle.eit.specs.Overwrite.{overwrite};
-ghost use Rattle.eit.specs.Records.{records_in};
-ghost use Rattle.eit.specs.Events.{events_in};
 ghost use Rattle.sections.specs.Section.{section_sizes};
 ghost use Rattle.sections.specs.Encode.{file_bytes};
 ghost use Rattle.codec_section.specs.HeaderRead.{held_header};
 ghost use Rattle.schedule.specs.SectionsOf.{sections_of};
 ghost use Rattle.build.specs.Sections.{first_header, sections_from};
 ghost use Rattle.build.specs.Rows.{IsRow, row_last};
-ghost use Rattle.build.specs.Held.{held};
+ghost use Rattle.build.specs.Held.{held, all_held};
 ghost use Rattle.build.specs.Writing.{Writable};
 
 use crate::section::Writer;
@@ -110,12 +108,10 @@ impl<'a> Writer<'a> {
         sizes: Sizes,
         counts: &[u8],
     )
-        requires { Writable sizes identity (events_in self.now.pools.now (records_in count self.now.list.now)) counts.now
-            out.old }
+        requires { Writable sizes identity (all_held self.now count) counts.now out.old }
         ensures { out.new
             ≡ overwrite out.old 0
-            (file_bytes self.now.base_day
-            (sections_of sizes identity (events_in self.now.pools.now (records_in count self.now.list.now)))) }
+            (file_bytes self.now.base_day (sections_of sizes identity (all_held self.now count))) }
     {
         let last_table_id = table_of(segment::last_index(self.list, count)) as u8;
         let room = count::room_of(sizes);

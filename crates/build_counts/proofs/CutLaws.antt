@@ -51,7 +51,8 @@ pub record CutSoFar (pools : Pools) (numbers : List ℕ) (from end room to bytes
 module _ {pools : Pools} {numbers : List ℕ} {from end room to bytes : ℕ}
     (so_far : CutSoFar pools numbers from end room to bytes) where
   -- the place reached is `end`, or `from` if that is behind it
-  pub pass_end : end ≤ to → (from ≤ end → to ≤ end) → {last : ℕ} → (from ≤ end → last ≡ end) → (end < from → last ≡ from)
+  pub pass_end : end ≤ to → (from ≤ end → to ≤ end) → {last : ℕ} → (from ≤ end → last ≡ end)
+      → (end < from → last ≡ from)
       → record { to = last; bytes = bytes } ≡ cut_of from room (events_between pools numbers from end)
   pass_end behind within {last} there here =
       let done : record { to = to; bytes = bytes } ≡ cut_of from room (events_between pools numbers from end) =

@@ -24,7 +24,8 @@ module _ (counts : List ℕ) where
   unfolding each
   taken_is least zero within = refl
   taken_is least (suc n) within =
-      rw (drop-cons counts least 0 (omega arith)) (ap (λ (xs : List ℕ). count least ∷ xs) (taken_is (suc least) n (omega arith)))
+      rw (drop-cons counts least 0 (omega arith))
+      (ap (λ (xs : List ℕ). count least ∷ xs) (taken_is (suc least) n (omega arith)))
 
   row_is : (table : ℕ) → table * 32 + 32 ≤ length counts → take 32 (drop (table * 32) counts) ≡ row table
   row_is table within =

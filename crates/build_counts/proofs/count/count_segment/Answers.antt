@@ -26,7 +26,8 @@ pub returns-then-end-at : goal.returns-then-end-at
 returns-then-end-at c =
     let here = c.loop-sections in
     let next = c.next_cut-next in
-    pack_end (pack_more here.invariant.0 (omega arith) (omega arith) next.result next.ensures) (λ inside few. omega arith)
+    pack_end (pack_more here.invariant.0 (omega arith) (omega arith) next.result next.ensures)
+    (λ inside few. omega arith)
     c.if-end-at.true
 
 pub loop-sections-preserved : goal.loop-sections-preserved

@@ -1,4 +1,5 @@
--- `count_segment`: before each turn what is counted so far, with what the rest needs, is the count, and there is a rest.
+-- `count_segment`: before each turn what is counted so far, with what the rest needs, is the count, and there is a
+-- rest.
 use Rattle.std.proofs.Common.{◌<◌}
 use Rattle.build_counts.proofs.PackLaws.{PackedSoFar}
 use Rattle.build_counts.proofs.count.count_segment.Given as goal

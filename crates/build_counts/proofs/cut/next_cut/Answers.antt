@@ -15,4 +15,6 @@ loop-to-preserved c =
     c.if-room-bytes.false
 
 pub returns : goal.returns
-returns c = pass_end c.loop-to.invariant c.loop-to-test.false (λ before. omega arith) (omega arith) (λ behind. omega arith)
+returns c =
+    pass_end c.loop-to.invariant c.loop-to-test.false (λ before. omega arith) (λ before. omega arith)
+    (λ behind. omega arith)

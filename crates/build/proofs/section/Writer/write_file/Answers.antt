@@ -5,15 +5,16 @@ use mathlib.Core.Path.{sym, ap, subst, ◌∙◌}
 use Rattle.eit.specs.Pools.{Pools}
 use Rattle.sections.specs.Segment.{table_of}
 use Rattle.codec_section.specs.declared.header.SectionHeader.{SectionHeader}
-use Rattle.build_counts.proofs.WalkLaws.{held_events}
 use Rattle.codec.proofs.FieldLaws.{rest_whole}
 use Rattle.schedule.specs.SectionsOf.{table_last}
+use Rattle.build.specs.Held.{all_held}
 use Rattle.build.specs.Rows.{IsRow, row_last}
 use Rattle.build.proofs.CountsLaws.{counts_length, within, count_few, row_is, row_last_holds}
 use Rattle.build.proofs.FileLaws.{file_same, table_small, file_start, file_end, file_skip, last_later}
 use Rattle.build.proofs.FileLaws.{part_fits, file_more}
 use Rattle.build.proofs.section.Writer.write_file.Goals as goal
-use Rattle.build.proofs.section.Writer.write_file.Goals.{then-sections-gt0, else-sections-gt0, then-index-eq0, else-index-eq0}
+use Rattle.build.proofs.section.Writer.write_file.Goals.{then-sections-gt0, else-sections-gt0}
+use Rattle.build.proofs.section.Writer.write_file.Goals.{then-index-eq0, else-index-eq0}
 
 -- last_table_id
 pub overflow_cast-last_table_id : goal.overflow_cast-last_table_id
@@ -47,7 +48,7 @@ write_segment-at-requires c =
     let few = within c.requires c.loop-index-test.true in
     let some = c.if-sections-gt0.true in
     let made = c.first_header-header in
-    let last : c.if-index-eq0.last ≡ table_last a.sizes (held_events pools a.self.now.list.now a.count) (turn.index / 32) =
+    let last : c.if-index-eq0.last ≡ table_last a.sizes (all_held a.self.now a.count) (turn.index / 32) =
     elim c.if-index-eq0.branch [
       | then-index-eq0 w ↦
           w.last-is
@@ -76,7 +77,7 @@ loop-index-preserved c =
     elim c.if-sections-gt0.branch [
       | then-sections-gt0 w ↦
           let some = w.if-sections-gt0.true in
-          let last : w.if-index-eq0.last ≡ table_last a.sizes (held_events pools a.self.now.list.now a.count) (turn.index / 32) =
+          let last : w.if-index-eq0.last ≡ table_last a.sizes (all_held a.self.now a.count) (turn.index / 32) =
           elim w.if-index-eq0.branch [
             | then-index-eq0 v ↦
                 v.last-is
@@ -87,8 +88,8 @@ loop-index-preserved c =
                 v.last-is ∙ last_later pools _ _ c.requires turn.invariant few some v.if-index-eq0.false
           ] in
           file_same w.out-is w.last-is w.at-is w.from-is
-          (file_more pools _ _ c.requires turn.invariant few some (w.end_of-end.ensures pools) c.room_of-room.ensures last id
-          w.first_header-header.ensures w.write_segment-at.ensures.0 w.write_segment-at.ensures.1)
+          (file_more pools _ _ c.requires turn.invariant few some (w.end_of-end.ensures pools) c.room_of-room.ensures last
+          id w.first_header-header.ensures w.write_segment-at.ensures.0 w.write_segment-at.ensures.1)
       | else-sections-gt0 w ↦
           file_same w.out-is w.last-is w.at-is w.from-is
           (file_skip pools _ _ c.requires turn.invariant few w.if-sections-gt0.false)
