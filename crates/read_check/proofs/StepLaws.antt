@@ -9,11 +9,12 @@ use Prim.Native.Nat.{ℕ, ◌+◌, ◌≤◌, ◌<◌}
 use native.Mathlib.Omega.{arith}
 use lib.Dec.{T, leb→le, le→leb}
 use borrow.Author.Tests.{lt-leb}
-use lib.ListN.{length, length-map}
-use Rattle.std.specs.Prelude.{Some, None, Ok}
+use lib.ListN.{length, get_or, length-map}
+use Rattle.std.specs.Prelude.{Option, Some, None, Ok, option_map}
 use Rattle.std.specs.Bool.{then_some}
 use Rattle.eit.specs.declared.Sizes.{Sizes}
 use Rattle.eit.specs.Fields.{Bytes}
+use Rattle.eit.proofs.Fields.{bytes_all}
 use Rattle.eit.specs.Events.{Event}
 use Rattle.eit.proofs.Test.{tests}
 use Rattle.sections.specs.Segment.{table_first, table_max}
@@ -67,7 +68,11 @@ module _ {offset : ℕ} {state : WalkState} {versions words : List ℕ} {p : Pro
       → step sizes base p bs ≡ refused 20 offset
   refuses_20 made is = at_offset (step_20 sizes base p bs (fails made is))
 
-  module _ (bytes : Bytes bs) {framed : Bool} (frame : framed ≡ is_framed sizes bs) (frame-holds : framed ≡ true) where
+  module _ (all : (k : ℕ) → get_or bs k 0 < 256) {framed : Bool} (frame : framed ≡ is_framed sizes bs)
+      (frame-holds : framed ≡ true) where
+    bytes : Bytes bs
+    bytes = bytes_all bs all
+
     is_framed_holds : T (is_framed sizes bs)
     is_framed_holds = holds frame frame-holds
 
@@ -93,15 +98,21 @@ module _ {offset : ℕ} {state : WalkState} {versions words : List ℕ} {p : Pro
           (ap (λ (b : Bool). has_fixed_bits bs && (is_table g.last_table_id && (is_same_file (latest p.before) g && b)))
           (sym (same_test g in_range_holds.0 in_range_holds.1 p.before tracks.come)))
 
-      pub refuses_22 : None ≡ checked_header (header_before state.before) versions bs
+      pub refuses_22 : {found : Option SectionHeader}
+          → option_map held_header found ≡ checked_header (header_before state.before) versions bs → found ≡ None
           → step sizes base p bs ≡ refused 22 offset
-      refuses_22 kept =
+      refuses_22 checked is =
           at_offset (step_22 sizes base p bs is_framed_holds has_right_crc_holds
           (subst (λ (b : Bool). T (not b)) same_header
-          (none_only (is_header_by (header_before state.before) versions bs) (header_in bs) kept)))
+          (none_only (is_header_by (header_before state.before) versions bs) (header_in bs)
+          (sym (ap (option_map held_header) is) ∙ checked))))
 
-      module _ {h : SectionHeader}
-          (kept : Some (held_header h) ≡ checked_header (header_before state.before) versions bs) where
+      module _ {found : Option SectionHeader}
+          (header : option_map held_header found ≡ checked_header (header_before state.before) versions bs)
+          {h : SectionHeader} (found_is : found ≡ Some h) where
+        kept : Some (held_header h) ≡ checked_header (header_before state.before) versions bs
+        kept = sym (ap (option_map held_header) found_is) ∙ header
+
         shown : T (is_header p.before bs) × (held_header h ≡ header_in bs)
         shown =
             let (passes, is) = some_only (is_header_by (header_before state.before) versions bs) kept in

@@ -1,12 +1,10 @@
 -- `section::check_section` meets its contract: each check that fails is its refusal, and all together are the way on
 -- (`StepLaws`). Assumes nothing.
-use mathlib.Core.Path.{◌≡◌, refl, sym, ap, ◌∙◌}
+use mathlib.Core.Path.{◌≡◌, refl}
 use Prim.Native.Nat.{◌+◌, ◌<◌}
 use native.Mathlib.Omega.{arith}
-use Rattle.std.specs.Prelude.{None, option_map}
+use Rattle.std.specs.Prelude.{None}
 use Rattle.std.proofs.lemmas.Result.{err_from_is_err_and}
-use Rattle.eit.proofs.Fields.{bytes_all}
-use Rattle.codec_section.specs.HeaderRead.{held_header}
 use Rattle.read_answer.specs.declared.ReadError.TheVariants.{Header}
 use Rattle.read_check.proofs.StepLaws.{refuses_20, refuses_21, refuses_22, refuses_23, refuses_24, refuses_26}
 use Rattle.read_check.proofs.StepLaws.{goes_on}
@@ -19,59 +17,53 @@ returns-then-not-is_framed c p tracks = refuses_20 tracks _ _ _ c.is_framed.ensu
 
 pub returns-then-not-has_right_crc : goal.returns-then-not-has_right_crc
 returns-then-not-has_right_crc c p tracks =
-    let bytes = bytes_all c.args.section.now (λ k. (c.type_inv.section k).fits) in
-    refuses_21 tracks _ _ _ bytes c.is_framed.ensures c.if-not-is_framed.false
+    refuses_21 tracks _ _ _ (λ k. (c.type_inv.section k).fits) c.is_framed.ensures c.if-not-is_framed.false
     c.has_right_crc.ensures c.if-not-has_right_crc.true
 
 pub returns-in_err-shown : goal.returns-in_err-shown
 returns-in_err-shown c p tracks =
-    let bytes = bytes_all c.args.section.now (λ k. (c.type_inv.section k).fits) in
     let none : c.check_header.result ≡ None = c.in_err-shown.ensures.ok_part in
     let value = rw none at c.in_err-shown.ensures.value in
     let is : c.in_err-shown.field-0.0 ≡ Header c.args.offset = cc in
     let exit = err_from_is_err_and c.from_residual.result c.from_residual.ensures.1 in
     rw (exit.1, exit.2, is)
-    (refuses_22 tracks _ _ _ bytes c.is_framed.ensures c.if-not-is_framed.false
+    (refuses_22 tracks _ _ _ (λ k. (c.type_inv.section k).fits) c.is_framed.ensures c.if-not-is_framed.false
     c.has_right_crc.ensures c.if-not-has_right_crc.false
-    (sym (ap (option_map held_header) none) ∙ c.check_header.ensures))
+    c.check_header.ensures none)
 
 pub returns-then-not-has_right_numbering : goal.returns-then-not-has_right_numbering
 returns-then-not-has_right_numbering c p tracks =
-    let bytes = bytes_all c.args.section.now (λ k. (c.type_inv.section k).fits) in
-    let passes = sym (ap (option_map held_header) c.in_ok-shown.ensures.ok_part) ∙ c.check_header.ensures in
-    refuses_23 tracks _ _ _ bytes c.is_framed.ensures c.if-not-is_framed.false
-    c.has_right_crc.ensures c.if-not-has_right_crc.false passes
+    refuses_23 tracks _ _ _ (λ k. (c.type_inv.section k).fits) c.is_framed.ensures c.if-not-is_framed.false
+    c.has_right_crc.ensures c.if-not-has_right_crc.false
+    c.check_header.ensures c.in_ok-shown.ensures.ok_part
     c.has_right_numbering.ensures c.if-not-has_right_numbering.true
 
 pub returns-in_default : goal.returns-in_default
 returns-in_default c p tracks =
-    let bytes = bytes_all c.args.section.now (λ k. (c.type_inv.section k).fits) in
-    let passes = sym (ap (option_map held_header) c.in_ok-shown.ensures.ok_part) ∙ c.check_header.ensures in
-    refuses_24 tracks _ _ _ bytes c.is_framed.ensures c.if-not-is_framed.false
-    c.has_right_crc.ensures c.if-not-has_right_crc.false passes
+    refuses_24 tracks _ _ _ (λ k. (c.type_inv.section k).fits) c.is_framed.ensures c.if-not-is_framed.false
+    c.has_right_crc.ensures c.if-not-has_right_crc.false
+    c.check_header.ensures c.in_ok-shown.ensures.ok_part
     c.has_right_numbering.ensures c.if-not-has_right_numbering.false
     (rw c.event_loop-events.ensures at c.in_default.ensures) refl
 
 pub returns-then-sizes-found : goal.returns-then-sizes-found
 returns-then-sizes-found c p tracks =
-    let bytes = bytes_all c.args.section.now (λ k. (c.type_inv.section k).fits) in
-    let passes = sym (ap (option_map held_header) c.in_ok-shown.ensures.ok_part) ∙ c.check_header.ensures in
     let many : c.args.sizes.event_limit < c.in-Ok.passed.count + c.args.state.count =
     elim c.then-sizes-found.branch [
       | then-sizes-found-via-then-sizes-found w ↦ omega arith
       | then-sizes-found-via-else-sizes-found+then-sizes-found-2 w ↦ omega arith
     ] in
-    refuses_26 tracks _ _ _ bytes c.is_framed.ensures c.if-not-is_framed.false
-    c.has_right_crc.ensures c.if-not-has_right_crc.false passes
+    refuses_26 tracks _ _ _ (λ k. (c.type_inv.section k).fits) c.is_framed.ensures c.if-not-is_framed.false
+    c.has_right_crc.ensures c.if-not-has_right_crc.false
+    c.check_header.ensures c.in_ok-shown.ensures.ok_part
     c.has_right_numbering.ensures c.if-not-has_right_numbering.false
     (rw c.event_loop-events.ensures at c.in-Ok.ensures) refl many
 
 pub returns : goal.returns
 returns c p tracks =
-    let bytes = bytes_all c.args.section.now (λ k. (c.type_inv.section k).fits) in
-    let passes = sym (ap (option_map held_header) c.in_ok-shown.ensures.ok_part) ∙ c.check_header.ensures in
     rw c.set_version.ensures
-    (goes_on tracks _ _ _ bytes c.is_framed.ensures c.if-not-is_framed.false
-    c.has_right_crc.ensures c.if-not-has_right_crc.false passes
+    (goes_on tracks _ _ _ (λ k. (c.type_inv.section k).fits) c.is_framed.ensures c.if-not-is_framed.false
+    c.has_right_crc.ensures c.if-not-has_right_crc.false
+    c.check_header.ensures c.in_ok-shown.ensures.ok_part
     c.has_right_numbering.ensures c.if-not-has_right_numbering.false
     (rw c.event_loop-events.ensures at c.in-Ok.ensures) refl (omega arith))
