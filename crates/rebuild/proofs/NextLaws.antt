@@ -148,14 +148,21 @@ module _ (previous file versions : List ℕ) where
   VersionsTo table next = (k : ℕ) → k < table → get_or next k 0 ≡ next_at k
 
   pub versions_more : (table : ℕ) (next : List ℕ) (version : ℕ) → length next ≡ tables → table < tables
+      → get_or next table 0 ≡ get_or versions table 0
       → VersionsTo table next
-      → version ≡ next_at table
+      → version
+      ≡ next_by (get_or next table 0) (flatten (table_sections (table_first + table) previous))
+      (flatten (table_sections (table_first + table) file))
       → VersionsTo (table + 1) (set next table version)
-  versions_more table next version long few so_far is k low =
+  versions_more table next version long few old so_far is k low =
       ⊎_elim
       (λ here. ap (λ (j : ℕ). get_or (set next table version) j 0) here
       ∙ get_or-set_same next table version 0 (omega arith)
       ∙ is
+      ∙ ap
+      (λ (v : ℕ). next_by v (flatten (table_sections (table_first + table) previous))
+      (flatten (table_sections (table_first + table) file)))
+      old
       ∙ ap next_at (sym here))
       (λ other. get_or-set_other next table k version 0 other ∙ so_far k (omega (arith, other)))
       (eq_or_not k table)
@@ -188,5 +195,6 @@ pub record Turn (previous file versions next : List ℕ) (previous_at at table :
   pub old_inside : previous_at ≤ length previous
   pub new_inside : at ≤ length file
   pub long : length next ≡ tables
+  pub to_come : (k : ℕ) → table ≤ k → get_or next k 0 ≡ get_or versions k 0
   pub in_order : RisingFrom table_first (split_file previous) → RisingFrom table_first (split_file file)
       → InOrder previous file versions next previous_at at table

@@ -41,12 +41,12 @@ pub fn next_versions(previous: &[u8], file: &[u8], versions: [u8; TABLES]) -> [u
     let mut next = versions;
     let mut previous_at = 0;
     let mut at = 0;
-    for table in 0..TABLES {
+    for (table, version) in next.iter_mut().enumerate() {
         let table_id = (TABLE_FIRST + table) as u8;
         let previous_end = table_end(previous, previous_at, table_id);
         let end = table_end(file, at, table_id);
-        next[table] = next_version(
-            versions[table],
+        *version = next_version(
+            *version,
             &previous[previous_at..previous_end],
             &file[at..end],
         );

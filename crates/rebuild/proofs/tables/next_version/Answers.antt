@@ -4,7 +4,8 @@ use Rattle.std.proofs.Common.{length, sym, ◌∙◌}
 use Rattle.std.proofs.lemmas.Bool.{eqb-true, eqb-false}
 use Rattle.rebuild.proofs.NextLaws.{same_bytes, next_none, next_same, next_other}
 use Rattle.rebuild.proofs.tables.next_version.Goals as goal
-use Rattle.rebuild.proofs.tables.next_version.Goals.{then-is_empty-via-then-is_empty, then-is_empty-via-else-is_empty+then-eq}
+use Rattle.rebuild.proofs.tables.next_version.Goals.{then-is_empty-via-then-is_empty}
+use Rattle.rebuild.proofs.tables.next_version.Goals.{then-is_empty-via-else-is_empty+then-eq}
 
 pub returns-then-is_empty : goal.returns-then-is_empty
 returns-then-is_empty c =
