@@ -33,6 +33,7 @@ fn count_lengths(
         (room - event_overhead)
         ≡ last_of result }
 {
+    // Halved here: `partition_point` is a slice's, and these lengths are in none.
     let mut low = 0u16;
     let mut high = chain_max(room) + 1;
     while low < high {

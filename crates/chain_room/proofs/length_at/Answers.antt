@@ -1,12 +1,8 @@
 -- `length_at` meets its contract: a start past the last segment, one that is taken, and else the longest chain between
 -- the segment's events. Assumes nothing.
-use Rattle.std.proofs.Common.{ℕ, List, ◌≡◌, ◌+◌, ◌<◌, sym, ap, ◌∙◌}
+use Rattle.std.proofs.Common.{◌<◌, sym, ◌∙◌}
 use borrow.Author.Tests.{ltb-true, ltb-false}
 use Rattle.eit.specs.Limits.{window_seconds}
-use Rattle.eit.specs.Pools.{Pools}
-use Rattle.eit.specs.Events.{Event}
-use Rattle.sections.specs.Segment.{segment_index}
-use Rattle.build_counts.specs.Between.{events_between, leading}
 use Rattle.chain_room.proofs.RoomLaws.{past_answer, taken_answer, free_answer}
 use Rattle.chain_room.proofs.length_at.Goals as goal
 
@@ -19,26 +15,17 @@ returns-then-not-is_start c =
 pub returns-then-starts_at : goal.returns-then-starts_at
 returns-then-starts_at c =
     let a = c.args in
-    let pools : Pools = a.pools.now in
-    let lent : ℕ → ℕ → List Event = events_between pools a.list.now in
-    let from = c.skip_earlier-from.result in
-    let is-end : c.end_of-end.result ≡ from + leading (segment_index a.start) (lent from a.count) =
-    c.end_of-end.ensures pools
-    ∙ ap (λ (i : ℕ). from + leading i (lent from a.count)) c.segment_index.ensures in
-    taken_answer a.sizes pools a.list.now a.count a.start c.requires (c.skip_earlier-from.ensures pools) is-end
-    (c.skip_earlier-place.ensures pools) (c.starts_at.ensures pools) c.if-starts_at.true
+    let is-end = rw c.segment_index.ensures at (c.end_of-end.ensures a.pools.now) in
+    taken_answer a.sizes a.pools.now a.list.now a.count a.start c.requires (c.skip_earlier-from.ensures a.pools.now)
+    is-end (c.skip_earlier-place.ensures a.pools.now) (c.starts_at.ensures a.pools.now) c.if-starts_at.true
 
 pub returns : goal.returns
 returns c =
     let a = c.args in
-    let pools : Pools = a.pools.now in
-    let lent : ℕ → ℕ → List Event = events_between pools a.list.now in
-    let from = c.skip_earlier-from.result in
-    let is-end : c.end_of-end.result ≡ from + leading (segment_index a.start) (lent from a.count) =
-    c.end_of-end.ensures pools
-    ∙ ap (λ (i : ℕ). from + leading i (lent from a.count)) c.segment_index.ensures in
+    let is-end = rw c.segment_index.ensures at (c.end_of-end.ensures a.pools.now) in
     let inside : a.start < window_seconds =
     ltb-true a.start window_seconds (sym c.is_start.ensures ∙ c.if-not-is_start.false) in
     c.longest.ensures
-    ∙ free_answer a.sizes pools a.list.now a.count a.start c.requires (c.skip_earlier-from.ensures pools) is-end
-    (c.skip_earlier-place.ensures pools) (c.starts_at.ensures pools) c.if-starts_at.false inside c.room_of.ensures
+    ∙ free_answer a.sizes a.pools.now a.list.now a.count a.start c.requires (c.skip_earlier-from.ensures a.pools.now)
+    is-end (c.skip_earlier-place.ensures a.pools.now) (c.starts_at.ensures a.pools.now) c.if-starts_at.false inside
+    c.room_of.ensures
