@@ -283,7 +283,12 @@ pub extern "C" fn eit_plan<'a>(
         ≡ flatten (plan (sizes_of (caller_of caller)) (lent_pools day.now series.now)
         (lent_list list.now count)) }
 {
-    *counts = build_plan::flat_of(build::plan(caller_of(caller), list, count, &Pools::new(day, series)));
+    *counts = build_plan::flat_of(build::plan(
+        caller_of(caller),
+        list,
+        count,
+        &Pools::new(day, series),
+    ));
 }
 
 // What Read says, as numbers: with a refusal, count and identity are 0.
@@ -295,14 +300,15 @@ impl From<Result<FileRead, ReadError>> for EitReading {
             identity: eit::zero_identity(),
             count: 0,
         });
+        let Identity { triplet, versions } = identity;
         EitReading {
             number: refusal::number_of(read),
             value: refusal::value_of(read.map(|accepted| accepted.count)),
             count,
-            service_id: identity.triplet.service_id,
-            transport_stream_id: identity.triplet.transport_stream_id,
-            original_network_id: identity.triplet.original_network_id,
-            versions: identity.versions,
+            service_id: triplet.service_id,
+            transport_stream_id: triplet.transport_stream_id,
+            original_network_id: triplet.original_network_id,
+            versions,
         }
     }
 }
