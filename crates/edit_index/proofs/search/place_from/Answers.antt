@@ -23,4 +23,4 @@ overflow_add-place-2 c =
 pub returns : goal.returns
 returns c =
     placed c.args.entries.now c.args.from c.args.start c.passed_by_strides.result c.requires
-    c.passed_by_strides.ensures c.min.ensures
+    c.passed_by_strides.ensures (omega (arith, c.min.ensures))
