@@ -96,7 +96,9 @@ impl Index<'_> {
         order::slot_at(self.order, i)
     }
 
-    // Puts a record in a place of the others, in the first slot that is free.
+    // Puts a record in a place of the others, in the first slot that is free. Inlined, so that the compiler knows how
+    // long the lent arrays are.
+    #[inline(always)]
     pub fn add(&mut self, place: usize, event: Record)
         ensures { self.new ≡ added place event self.old }
     {

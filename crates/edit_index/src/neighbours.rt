@@ -39,7 +39,8 @@ fn overlaps_at(index: &Index<'_>, own: usize, i: usize, event: Record) -> bool
 }
 
 // Whether it overlaps the one before place `place` of the others, or the one behind it. With the count for `own` no
-// record is left out.
+// record is left out. Inlined, so that the compiler knows how long the lent arrays are.
+#[inline(always)]
 pub fn overlaps_neighbour(index: &Index<'_>, own: usize, place: usize, event: Record) -> bool
     ensures { result ≡ overlaps_neighbour event index.now own place }
 {
