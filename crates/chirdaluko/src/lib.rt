@@ -283,12 +283,8 @@ pub extern "C" fn eit_plan<'a>(
         ≡ flatten (plan (sizes_of (caller_of caller)) (lent_pools day.now series.now)
         (lent_list list.now count)) }
 {
-    *counts = build_plan::flat_of(build::plan(
-        caller_of(caller),
-        list,
-        count,
-        &Pools::new(day, series),
-    ));
+    let pools = Pools::new(day, series);
+    *counts = build_plan::flat_of(build::plan(caller_of(caller), list, count, &pools));
 }
 
 // What Read says, as numbers: with a refusal, count and identity are 0.
@@ -296,15 +292,12 @@ impl From<Result<FileRead, ReadError>> for EitReading {
     ghost from_gives = { λ read reading. answer_of reading ≡ outcome_of read };
 
     fn from(read: Result<FileRead, ReadError>) -> Self {
-        let FileRead { identity, count } = read.unwrap_or(FileRead {
-            identity: eit::zero_identity(),
-            count: 0,
-        });
+        let identity = read.map_or(eit::zero_identity(), |accepted| accepted.identity);
         let Identity { triplet, versions } = identity;
         EitReading {
             number: refusal::number_of(read),
             value: refusal::value_of(read.map(|accepted| accepted.count)),
-            count,
+            count: read_answer::count_of(read),
             service_id: triplet.service_id,
             transport_stream_id: triplet.transport_stream_id,
             original_network_id: triplet.original_network_id,
