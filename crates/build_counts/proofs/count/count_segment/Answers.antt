@@ -1,14 +1,11 @@
 -- `count_segment` meets its contract: before each turn what is counted so far, with what the rest needs, is the count.
 -- The loop ends with eight sections, or with nothing left. Assumes nothing.
 use Rattle.std.proofs.Common.{arith}
-use Rattle.build_counts.proofs.PackLaws.{pack_start, pack_more, pack_short, pack_end, pack_none}
+use Rattle.build_counts.proofs.PackLaws.{pack_more, pack_short, pack_end, pack_none}
 use Rattle.build_counts.proofs.count.count_segment.Goals as goal
 
 pub returns-then-end-from : goal.returns-then-end-from
 returns-then-end-from c = pack_none _ _ _ c.if-end-from.true
-
-pub loop-sections-init : goal.loop-sections-init
-loop-sections-init c = (pack_start (omega arith) (omega arith), omega arith)
 
 pub overflow_add-bytes : goal.overflow_add-bytes
 overflow_add-bytes c =
