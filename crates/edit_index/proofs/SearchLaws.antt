@@ -1,12 +1,17 @@
 -- The search for the place of a start among the entries of an order, an entry or a part at a time. By what is left of
 -- the entries once those before i are passed. Assumes nothing.
-use mathlib.Core.Path.{◌≡◌, sym, ap, ◌∙◌}
+use mathlib.Core.Path.{◌≡◌, refl, sym, ap, ◌∙◌}
 use mathlib.Core.Logic.{⊎_elim}
 use mathlib.Core.List.{List, [], ◌∷◌, ◌++◌, map-append}
 use Prim.Native.Nat.{ℕ, suc, ◌+◌, ◌-◌, ◌*◌, ◌≤◌, ◌<◌, min}
 use native.Mathlib.Omega.{arith}
-use lib.ListN.{length, get_or, take, drop, length-drop, length-map, take-append-drop, drop_of_length-le}
-use lib.Seq.{drop-cons, drop-drop, take_all, length-take-le}
+use lib.ListN.{length, take, drop, length-drop, length-map, take-append-drop}
+use lib.Seq.{drop-drop, take_all, length-take-le}
+use Rattle.std.specs.Prelude.{Some, None, cond, position, leb}
+use Rattle.std.specs.List.{position_or_len}
+use mathlib.Core.Bool.{Bool, not}
+use borrow.Author.Tests.{lt-leb, le-leb, lt-ltb, le-ltb}
+use Rattle.std.specs.Option.{unwrap_or}
 use Rattle.eit.specs.Placing.{placing}
 use Rattle.eit.specs.declared.Place.{Place}
 use Rattle.eit.proofs.Placing.{place_search, place_is, place_length, placing_here, placing_past}
@@ -27,31 +32,6 @@ passed_length start es = omega (arith, place_length start (starts_in es), starts
 module _ (start : ℕ) (es : List ℕ) where
   pub pass_none : Passed start es 0
   pass_none = (omega arith, omega arith)
-
-  -- ---- the entry at i
-
-  pub pass_later : (i : ℕ) → Passed start es i → i < length es → (start + 1) * slot_numbers ≤ get_or es i 0
-      → i ≡ passed_of start es
-  pass_later i so_far within later =
-      let here : passed_of start (drop i es) ≡ 0 =
-      ap (passed_of start) (drop-cons es i 0 within)
-      ∙ ap place_in (placing_here start (start_in (get_or es i 0)) (starts_in (drop (suc i) es)) (omega arith)) in
-      omega (arith, so_far.1, here)
-
-  pub pass_one : (i : ℕ) → Passed start es i → i < length es → get_or es i 0 < (start + 1) * slot_numbers
-      → Passed start es (i + 1)
-  pass_one i so_far within past =
-      let next : suc i ≡ i + 1 = omega arith in
-      let left : passed_of start (drop i es) ≡ suc (passed_of start (drop (i + 1) es)) =
-      ap (passed_of start) (drop-cons es i 0 within)
-      ∙ ap place_in (placing_past start (start_in (get_or es i 0)) (starts_in (drop (suc i) es)) (omega arith))
-      ∙ ap (λ (k : ℕ). suc (passed_of start (drop k es))) next in
-      (omega arith, omega (arith, so_far.1, left))
-
-  pub pass_all : (i : ℕ) → Passed start es i → length es ≤ i → i ≡ passed_of start es
-  pass_all i so_far end =
-      let none : drop i es ≡ [] = drop_of_length-le es {i = i} end in
-      let left : passed_of start (drop i es) ≡ 0 = rw none in omega (arith, so_far.1, left)
 
   -- ---- the part from i to `end`, of which p are passed
 
@@ -128,3 +108,40 @@ module _ (es : List ℕ) (from start p : ℕ) (so_far : Passed start es from)
   pub placed : {looked : ℕ} → looked ≡ min (length es) (from + p + 1)
       → record { place = from + p; looked = looked } ≡ placing start (starts_in es)
   placed least = place_is same (omega (arith, same, starts_length es, place_search.looked_at start (starts_in es)))
+
+-- ---- as the code looks: the entry of a later start is not below the least that has one
+
+module _ (start : ℕ) where
+  abbrev least : ℕ
+  least = (start + 1) * slot_numbers
+
+  abbrev is_later : ℕ → Bool
+  is_later e = leb ((start + 1) * slot_numbers) e
+
+  first_is : (es : List ℕ) → position_or_len is_later es ≡ passed_of start es
+  first_is [] = refl
+  first_is (e ∷ es) =
+      ⊎_elim
+      (λ past.
+      let looked : position_or_len is_later (e ∷ es) ≡ 1 + position_or_len is_later es =
+      ap (λ (b : Bool). cond (not b) (1 + position_or_len is_later es) 0) (lt-leb least e (omega arith)) in
+      let passed : passed_of start (e ∷ es) ≡ suc (passed_of start es) =
+      ap place_in (placing_past start (start_in e) (starts_in es) past) in
+      omega (arith, looked, passed, first_is es))
+      (λ later.
+      ap (λ (b : Bool). cond (not b) (1 + position_or_len is_later es) 0) (le-leb least e (omega arith))
+      ∙ sym (ap place_in (placing_here start (start_in e) (starts_in es) later)))
+      (le_or_lt (start_in e) start)
+
+  pub first_later : (es : List ℕ)
+      → unwrap_or (position (λ e. leb ((start + 1) * slot_numbers) e) es) (length es) ≡ passed_of start es
+  first_later es =
+      let first : ℕ = position_or_len is_later es in
+      ⊎_elim
+      (λ none.
+      ap (λ (b : Bool). unwrap_or (cond b (Some first) None) (length es)) (le-ltb first (length es) none)
+      ∙ omega (arith, first_is es, passed_length start es))
+      (λ some.
+      ap (λ (b : Bool). unwrap_or (cond b (Some first) None) (length es)) (lt-ltb first (length es) some)
+      ∙ first_is es)
+      (le_or_lt (length es) first)

@@ -1,6 +1,6 @@
 // The search for the place of a start (02, W-203), from the front of an order. It reads no entry behind the first whose
 // start is later.
-ghost use Rattle.std.specs.Prelude.{◌≡◌};
+ghost use Rattle.std.specs.Prelude.{◌≡◌, leb, position};
 ghost use Rattle.eit.specs.Placing.{placing};
 ghost use Rattle.edit_index.specs.Order.{starts_in};
 ghost use Rattle.edit_index.specs.Search.{passed_of, Passed};
@@ -18,18 +18,18 @@ pub struct Places {
     pub other: Place,
 }
 
+// The first entry that is not below `least`.
+fn first_from(entries: &[u64], least: u64) -> Option<usize>
+    ensures { result ≡ position (λ entry. leb least entry) entries.now }
+{
+    entries.iter().position(|entry| least <= *entry)
+}
+
 // How many entries stand before the first whose start is later.
-#[tactic(auto, using(crate::proofs::SearchLaws::pass_none, crate::proofs::SearchLaws::pass_later, crate::proofs::SearchLaws::pass_one, crate::proofs::SearchLaws::pass_all))]
 fn passed_in(entries: &[u64], start: u32) -> usize
     ensures { result ≡ passed_of start entries.now }
 {
-    let least_later = (start as u64 + 1) * SLOT_NUMBERS;
-    for (i, entry) in entries.iter().enumerate() {
-        if least_later <= *entry {
-            return i;
-        }
-    }
-    entries.len()
+    first_from(entries, (start as u64 + 1) * SLOT_NUMBERS).unwrap_or(entries.len())
 }
 
 // The same, some entries at a time, so that the compiler lays out the looks at them one behind the other.
