@@ -23,12 +23,7 @@ pub fn is_in_range(event: Record) -> bool
 }
 
 // Whether the list is sound, in one pass: the next event may start from `least` on, and ids are kept in a set.
-pub fn is_sound(
-    list: &[u32],
-    count: usize,
-    pools: &Pools<'_>,
-    sizes: Sizes,
-) -> bool
+pub fn is_sound(list: &[u32], count: usize, pools: &Pools<'_>, sizes: Sizes) -> bool
     ensures { result ≡ sound sizes pools.now (lent_list list.now count) }
 {
     if sizes.event_limit < count || list.len() / RECORD_SIZE < count {

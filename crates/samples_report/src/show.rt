@@ -54,7 +54,14 @@ fn show_again(
 ) -> io::Result<()> {
     let mut again = [0u8; FILE_SIZE];
     let pools = Pools::new(file, b"");
-    match build_list(caller, records, read.count, &pools, read.identity, &mut again) {
+    match build_list(
+        caller,
+        records,
+        read.count,
+        &pools,
+        read.identity,
+        &mut again,
+    ) {
         Ok(size) if &again[..size] == file => rt.println("built again: the same file"),
         _ => rt.println("built again: another file"),
     }
@@ -82,7 +89,11 @@ fn show_plan(
     pools: &Pools<'_>,
 ) -> io::Result<()> {
     let tables = build::plan(caller, list, count, pools);
-    if tables.as_flattened().iter().all(|sections| *sections == 254) {
+    if tables
+        .as_flattened()
+        .iter()
+        .all(|sections| *sections == 254)
+    {
         return rt.println("plan 254 in every entry");
     }
     for (table, counts) in tables.iter().enumerate() {
