@@ -71,8 +71,8 @@ fn last_section(counts: &[u8]) -> u8
             return first_section(segment) as u8 + (sections - 1);
         }
     }
-    // Not reached: such a table's first segment has sections.
-    0
+    // A table has sections in its first segment.
+    unreachable!()
 }
 
 // The header of the first of a segment's sections, as many as `sections` says.
