@@ -2,15 +2,15 @@
 -- cuts of the buffer at the ends of a write. Assumes nothing.
 use mathlib.Core.Path.{◌≡◌, sym, ap, ◌∙◌}
 use mathlib.Core.List.{List, ◌++◌, append_assoc}
-use Prim.Native.Nat.{ℕ, ◌+◌, ◌*◌, ◌/◌, ◌≤◌, ◌<◌}
+use Prim.Native.Nat.{ℕ, suc, ◌+◌, ◌*◌, ◌/◌, ◌≤◌, ◌<◌}
 use native.Mathlib.Omega.{arith}
 use borrow.Author.Tests.{lt-ltb, le-ltb}
-use lib.ListN.{length, get_or, take, drop, length-append, get_or-append}
+use lib.ListN.{length, get_or, take, drop, set, length-append, get_or-append}
 use lib.Seq.{get_or-take, get_or-drop, drop_at, length-take-le}
 use Rattle.eit.specs.Overwrite.{overwrite}
 use Rattle.eit.specs.Records.{record_size, numbers_of}
 use Rattle.eit.specs.declared.Record.{Record}
-use Rattle.eit.proofs.Overwrite.{over_before, over_after, over_over}
+use Rattle.eit.proofs.Overwrite.{over_before, over_after, over_sets, over_over}
 use Rattle.list_records.specs.Written.{record_written}
 
 -- ---- a write, read and written to
@@ -44,6 +44,23 @@ module _ (d : List ℕ) (at : ℕ) (xs : List ℕ) (inside : at ≤ length d) wh
       rw (append_assoc (take at d) xs rest) (drop_at (take at d) (xs ++ rest) at (length-take-le at d inside)) in
       let size : ahead + length (ys ++ xs) ≡ at + length xs = simp length-append (omega arith) in
       rw (ends, front, back, size, ← append_assoc (take ahead d ++ ys) xs rest, append_assoc (take ahead d) ys xs)
+
+-- ---- the numbers of a record, one by one
+
+pub record_sets : (d : List ℕ) (at : ℕ) (r : Record) → at + record_size ≤ length d
+    → set
+    (set (set (set (set (set d at r.id) (at + 1) r.start) (at + 2) r.duration) (at + 3) r.marks) (at + 4)
+    r.offset)
+    (at + 5)
+    r.chain_length
+    ≡ overwrite d at (numbers_of r)
+record_sets d at r fits =
+    let second : at + 1 ≡ suc at = omega arith in
+    let third : at + 2 ≡ suc (suc at) = omega arith in
+    let fourth : at + 3 ≡ suc (suc (suc at)) = omega arith in
+    let fifth : at + 4 ≡ suc (suc (suc (suc at))) = omega arith in
+    let sixth : at + 5 ≡ suc (suc (suc (suc (suc at)))) = omega arith in
+    rw (second, third, fourth, fifth, sixth) (over_sets d at (numbers_of r) fits)
 
 -- ---- a record in its place
 
