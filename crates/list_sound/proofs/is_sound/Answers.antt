@@ -2,7 +2,6 @@
 -- the tests of the record there. Assumes nothing.
 use Rattle.std.proofs.Common.{sym, ◌∙◌}
 use borrow.Author.Tests.{le-leb, lt-leb}
-use Rattle.eit.specs.Pools.{lent_pools}
 use Rattle.list_sound.proofs.ForwardLaws.{sound_many, sound_short, sound_held}
 use Rattle.list_sound.proofs.PassLaws.{pass_start, pass_end, pass_stop, pass_more}
 use Rattle.list_sound.proofs.is_sound.Goals as goal

@@ -1,6 +1,4 @@
 -- Before each turn the pass stands as `Pass` says. The measure is the records left.
-use Rattle.std.proofs.Common.{◌-◌}
-use Rattle.eit.specs.Pools.{lent_pools}
 use Rattle.list_sound.proofs.PassLaws.{Pass}
 use Rattle.list_sound.proofs.is_sound.Given as goal
 
