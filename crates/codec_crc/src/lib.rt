@@ -55,7 +55,14 @@ pub fn crc_by(tables: &[u32; CRC_ENTRIES], register: u32, bytes: &[u8]) -> u32
     crc_block(tables, r, behind)
 }
 
-// A copy of the eight tables, which are the right ones: one per call of the library, lent down from there.
+// A copy of the eight tables, which are the right ones.
+pub fn tables() -> [u32; CRC_ENTRIES]
+    ensures { result ≡ right_crc_tables }
+{
+    ENTRIES
+}
+
+// The right tables: one copy per call of the library, lent down from there.
 #[derive(Drop)]
 pub struct CrcTables {
     entries: [u32; CRC_ENTRIES],
@@ -64,7 +71,8 @@ pub struct CrcTables {
 
 impl CrcTables {
     pub fn new() -> CrcTables {
-        CrcTables { entries: ENTRIES }
+        let entries = tables();
+        CrcTables { entries }
     }
 
     // The register after the bytes.

@@ -78,7 +78,7 @@ module _ {x : Index} (h : Holds x) (room : x.count < slot_limit) where
           ids = set x.ids r.id free;
           count = elim more [ true ↦ x.count + 1 | false ↦ x.count ];
         })
-        (lt-ltb x.count slot_limit room)
+        (lt-ltb x.count (length x.order) (omega (arith, h.order_size)))
 
     pub add_count : (added place r x).count ≡ x.count + 1
     add_count = ap (λ (y : Index). y.count) added_is

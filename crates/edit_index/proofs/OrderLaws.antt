@@ -2,12 +2,14 @@
 -- free. By the cuts of the order at the place. Assumes nothing.
 use mathlib.Core.Path.{◌≡◌, refl, sym, ap, ap₂, ◌∙◌}
 use mathlib.Core.List.{List, [], ◌∷◌, ◌++◌, append_assoc, append-nil}
+use mathlib.Core.Logic.{⊎_elim}
 use Prim.Native.Nat.{ℕ, zero, suc, ◌+◌, ◌-◌, ◌≤◌, ◌<◌}
 use native.Mathlib.Omega.{arith}
 use borrow.Author.Tests.{lt-ltb, le-ltb, le-leb, lt-leb}
 use lib.ListN.{length, get_or, take, drop, set, length-append, length-take, length-drop}
 use lib.Seq.{take-add, take-take, take_at, drop_at, drop-length, length-take-le, paste, length-paste}
 use Rattle.eit.specs.Overwrite.{overwrite}
+use Rattle.eit.proofs.Test.{le_or_lt}
 use Rattle.eit.proofs.Overwrite.{over_length, over_after, over_one}
 use Rattle.list_records.proofs.WriteLaws.{over_behind, over_ahead}
 use Rattle.edit_index.specs.Order.{slots_from, with_entry, without_entry}
@@ -189,3 +191,13 @@ module _ (d moving : List ℕ) (i : ℕ) (is : moving ≡ overwrite d 0 (slots_f
       ∙ ap (λ (n : ℕ). slots ++ drop n d) end
       ∙ ap (λ (rest : List ℕ). slots ++ rest) (drop-length d)
       ∙ append-nil slots
+
+-- whatever the place, the order keeps its length
+pub taken_length : (order : List ℕ) (count place : ℕ) → length (without_entry order count place) ≡ length order
+taken_length order count place =
+    ⊎_elim
+    (λ held. ⊎_elim (λ beyond. ap length (without_beyond order count place held beyond))
+    (λ there. without_length order count place held there)
+    (le_or_lt count place))
+    (λ short. ap length (without_short order count place short))
+    (le_or_lt count (length order))

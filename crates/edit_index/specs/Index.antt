@@ -82,9 +82,9 @@ pub record Holds (x : Index) : Type 0 where
 abbrev pub free_slot : Index → ℕ
 free_slot x = slot_in (get_or x.order x.count 0)
 
--- one record more, as far as there are slots
-abbrev pub one_more : ℕ → ℕ
-one_more count = elim (ltb count slot_limit) [ true ↦ count + 1 | false ↦ count ]
+-- one record more, as far as the order has entries
+abbrev pub one_more : ℕ → ℕ → ℕ
+one_more entries count = elim (ltb count entries) [ true ↦ count + 1 | false ↦ count ]
 
 -- a record in a place of its records, in that slot
 abbrev pub added : ℕ → Record → Index → Index
@@ -93,7 +93,7 @@ added place r x =
       slots = record_written x.slots (free_slot x) r;
       order = with_entry x.order x.count place (entry_of r.start (free_slot x));
       ids = set x.ids r.id (free_slot x);
-      count = one_more x.count;
+      count = one_more (length x.order) x.count;
     }
 
 -- the record in a place, which has the id, taken out

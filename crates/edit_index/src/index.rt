@@ -1,6 +1,6 @@
 // The index: its records are looked up by id, put in and taken out, made from the list and written back to it. Edit
 // lends it arrays of its stack.
-ghost use Rattle.std.specs.Prelude.{◌≡◌, List, ℕ, length, get_or, set, take};
+ghost use Rattle.std.specs.Prelude.{◌≡◌, get_or, set, take};
 ghost use Rattle.edit_index.specs.Order.{slot_in};
 ghost use Rattle.edit_index.specs.Index.{slot_led, record_led, one_more, added, taken_out, emptied, loaded, stored};
 
@@ -47,11 +47,11 @@ fn set_slot(ids: &mut [u16], id: u32, slot: u16)
     }
 }
 
-// One record more, as far as there are slots.
-fn one_more(count: usize) -> usize
-    ensures { result ≡ one_more count }
+// One record more, as far as the order has entries.
+fn one_more(entries: usize, count: usize) -> usize
+    ensures { result ≡ one_more entries count }
 {
-    if count < SLOTS { count + 1 } else { count }
+    if count < entries { count + 1 } else { count }
 }
 
 impl Index<'_> {
@@ -107,7 +107,7 @@ impl Index<'_> {
         records::write_record(self.slots, slot as usize, event);
         order::insert(self.order, count, place, order::entry_of(event.start, slot));
         set_slot(self.ids, event.id, slot);
-        self.count = one_more(count);
+        self.count = one_more(self.order.len(), count);
     }
 
     // Takes the record in a place, which has the id, out.
@@ -122,14 +122,16 @@ impl Index<'_> {
     // Takes the record in place `from`, which has the id, out and puts a record in place `to` of the others, in its
     // slot. Where there is no such record or place, the order is what `move_entry` leaves, and the record goes to the
     // slot that it returns.
+    #[tactic(auto, using(crate::proofs::OrderLaws::taken_length))]
     pub fn re_place(&mut self, from: usize, to: usize, id: u32, event: Record)
         ensures { self.new ≡ added to event (taken_out from id self.old) }
     {
+        let entries = self.order.len();
         let slot = order::move_entry(self.order, self.count, from, to, event.start);
         records::write_record(self.slots, slot as usize, event);
         set_slot(self.ids, id, NO_SLOT);
         set_slot(self.ids, event.id, slot);
-        self.count = one_more(self.count.saturating_sub(1));
+        self.count = one_more(entries, self.count.saturating_sub(1));
     }
 
     // Makes an index of the list's records, where no id has a slot yet.
