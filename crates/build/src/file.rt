@@ -1,5 +1,5 @@
 // The file written: its segments one behind the other (01, "The file of sections", "Build, Read").
-ghost use Rattle.std.specs.Prelude.{◌≡◌, ◌+◌, ◌≤◌, ◌<◌, length, drop};
+ghost use Rattle.std.specs.Prelude.{◌≡◌, ◌+◌, ◌≤◌, ◌<◌, length};
 ghost use Rattle.eit.specs.Overwrite.{overwrite};
 ghost use Rattle.sections.specs.Section.{section_sizes};
 ghost use Rattle.sections.specs.Encode.{file_bytes};

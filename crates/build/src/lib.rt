@@ -19,7 +19,7 @@ use eit::{Caller, Identity, Sizes};
 mod file;
 mod section;
 
-// Plan's entries for an unsound list.
+// Plan's entries for an unsound list: document 01's number (`plan`).
 const UNSOUND: u8 = 254;
 
 // Plan under any sizes: the counts of all segments, 254 each if the list is unsound.

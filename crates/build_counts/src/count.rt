@@ -26,7 +26,7 @@ pub struct Counted {
     pub need: usize,
 }
 
-// Plan's entry for an unpackable segment.
+// Plan's entry for an unpackable segment: document 01's number (`plan`).
 const UNPACKABLE: u8 = 255;
 
 // The bytes that events have in a section.

@@ -28,6 +28,8 @@ use read_answer::{FileRead, ReadError};
 use refusal::Refusal;
 use roll::Rolled;
 
+// C has no Result and no Option, so what a call says is numbers in a struct.
+
 // What Edit returns: document 01's number and value, and the count then held.
 #[repr(C)]
 #[derive(Clone, Copy)]
@@ -90,7 +92,7 @@ pub struct EitReading {
     pub versions: [u8; TABLES],
 }
 
-// Whom a number names: 0 broadcast, any other cable.
+// Whom a number of C's names: 0 broadcast, any other cable.
 fn caller_of(caller: u8) -> Caller
     ensures { result ≡ caller_of caller }
 {

@@ -1,4 +1,5 @@
-// The static library that C and Rust link: each export is the face's call of that name, with the same clauses.
+// The static library that C and Rust link: each export is the face's call of that name, with the same clauses, since a
+// static library exports no symbol of a crate below it.
 #![tactic(auto)]
 
 ghost use Rattle.std.specs.Prelude.{◌≡◌};

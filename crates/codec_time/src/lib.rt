@@ -2,8 +2,7 @@
 // total: a read is `None` where bytes are truncated or broken, and a write that does not fit leaves all as it was.
 #![tactic(auto)]
 
-ghost use Rattle.std.specs.Prelude.{◌≡◌, ◌&&◌, ◌+◌, ◌*◌, ◌<◌};
-ghost use Rattle.eit.specs.Limits.{minutes_max, seconds_max};
+ghost use Rattle.std.specs.Prelude.{◌≡◌, ◌<◌};
 ghost use Rattle.eit.specs.Time.{time_of, to_bcd, time_bytes, start_bytes, duration_bytes, is_bcd, of_bcd, is_bcd_up_to, is_time, seconds_of};
 ghost use Rattle.codec.specs.Write.{write_at};
 ghost use Rattle.codec_time.specs.TimeRead.{time_at, duration_at, start_at};

@@ -129,7 +129,8 @@ fn move_to(
     Ok(())
 }
 
-// The command at an offset of the script; an UNDO changes nothing.
+// The command at an offset of the script; an UNDO changes nothing. The kinds of commands are closed, so an enum says
+// which it is.
 pub fn carry_out(
     list: &mut [u32],
     index: &mut Index<'_>,

@@ -43,9 +43,9 @@ fn unless_broken(script: &[u8], undo_at: usize) -> ScriptError
 }
 
 // How many commands a script has, if each UNDO has something to strike. Notes for each command whether it is an UNDO:
-// `kept` counts the edits that are not yet struck, one more for an edit and one less for an UNDO, with no branch between
-// the two that the processor would have to guess. The next offset, for which the next turn waits, comes before the set
-// is written.
+// `kept` counts the edits that are not yet struck, one more for an edit and one less for an UNDO, with no branch
+// between the two that the processor would have to guess. The next offset, for which the next turn waits, comes before
+// the set is written.
 pub fn scan(script: &[u8], places: &mut [u64]) -> Result<usize, ScriptError>
     ensures { (result ≡ scan_found (form_of script.now))
         × (places.new ≡ striking_noted 0 places.old 0 (commands_at 0 script.now)) }

@@ -34,8 +34,8 @@ pub fn record_at(list: &[u32], i: usize) -> Record
     }
 }
 
-// Writes record i. Where there is no room for it, all stays. Six stores: with `copy_from_slice` from an array of the six
-// numbers a roll of 2,048 events takes 33 microseconds in place of 24.
+// Writes record i. Where there is no room for it, all stays. Six stores: with `copy_from_slice` from an array of the
+// six numbers a roll of 2,048 events takes 33 microseconds in place of 24.
 pub fn write_record(list: &mut [u32], i: usize, event: Record)
     ensures { list.new ≡ record_written list.old i event }
 {

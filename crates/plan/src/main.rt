@@ -74,7 +74,8 @@ fn plan_text(script: &[u8], text: &mut [u8]) -> usize
     write_within(script, &mut list, &mut output, text)
 }
 
-// Reads on until the input ends or the buffer is full. Returns how many bytes stand at the buffer's front.
+// Reads on until the input ends or the buffer is full; the library's call that does so needs a heap. Returns how many
+// bytes stand at the buffer's front.
 fn read_input<R: Read>(input: &mut R, buffer: &mut [u8]) -> io::Result<usize>
     ensures { IfOk result (λ n. is_read_into n buffer.new) }
 {

@@ -29,7 +29,7 @@ impl<'a> Writer<'a> {
         }
     }
 
-    // A number in decimal, and one byte behind it.
+    // A number in decimal, and one byte behind it. By no format: its bytes are known of a String alone (no heap).
     pub fn number(&mut self, number: usize, after: u8)
         ensures { Writes self.old (number_then number after) self.new }
     {

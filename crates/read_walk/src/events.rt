@@ -1,8 +1,7 @@
 // The events of a section (01, "The file of sections"): its event loop, split by the chain lengths.
 ghost use Rattle.std.specs.Prelude.{◌≡◌, length};
 ghost use Rattle.std.specs.Iterator.{at_most, YieldsFirstRef};
-ghost use Rattle.sections.specs.Decode.{stated_event_size, event_loop, split_events};
-ghost use Rattle.sections.specs.Split.{split_by};
+ghost use Rattle.sections.specs.Decode.{stated_event_size, event_loop};
 ghost use Rattle.read_walk.specs.EventsLeft.{events_left};
 
 use codec::fields;

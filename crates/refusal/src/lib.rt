@@ -1,5 +1,5 @@
-// A call that refuses says a number and a value (01, "When a call says no"). Each call has an error enum of its own, a
-// case for each cause; what its number and its value are, is this trait's.
+// A call that refuses says a number and a value (01, "When a call says no"). The causes are an error enum's cases; what
+// their numbers and values are, is this trait's.
 #![tactic(auto)]
 
 ghost use Rattle.std.specs.Prelude.{◌≡◌, ◌≢◌, ℕ};
