@@ -27,6 +27,13 @@ impl<'a> Model for Pools<'a> {
     ghost invariant = { λ p. Bytes p.day.now × Bytes p.series.now };
 }
 
+// Marks with 2 choose the series pool, all others the day pool.
+fn pool<'a>(day: &'a [u8], series: &'a [u8], marks: u32) -> &'a [u8]
+    ensures { result.now ≡ pool_of (lent_pools day.now series.now) marks }
+{
+    if marks / 2 % 2 == 1 { series } else { day }
+}
+
 // Whether a part lies in its pool; the sum does not wrap.
 fn is_in_pool(pool: &[u8], offset: u32, size: u32) -> bool
     ensures { result ≡ in_pool pool.now offset size }
@@ -34,7 +41,7 @@ fn is_in_pool(pool: &[u8], offset: u32, size: u32) -> bool
     offset as usize + size as usize <= pool.len()
 }
 
-// A part of a pool; outside it, an empty one.
+// A part of a pool; outside it, an empty one (the definition `part`, so no `Option`).
 fn part(pool: &[u8], offset: u32, size: u32) -> &[u8]
     ensures { result.now ≡ part pool.now offset size }
 {
@@ -47,6 +54,13 @@ fn part(pool: &[u8], offset: u32, size: u32) -> &[u8]
     }
 }
 
+// That part of the chosen pool: document 01's chooser, of two slices.
+pub fn choose<'a>(day: &'a [u8], series: &'a [u8], marks: u32, offset: u32, size: u32) -> &'a [u8]
+    ensures { result.now ≡ choose (lent_pools day.now series.now) marks offset size }
+{
+    part(pool(day, series, marks), offset, size)
+}
+
 impl<'a> Pools<'a> {
     pub fn new(day: &'a [u8], series: &'a [u8]) -> Self
         ensures { result ≡ lent_pools day.now series.now }
@@ -54,29 +68,19 @@ impl<'a> Pools<'a> {
         Pools { day, series }
     }
 
-    // Marks with 2 choose the series pool, all others the day pool.
-    fn pool(&self, marks: u32) -> &'a [u8]
-        ensures { result.now ≡ pool_of self.now marks }
-    {
-        if marks / 2 % 2 == 1 {
-            self.series
-        } else {
-            self.day
-        }
-    }
-
     // That part of the chosen pool.
     pub fn choose(&self, marks: u32, offset: u32, size: u32) -> &'a [u8]
         ensures { result.now ≡ choose self.now marks offset size }
     {
-        part(self.pool(marks), offset, size)
+        choose(self.day, self.series, marks, offset, size)
     }
 
     // Whether a record's part lies in its pool and is a chain.
     pub fn has_chain(&self, event: Record) -> bool
         ensures { result ≡ has_chain self.now event }
     {
-        if !is_in_pool(self.pool(event.marks), event.offset, event.chain_length) {
+        let chosen = pool(self.day, self.series, event.marks);
+        if !is_in_pool(chosen, event.offset, event.chain_length) {
             return false;
         }
         chain::is_chain(self.choose(event.marks, event.offset, event.chain_length))
