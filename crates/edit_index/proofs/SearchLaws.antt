@@ -5,7 +5,7 @@ use mathlib.Core.Logic.{⊎_elim}
 use mathlib.Core.List.{List, [], ◌∷◌, ◌++◌, map-append}
 use Prim.Native.Nat.{ℕ, suc, ◌+◌, ◌-◌, ◌*◌, ◌≤◌, ◌<◌, min}
 use native.Mathlib.Omega.{arith}
-use lib.ListN.{length, take, drop, length-drop, length-map, take-append-drop}
+use lib.ListN.{length, take, drop, length-take, length-drop, length-map, take-append-drop}
 use lib.Seq.{drop-drop, take_all, length-take-le}
 use Rattle.std.specs.Prelude.{Some, None, cond, position, leb}
 use Rattle.std.specs.List.{position_or_len}
@@ -22,6 +22,11 @@ use Rattle.edit_index.specs.Search.{passed_of, Passed}
 
 starts_length : (es : List ℕ) → length (starts_in es) ≡ length es
 starts_length es = length-map es start_in
+
+-- the first `count` entries have as many starts, or as many as there are entries
+pub held_starts_holds : (order : List ℕ) (count : ℕ) {many : ℕ} → many ≡ min count (length order)
+    → length (starts_in (take count order)) ≡ many
+held_starts_holds order count first = starts_length (take count order) ∙ length-take count order ∙ sym first
 
 abbrev place_in : Place → ℕ
 place_in p = p.place
