@@ -1,6 +1,6 @@
 -- `plan::write_built` meets its contract: Build's outcome decides between a refusal and the listing of the file, which
 -- lies in the output. Assumes nothing.
-use Rattle.std.proofs.Common.{rules, ◌≡◌, ℕ, List, ◌≤◌, length, take, length-take-le, refl, sym, ap, ◌∙◌, arith}
+use Rattle.std.proofs.Common.{rules, ◌≡◌, ℕ, List, ◌≤◌, length, take, length-take-le, refl, sym, ◌∙◌, arith}
 use mathlib.Core.Path.{ap₂}
 use Rattle.eit.proofs.Fields.{bytes_all, bytes_take}
 use Rattle.eit.specs.Sizes.{broadcast}

@@ -1,5 +1,4 @@
 -- `samples_report::show::build_list` meets its contract: a built file lies in the output. Assumes nothing.
-use Rattle.std.proofs.Common.{length, sym}
 use Rattle.eit.specs.Sizes.{sizes_of}
 use Rattle.eit.specs.Records.{lent_list}
 use Rattle.build_answer.proofs.Inside.{ok_inside}
