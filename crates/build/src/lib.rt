@@ -3,9 +3,14 @@
 
 ghost use Rattle.std.specs.Prelude.{◌≡◌};
 ghost use Rattle.eit.specs.Sizes.{sizes_of};
-ghost use Rattle.eit.specs.Records.{lent_list};
+ghost use Rattle.eit.specs.Overwrite.{overwrite};
+ghost use Rattle.eit.specs.Records.{lent_list, records_in};
+ghost use Rattle.eit.specs.Events.{events_in};
+ghost use Rattle.sections.specs.Encode.{file_bytes};
 ghost use Rattle.schedule.specs.Plan.{plan};
 ghost use Rattle.schedule.specs.Build.{are_versions, build};
+ghost use Rattle.schedule.specs.SectionsOf.{sections_of};
+ghost use Rattle.build.specs.Writing.{Writable};
 ghost use Rattle.build_answer.specs.Outcome.{outcome_of};
 
 use crate::section::Writer;
@@ -58,6 +63,32 @@ fn are_versions(versions: &[u8]) -> bool
     versions.iter().all(|version| *version <= VERSION_MAX)
 }
 
+// The whole file of a list whose sections are counted. A function of its own, so that a refusal clears no room for the
+// tables of CRC_32.
+fn write_file(
+    list: &[u32],
+    count: usize,
+    pools: &Pools<'_>,
+    base_day: u32,
+    identity: Identity,
+    out: &mut [u8],
+    sizes: Sizes,
+    counts: &[u8],
+)
+    requires { Writable sizes identity (events_in pools.now (records_in count list.now)) counts.now out.old }
+    ensures { out.new
+        ≡ overwrite out.old 0
+        (file_bytes base_day (sections_of sizes identity (events_in pools.now (records_in count list.now)))) }
+{
+    let writer = Writer {
+        base_day,
+        list,
+        pools,
+        crc_tables: &CrcTables::new(),
+    };
+    writer.write_file(out, identity, count, sizes, counts);
+}
+
 // Build under any sizes. Its refusals in their order, 1, 2, 12, 10, 11, come before anything is written.
 fn build_within(
     list: &[u32],
@@ -88,13 +119,16 @@ fn build_within(
     if out.len() < need {
         return Err(BuildError::OutputShort(need));
     }
-    let writer = Writer {
-        base_day,
+    write_file(
         list,
+        count,
         pools,
-        crc_tables: &CrcTables::new(),
-    };
-    writer.write_file(out, identity, count, sizes, &counted.counts);
+        base_day,
+        identity,
+        out,
+        sizes,
+        &counted.counts,
+    );
     Ok(need)
 }
 

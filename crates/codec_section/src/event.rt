@@ -17,14 +17,16 @@ fn status_bits(marks: u32) -> usize
     (marks / 4 % 2 * 5 * 0x2000 + marks % 2 * 0x1000) as usize
 }
 
-// Copies a chain.
+// Copies a chain, byte by byte: `copy_from_slice` calls memmove here, which the C library would have to bring.
 fn write_chain(out: &mut [u8], at: usize, chain: &[u8])
     ensures { out.new ≡ write_at out.old at chain.now }
 {
     if !fields::is_within(out.len(), at, chain.len()) {
         return;
     }
-    out[at..at + chain.len()].copy_from_slice(chain);
+    for (i, byte) in chain.iter().enumerate() {
+        out[at + i] = *byte;
+    }
 }
 
 // The event of a record, with the chain that was chosen for it. A field holds only the bits that it has room for:
