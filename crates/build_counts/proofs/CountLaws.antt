@@ -93,7 +93,7 @@ module _ (sizes : Sizes) (es : List Event) (rises : T (rising es)) (index : ℕ)
       ∙ ap (λ (ps : List (List Event)). length ps) (parts_are sizes es index)))
       (test_or (is_unpackable sizes es index))
 
-  unpackable_is : is_unpackable sizes es index ≡ eqb (section_count sizes es index) 255
+  pub unpackable_is : is_unpackable sizes es index ≡ eqb (section_count sizes es index) 255
   unpackable_is =
       ⊎_elim
       (λ fails. true_is (is_unpackable sizes es index) fails
@@ -114,7 +114,7 @@ module _ (sizes : Sizes) (es : List Event) (rises : T (rising es)) (index : ℕ)
 -- outside the range there is nothing to count
 module _ (sizes : Sizes) (es : List Event) (rises : T (rising es)) (index : ℕ)
     (outside : T (not (is_inside es index))) where
-  outside_packable : T (not (is_unpackable sizes es index))
+  pub outside_packable : T (not (is_unpackable sizes es index))
   outside_packable =
       ⊎_elim
       (λ fails. absurd

@@ -1,6 +1,6 @@
 -- What one section takes, event by event: the next event is taken if it fits in what is left of the room.
 -- Assumes nothing.
-use mathlib.Core.Path.{◌≡◌, sym, ap, ap₂, ◌∙◌}
+use mathlib.Core.Path.{◌≡◌, refl, sym, ap, ap₂, ◌∙◌}
 use mathlib.Core.Logic.{⊎_elim}
 use mathlib.Core.List.{List, [], ◌∷◌}
 use Prim.Native.Nat.{ℕ, suc, ◌+◌, ◌-◌, ◌*◌, ◌≤◌, ◌<◌}
@@ -25,6 +25,9 @@ added bytes c = record { to = c.to; bytes = bytes + c.bytes }
 abbrev cut : ℕ → ℕ → Cut
 cut to bytes = record { to = to; bytes = bytes }
 
+cut_start : (from room : ℕ) (es : List Event) → cut_of from room es ≡ added 0 (cut_of from (room - 0) es)
+cut_start from room es = let all : room - 0 ≡ room = omega arith in rw all (ap₂ cut refl (omega arith))
+
 cut_end : (to room bytes : ℕ) → added bytes (cut_of to room []) ≡ record { to = to; bytes = bytes }
 cut_end to room bytes = ap₂ cut (omega arith) (omega arith)
 
@@ -47,6 +50,10 @@ pub record CutSoFar (pools : Pools) (numbers : List ℕ) (from end room to bytes
   pub within : bytes ≤ room
   pub same : cut_of from room (events_between pools numbers from end)
       ≡ added bytes (cut_of to (room - bytes) (events_between pools numbers to end))
+
+pub pass_start : {pools : Pools} {numbers : List ℕ} {from end room : ℕ} → CutSoFar pools numbers from end room from 0
+pass_start {pools} {numbers} {from} {end} {room} =
+    record { within = omega arith; same = cut_start from room (events_between pools numbers from end) }
 
 module _ {pools : Pools} {numbers : List ℕ} {from end room to bytes : ℕ}
     (so_far : CutSoFar pools numbers from end room to bytes) where

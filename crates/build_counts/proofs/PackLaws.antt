@@ -47,6 +47,19 @@ pub record PackedSoFar (pools : Pools) (numbers : List ℕ) (from end room n byt
   pub reached : from + reach event_size room 8 (events_between pools numbers from end)
       ≡ at + reach event_size room (8 - n) (events_between pools numbers at end)
 
+pub pack_start : {pools : Pools} {numbers : List ℕ} {from end room : ℕ} → from < end → room < 0x1_0000
+    → PackedSoFar pools numbers from end room 0 0 from
+pack_start some narrow =
+    record {
+      some = some;
+      few = omega arith;
+      narrow = narrow;
+      small = omega arith;
+      count = omega arith;
+      sizes = omega arith;
+      reached = refl;
+    }
+
 module _ {pools : Pools} {numbers : List ℕ} {from end room n bytes at : ℕ}
     (so_far : PackedSoFar pools numbers from end room n bytes at) where
   abbrev all : List Event

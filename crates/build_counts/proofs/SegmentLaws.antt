@@ -25,6 +25,9 @@ pub record LeadSoFar (numbers : List ℕ) (from count index end : ℕ) : Type 0 
       → from + leading index (events_between pools numbers from count)
       ≡ end + leading index (events_between pools numbers end count)
 
+pub lead_start : (numbers : List ℕ) (from count index : ℕ) → LeadSoFar numbers from count index from
+lead_start numbers from count index = record { same = λ pools. refl }
+
 module _ {numbers : List ℕ} {from count index end : ℕ} (so_far : LeadSoFar numbers from count index end) where
   -- the place reached is `count`, or `from` if that is behind it
   pub lead_end : count ≤ end → (from ≤ count → end ≤ count) → {last : ℕ} → (from ≤ count → last ≡ count)

@@ -3,8 +3,8 @@ use mathlib.Core.Path.{◌≡◌, refl, sym, ap, ap₂, ◌∙◌}
 use mathlib.Core.List.{List, [], ◌∷◌, ◌++◌, flatten}
 use Prim.Native.Nat.{ℕ, zero, suc, ◌+◌, ◌*◌, ◌/◌, ◌≤◌, ◌<◌}
 use native.Mathlib.Omega.{arith}
-use lib.ListN.{length, get_or, take, drop}
-use lib.Seq.{drop-cons, drop-drop}
+use lib.ListN.{length, get_or, take, drop, length-append}
+use lib.Seq.{drop-cons, drop-drop, take-append_seam, drop-append_seam}
 use Rattle.std.specs.List.{flat_map}
 use Rattle.std.specs.Simd.{first_chunks}
 use Rattle.sections.specs.Each.{each}
@@ -67,3 +67,40 @@ pub joined_is : (rows : List (List ℕ)) → flat_map (λ x. x) rows ≡ flatten
 unfolding flatten
 joined_is [] = refl
 joined_is (row ∷ rows) = ap (λ (ns : List ℕ). row ++ ns) (joined_is rows)
+
+-- sixteen tables of thirty-two
+abbrev Wide : List (List ℕ) → Type 0
+Wide rows = (table : ℕ) → table < length rows → length (get_or rows table []) ≡ 32
+
+abbrev pub Tables : List (List ℕ) → Type 0
+Tables rows = (length rows ≡ 16) × Wide rows
+
+joined_length : (rows : List (List ℕ)) → Wide rows → length (flatten rows) ≡ length rows * 32
+unfolding flatten
+joined_length [] wide = refl
+joined_length (row ∷ rows) wide =
+    let first : length row ≡ 32 = wide 0 (omega arith) in
+    let rest : length (flatten rows) ≡ length rows * 32 = joined_length rows (λ t low. wide (suc t) (omega arith)) in
+    length-append row (flatten rows) ∙ omega (arith, first, rest)
+
+joined_chunks : (rows : List (List ℕ)) → Wide rows → first_chunks 32 (length rows) (flatten rows) ≡ rows
+unfolding flatten
+joined_chunks [] wide = refl
+joined_chunks (row ∷ rows) wide =
+    let first : length row ≡ 32 = wide 0 (omega arith) in
+    let behind : List ℕ = flatten rows in
+    ap₂ (λ (xs : List ℕ) (xss : List (List ℕ)). xs ∷ xss)
+    (ap (λ (n : ℕ). take n (row ++ behind)) (sym first) ∙ take-append_seam row behind)
+    (ap (first_chunks 32 (length rows))
+    (ap (λ (n : ℕ). drop n (row ++ behind)) (sym first) ∙ drop-append_seam row behind)
+    ∙ joined_chunks rows (λ t low. wide (suc t) (omega arith)))
+
+module _ (rows : List (List ℕ)) (is : Tables rows) where
+  -- the tables of their own counts joined
+  pub tabled_joined : tabled (λ (index : ℕ). get_or (flatten rows) index 0) ≡ rows
+  tabled_joined =
+      let sixteen : length (flatten rows) / 32 ≡ 16 = omega (arith, joined_length rows is.1, is.0) in
+      let all : length (flatten rows) / 32 ≡ length rows = sixteen ∙ sym is.0 in
+      sym (tables_are (flatten rows) sixteen)
+      ∙ ap (λ (n : ℕ). first_chunks 32 n (flatten rows)) all
+      ∙ joined_chunks rows is.1

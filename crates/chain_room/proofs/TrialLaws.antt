@@ -92,6 +92,15 @@ module _ (room : ℕ) (before : Filling) (behind : List Event) where
     pub below : (n : ℕ) → n < low → T (passes n)
     pub above : (n : ℕ) → high ≤ n → n ≤ most → T (not (passes n))
 
+  pub halving_start : {high : ℕ} → high ≡ most + 1 → Halving 0 high
+  halving_start all =
+      record {
+        order = omega arith;
+        few = omega arith;
+        below = λ n less. absurd (omega arith);
+        above = λ n least few. absurd (omega arith);
+      }
+
   -- a trial of a length
   module _ {low high : ℕ} (h : Halving low high) (size : ℕ) {held : Bool} (shows : held ≡ passes size) where
     pub halving_held : size < high → held ≡ true → Halving (size + 1) high

@@ -39,6 +39,9 @@ module _ (sizes : Sizes) (pools : Pools) (d : List ℕ) (count base : ℕ) (is :
     stay = next_day (records_in count d)
 
     module _ {kept : ℕ} (counted : kept ≡ length stay) where
+      pub kept_few : kept ≤ count
+      kept_few = omega (arith, counted, stay_few count d)
+
       pub rolled : base < base_day_max → {moved out : List ℕ} → moved ≡ overwrite d 0 (numbers_of_all stay)
           → out ≡ overwrite moved (kept * record_size) (replicate (count * record_size - kept * record_size) 0)
           → roll sizes pools (lent_list d count) base
