@@ -13,7 +13,7 @@ ghost use Rattle.edit.specs.Indexed.{place_left, Kept, Leaves};
 use codec::pools::Pools;
 use edit_answer::EditError;
 use edit_index::index::Index;
-use edit_index::{neighbours, search};
+use edit_index::search;
 use edit_scan::command;
 use edit_scan::command::Command;
 use eit::{Caller, Record, Sizes, Time};
@@ -63,7 +63,7 @@ fn put(
     }
     let count = index.count();
     let found = search::place_of(index.entries(), event.start);
-    if neighbours::overlaps_neighbour(index, count, found.place, event) {
+    if index.overlaps_neighbour(count, found.place, event) {
         return Err(EditError::Overlap(at));
     }
     if limit_of(list, caller) <= count {
@@ -122,7 +122,7 @@ fn move_to(
     let own = places.one.place - 1;
     let to = place_left(places.other.place, places.one.place);
     let moved = Record { start, ..event };
-    if neighbours::overlaps_neighbour(index, own, to, moved) {
+    if index.overlaps_neighbour(own, to, moved) {
         return Err(EditError::Overlap(at));
     }
     index.re_place(own, to, id, moved);

@@ -29,7 +29,8 @@ use Rattle.script.proofs.Places.{find_at}
 use Rattle.edit_index.specs.Order.{slot_in, slots_in}
 use Rattle.edit_index.specs.Index.{Index}
 use Rattle.edit_index.specs.Index.{slot_limit, id_limit, no_slot, slot_record, held_slots, held_starts}
-use Rattle.edit_index.specs.Index.{held_records, slot_led, record_led, AllBelow, Holds, indexed_numbers, indexed_list}
+use Rattle.edit_index.specs.Index.{held_records, led_by, slot_led, record_led, AllBelow, Holds}
+use Rattle.edit_index.specs.Index.{indexed_numbers, indexed_list}
 use Rattle.edit_index.proofs.SlotLaws.{below_at, below_front, map_joined, map_at, slot_none, slot_some}
 
 module _ {x : Index} (h : Holds x) where
@@ -117,14 +118,14 @@ module _ (x : Index) (id : ℕ) where
 
   module _ (none : get_or x.ids id no_slot ≡ no_slot) where
     slot_away : slot_led x id ≡ None
-    slot_away = rw (slot_led, eq-eqb slot no_slot none)
+    slot_away = rw (slot_led, led_by, eq-eqb slot no_slot none)
 
     record_away : record_led x id ≡ None
     record_away = rw (record_led, eq-eqb slot no_slot none)
 
   module _ (some : get_or x.ids id no_slot ≡ no_slot → ⊥) where
     slot_there : slot_led x id ≡ Some slot
-    slot_there = rw (slot_led, ne_eqb slot no_slot some)
+    slot_there = rw (slot_led, led_by, ne_eqb slot no_slot some)
 
     record_there : record_led x id ≡ Some (slot_record x.slots slot)
     record_there = rw (record_led, ne_eqb slot no_slot some)

@@ -29,6 +29,10 @@ pub record Index : Type 0 where
   pub ids : List ℕ
   pub count : ℕ
 
+-- the index that a call is lent
+abbrev pub lent_index : List ℕ → List ℕ → List ℕ → ℕ → Index
+lent_index slots order ids count = record { slots = slots; order = order; ids = ids; count = count }
+
 -- the record in a slot
 abbrev pub slot_record : List ℕ → ℕ → Record
 slot_record slots s = front_record (drop (s * record_size) slots)
@@ -43,10 +47,13 @@ held_starts x = starts_in (take x.count x.order)
 abbrev pub held_records : Index → List Record
 held_records x = map (slot_record x.slots) (held_slots x)
 
+-- the slot to which the ids lead an id
+abbrev pub led_by : List ℕ → ℕ → Option ℕ
+led_by ids id = elim (eqb (get_or ids id no_slot) no_slot) [ true ↦ None | false ↦ Some (get_or ids id no_slot) ]
+
 -- the slot that an id leads to, and the record in it
 abbrev pub slot_led : Index → ℕ → Option ℕ
-slot_led x id =
-    elim (eqb (get_or x.ids id no_slot) no_slot) [ true ↦ None | false ↦ Some (get_or x.ids id no_slot) ]
+slot_led x id = led_by x.ids id
 
 abbrev pub record_led : Index → ℕ → Option Record
 record_led x id =

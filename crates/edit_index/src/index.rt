@@ -1,10 +1,12 @@
 // The index: its records are looked up by id, put in and taken out, made from the list and written back to it. Edit
-// lends it arrays of its stack.
-ghost use Rattle.std.specs.Prelude.{◌≡◌, get_or, set, take};
+// lends it arrays of its stack. What needs a part of the arrays alone is a function on these, too.
+ghost use Rattle.std.specs.Prelude.{◌≡◌, ℕ, ◌-◌, List, get_or, set, take};
 ghost use Rattle.edit_index.specs.Order.{slot_in};
-ghost use Rattle.edit_index.specs.Index.{slot_led, record_led, one_more, added, taken_out, emptied, loaded, stored};
+ghost use Rattle.edit_index.specs.Index.{lent_index, led_by, slot_led, record_led, one_more, added, taken_out};
+ghost use Rattle.edit_index.specs.Index.{emptied, loaded, stored};
+ghost use Rattle.edit_index.specs.Neighbours.{overlaps_neighbour};
 
-use crate::order;
+use crate::{neighbours, order};
 use eit::Record;
 use eit::limits::EVENTS_MAX;
 use list_records::records;
@@ -47,6 +49,38 @@ fn set_slot(ids: &mut [u16], id: u32, slot: u16)
     }
 }
 
+// The slot to which the ids lead an id.
+pub fn slot_of(ids: &[u16], id: u32) -> Option<u16>
+    ensures { result ≡ led_by ids.now id }
+{
+    let i = id as usize;
+    if i < ids.len() && ids[i] != NO_SLOT {
+        Some(ids[i])
+    } else {
+        None
+    }
+}
+
+// Takes record `place` of `count` records, which has the id, out.
+pub fn take_out(order: &mut [u64], ids: &mut [u16], count: usize, place: usize, id: u32)
+    ensures { (slots : List ℕ) → lent_index slots order.new ids.new (count - 1)
+        ≡ taken_out place id (lent_index slots order.old ids.old count) }
+{
+    order::remove(order, count, place);
+    set_slot(ids, id, NO_SLOT);
+}
+
+// Writes the records of an index to the front of the list, in their order.
+pub fn store(list: &mut [u32], slots: &[u32], order: &[u64], count: usize)
+    ensures { (ids : List ℕ) → list.new
+        ≡ stored list.old (lent_index slots.now order.now ids count) count }
+{
+    for i in 0..count {
+        let slot = order::slot_at(order, i);
+        records::write_record(list, i, records::record_at(slots, slot as usize));
+    }
+}
+
 // One record more, as far as the order has entries.
 fn one_more(entries: usize, count: usize) -> usize
     ensures { result ≡ one_more entries count }
@@ -73,12 +107,7 @@ impl Index<'_> {
     pub fn slot_of(&self, id: u32) -> Option<u16>
         ensures { result ≡ slot_led self.now id }
     {
-        let i = id as usize;
-        if i < self.ids.len() && self.ids[i] != NO_SLOT {
-            Some(self.ids[i])
-        } else {
-            None
-        }
+        slot_of(self.ids, id)
     }
 
     // The record that has the id.
@@ -114,8 +143,7 @@ impl Index<'_> {
     pub fn take_out(&mut self, place: usize, id: u32)
         ensures { self.new ≡ taken_out place id self.old }
     {
-        order::remove(self.order, self.count, place);
-        set_slot(self.ids, id, NO_SLOT);
+        take_out(self.order, self.ids, self.count, place, id);
         self.count = self.count.saturating_sub(1);
     }
 
@@ -149,9 +177,15 @@ impl Index<'_> {
     pub fn store(&self, list: &mut [u32])
         ensures { list.new ≡ stored list.old self.now self.now.count }
     {
-        for i in 0..self.count {
-            let slot = self.slot_at(i);
-            records::write_record(list, i, records::record_at(self.slots, slot as usize));
-        }
+        store(list, self.slots, self.order, self.count);
+    }
+
+    // Whether an event overlaps one of the two records beside a place of the others, by `overlaps_neighbour` of
+    // `neighbours`. Inlined as that is.
+    #[inline(always)]
+    pub fn overlaps_neighbour(&self, own: usize, place: usize, event: Record) -> bool
+        ensures { result ≡ overlaps_neighbour event self.now own place }
+    {
+        neighbours::overlaps_neighbour(self.slots, self.order, self.count, own, place, event)
     }
 }
