@@ -52,11 +52,11 @@ module _ (sizes : Sizes) (pools : Pools) (list : EventList) where
     edit_none (b ∷ script) z = absurd (omega arith)
 
     module _ (script : List ℕ) where
-      edit_3 : (at : ℕ) → scan_found (form_of script) ≡ Err (Broken at)
+      pub edit_3 : (at : ℕ) → scan_found (form_of script) ≡ Err (Broken at)
           → edit sizes pools list script ≡ refusal 3 at list
       edit_3 at f = edit_broken sizes pools list script its-sound at (scan_broken_is script at f)
 
-      edit_4 : (at : ℕ) → scan_found (form_of script) ≡ Err (NothingToUndo at)
+      pub edit_4 : (at : ℕ) → scan_found (form_of script) ≡ Err (NothingToUndo at)
           → edit sizes pools list script ≡ refusal 4 at list
       edit_4 at f =
           edit_nothing sizes pools list script its-sound (commands_at 0 script) at

@@ -6,17 +6,19 @@ use mathlib.Core.List.{List, ◌∷◌}
 use Rattle.std.specs.Prelude.{Ok}
 use Prim.Native.Nat.{ℕ, ◌+◌, ◌*◌, ◌≤◌, ◌<◌}
 use native.Mathlib.Omega.{arith}
+use lib.Dec.{T}
 use lib.ListN.{length, drop}
 use Rattle.eit.specs.declared.Sizes.{Sizes}
 use Rattle.eit.specs.Pools.{Pools}
 use Rattle.eit.specs.Records.{EventList, record_size}
+use Rattle.eit.specs.Sound.{sound}
 use Rattle.codec.specs.Seen.{is_seen}
 use Rattle.script.specs.Form.{Command}
 use Rattle.edit_index.specs.Index.{Index}
 use Rattle.edit_index.specs.Index.{Holds, indexed_list}
 use Rattle.edit.specs.Run.{run_one}
 use Rattle.edit.specs.Indexed.{Kept, Leaves}
-use Rattle.edit.proofs.ForwardLaws.{Carried, carried_past, carried_on}
+use Rattle.edit.proofs.ForwardLaws.{Carried, carried_none, carried_past, carried_on}
 use Rattle.edit.proofs.SoundLaws.{kept_sound}
 
 module _ (sizes : Sizes) (pools : Pools) (first : EventList) (places : List ℕ) (cs : List Command) where
@@ -63,3 +65,10 @@ module _ (sizes : Sizes) (pools : Pools) (first : EventList) (places : List ℕ)
             fits = leaves.fits;
             carried = carried_on sizes pools first places cs r.carried some c split e _ leaves.says refl;
           }
+
+pub running_first : (sizes : Sizes) (pools : Pools) (places : List ℕ) (cs : List Command) (list : List ℕ) (x : Index)
+    → Holds x → x.count * record_size ≤ length list
+    → T (sound sizes pools (indexed_list list x))
+    → Running sizes pools (indexed_list list x) places cs (length list) list x 0
+running_first sizes pools places cs list x h fits t =
+    record { same_size = refl; holds = h; fits = fits; carried = carried_none sizes pools _ places cs t }

@@ -20,6 +20,7 @@ use Rattle.eit.specs.Records.{EventList, record_size, records_of, numbers_of_all
 use Rattle.eit.specs.Sound.{ids_of, starts_of}
 use Rattle.eit.specs.declared.Place.{Place}
 use Rattle.eit.specs.declared.Record.{Record}
+use Rattle.eit.proofs.Find.{position_length}
 use Rattle.eit.proofs.Overwrite.{over_again}
 use Rattle.eit.proofs.Records.{numbers_length}
 use Rattle.eit.proofs.Test.{le_or_lt}
@@ -137,6 +138,9 @@ module _ (sizes : Sizes) (pools : Pools) (list : List ℕ) (x : Index) (k : Kept
 
           pub its_position : p.place - 1 ≡ position_of id (held_records x)
           its_position = omega (arith, its_place)
+
+          pub some_records : p.place ≤ x.count
+          some_records = omega (arith, its_place, position_length id rs present, records_length)
 
           module _ (y : Index) (out : y ≡ taken_out (p.place - 1) id x) where
             pub out_records : held_records y ≡ without id (held_records x)

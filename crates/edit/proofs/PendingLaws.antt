@@ -53,7 +53,14 @@ abbrev pub unmet_byte : ℕ → ℕ → ℕ
 unmet_byte kept code = bool_byte (ltb kept (undo_byte code))
 
 module _ (kept code : ℕ) where
-  -- each command counts once
+  -- what is taken away is there
+  pub pending_room : 2 * undo_byte code ≤ kept + 1 + unmet_byte kept code
+  pending_room =
+      ⊎_elim (λ h. omega (arith, byte_few (eqb code 0x04)))
+      (λ h. omega (arith, ap bool_byte (lt-ltb kept (undo_byte code) h), byte_few (eqb code 0x04)))
+      (le_or_lt (undo_byte code) kept)
+
+  -- and each command counts once
   pub pending_few : (over : ℕ)
       → over + unmet_byte kept code + (kept + 1 + unmet_byte kept code - 2 * undo_byte code) ≤ over + kept + 1
   pending_few over =

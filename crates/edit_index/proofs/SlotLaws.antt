@@ -22,6 +22,12 @@ use Rattle.list_records.specs.Written.{record_written}
 use Rattle.list_records.proofs.WriteLaws.{read_before, read_after, written_is}
 use Rattle.edit_index.specs.Index.{no_slot, slot_record, slot_of, AllBelow}
 
+-- the number named for a place beyond the end does not matter before it
+pub default_free : (ns : List ℕ) (k m n : ℕ) → k < length ns → get_or ns k m ≡ get_or ns k n
+default_free [] k m n h = absurd (omega arith)
+default_free (s ∷ ns) zero m n h = refl
+default_free (s ∷ ns) (suc k) m n h = default_free ns k m n (omega arith)
+
 -- ---- slots below a number
 
 module _ (n : ℕ) where

@@ -4,17 +4,17 @@
 -- In order: the commands of a script with a form; whole commands; the form from an offset on; edits and UNDOs.
 -- Assumes nothing.
 use mathlib.Core.Path.{◌≡◌, refl, sym, ap, ◌∙◌}
-use mathlib.Core.Bool.{not}
+use mathlib.Core.Bool.{true, false, not}
 use mathlib.Core.Logic.{⊎_elim}
 use mathlib.Core.List.{List, [], ◌∷◌}
-use Prim.Native.Nat.{ℕ, zero, suc, ◌+◌, ◌-◌, ◌≤◌, ◌<◌}
+use Prim.Native.Nat.{ℕ, zero, suc, ◌+◌, ◌-◌, ◌*◌, ◌/◌, ◌%◌, ◌^◌, ◌≤◌, ◌<◌}
 use native.Mathlib.Nat.{zero-add}
 use native.Mathlib.Omega.{arith}
 use Rattle.std.specs.Prelude.{None, Some, Result, Ok, Err}
 use lib.Dec.{T, eqb, ltb, leb, ltb→lt}
 use lib.ListN.{length, get_or, drop, length-drop, drop_of_length-le}
 use lib.Seq.{drop-cons, drop-drop}
-use borrow.Author.Tests.{lt-ltb}
+use borrow.Author.Tests.{lt-ltb, le-ltb, ne_eqb}
 use Rattle.eit.proofs.Test.{and_left, and_right, true_is, false_is, test_or, le_or_lt}
 use Rattle.script.specs.Form.{Edit, Command, do_edit, undo, is_command, operand_bytes, command_of, is_whole}
 use Rattle.script.specs.Form.{Form, commands, broken, before, form_from, form_of, offset_of}
@@ -103,6 +103,20 @@ module _ (at : ℕ) (script : List ℕ) where
       let room : operand_bytes (get_or script at 0) ≤ length script - suc at =
       rw length-drop at (whole_room (get_or script at 0) (drop (suc at) script) (whole_is whole)) in
       omega (arith, whole_here whole)
+
+  -- what the code's tests say
+  pub whole_beyond : length script ≤ at → is_whole_at at script ≡ false
+  whole_beyond h = rw (le-ltb at (length script) h)
+
+  pub whole_unknown : at < length script → is_command (get_or script at 0) ≡ false → is_whole_at at script ≡ false
+  whole_unknown h e = rw (lt-ltb at (length script) h, e)
+
+  pub whole_known : at < length script
+      → is_command (get_or script at 0) ≡ true
+      → is_whole_at at script ≡ leb (operand_bytes (get_or script at 0)) (length script - at - 1)
+  whole_known h e =
+      let left : length script - suc at ≡ length script - at - 1 = omega arith in
+      rw (lt-ltb at (length script) h, e, length-drop, left)
 
   -- what the code is told: the byte there, of a whole command
   pub code_is : (code : ℕ) → Some code ≡ whole_code_at at script → code ≡ get_or script at 0
@@ -232,3 +246,20 @@ module _ (at : ℕ) (script : List ℕ) (next : ℕ) (e : next ≡ at + (1 + ope
   commands_undo h =
       commands_next at script next e whole
       ∙ ap (λ (c : Command). c ∷ commands_at next script) (undo_of at (drop (suc at) script) (get_or script at 0) h)
+
+-- any other byte than those of the edits
+module _ (code : ℕ) (p : code ≡ 0x01 → ⊥) (w : code ≡ 0x02 → ⊥) (m : code ≡ 0x03 → ⊥) where
+  pub other_operands : operand_bytes code ≡ 0
+  other_operands = rw (operand_bytes, ne_eqb code 0x01 p, ne_eqb code 0x02 w, ne_eqb code 0x03 m)
+
+  pub other_command : (at : ℕ) (bs : List ℕ) → command_of code at bs ≡ undo at
+  other_command at bs = rw (command_of, ne_eqb code 0x01 p, ne_eqb code 0x02 w, ne_eqb code 0x03 m)
+
+-- each code's operand bytes, packed in one number of eight bits for each
+pub packed_operands : (code : ℕ) → code ≤ 0x04 → 0x00_06_02_11_00 / 2 ^ (8 * code) % 256 ≡ operand_bytes code
+packed_operands zero h = refl
+packed_operands (suc zero) h = refl
+packed_operands (suc (suc zero)) h = refl
+packed_operands (suc (suc (suc zero))) h = refl
+packed_operands (suc (suc (suc (suc zero)))) h = refl
+packed_operands (suc (suc (suc (suc (suc code))))) h = absurd (omega arith)

@@ -68,6 +68,11 @@ pub there_few : (pending : ℕ) (b : Bool) → pending_there pending b ≤ pendi
 there_few pending true = omega (arith, ap bool_byte (there_undo pending))
 there_few pending false = omega (arith, there_less pending)
 
+pub there_some : (pending : ℕ) (b : Bool) → 1 ≤ pending + 2 * bool_byte b + bool_byte (live_there pending b)
+there_some pending true = omega arith
+there_some zero false = omega arith
+there_some (suc pending) false = omega arith
+
 pub marked_step : (places : List ℕ) (pending place : ℕ) → 0 < place → (b : Bool) → b ≡ is_seen places (place - 1)
     → live_marked places pending place
     ≡ live_marked (with_place places (place - 1) (live_there pending b)) (pending_there pending b) (place - 1)

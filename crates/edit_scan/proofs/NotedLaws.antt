@@ -68,6 +68,9 @@ module _ (places : List ℕ) (i k : ℕ) (script : List ℕ) (at : ℕ) where
   pub noted_stop : T (not (is_whole_at at script)) → undos_noted places i (take k (commands_at at script)) ≡ places
   noted_stop t = rw (commands_stop at script t, take-nil) refl
 
+  pub noted_all : k ≡ 0 → undos_noted places i (take k (commands_at at script)) ≡ places
+  noted_all none = rw none refl
+
   pub noted_next : (code next : ℕ) → Some code ≡ whole_code_at at script → next ≡ at + (1 + operand_bytes code) → 0 < k
       → undos_noted places i (take k (commands_at at script))
       ≡ undos_noted (with_place places i (eqb code 0x04)) (i + 1) (take (k - 1) (commands_at next script))

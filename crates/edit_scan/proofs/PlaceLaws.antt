@@ -3,7 +3,7 @@
 use mathlib.Core.Path.{◌≡◌, refl, sym, ap, ◌∙◌}
 use mathlib.Core.Bool.{Bool, true, false}
 use mathlib.Core.Logic.{⊎_elim}
-use mathlib.Core.List.{List}
+use mathlib.Core.List.{List, [], ◌∷◌}
 use Prim.Native.Nat.{ℕ, ◌+◌, ◌*◌, ◌/◌, ◌%◌, ◌^◌, ◌≤◌, ◌<◌}
 use native.Mathlib.Nat.{add-div_right, div-eq_of_lt, zero-div, zero-mul, one-mul}
 use native.Mathlib.Omega.{arith}
@@ -20,7 +20,7 @@ use Rattle.std.proofs.lemmas.Nat.Bits.{bit_at_and, bit_at_or, bit_at-pow_same, b
 use Rattle.std.proofs.lemmas.Nat.Bits.{bit_at_clear_same, bit_at_clear_other, same_from_bits_below}
 use Rattle.eit.proofs.Test.{le_or_lt, eq_or_not}
 use Rattle.codec.specs.Seen.{is_seen, with_seen}
-use Rattle.codec.proofs.SeenLaws.{seen_bit, with_seen_new, seen_same, seen_other}
+use Rattle.codec.proofs.SeenLaws.{seen_bit, with_seen_new, with_seen_room, seen_same, seen_other}
 use Rattle.edit_scan.specs.Places.{bit_in, with_bit, with_place}
 
 -- ---- a bit of a word
@@ -39,6 +39,10 @@ module _ (word j : ℕ) where
   held s =
       ⊎_elim (λ h. h) (λ less. absurd (s (ap (λ (n : ℕ). n % 2) (div-eq_of_lt less)))) (le_or_lt (2 ^ j) word)
 
+  pub bit_within : bit_in word j ≤ word
+  bit_within =
+      ⊎_elim (λ z. omega (arith, no_bit z)) (λ s. omega (arith, a_bit s, held s)) (eq_or_not (word / 2 ^ j % 2) 0)
+
   -- the word without the bit: what it is, and how the word comes back
   lacks_none : word / 2 ^ j % 2 ≡ 0 → with_bit word j false ≡ word
   lacks_none z = omega (arith, no_bit z)
@@ -52,6 +56,19 @@ module _ (word j : ℕ) where
       (λ s.
       omega (arith, add-div_right (with_bit word j false) (pow_pos j), ap (λ (n : ℕ). n / 2 ^ j) (lacks_one s), s))
       (eq_or_not (word / 2 ^ j % 2) 0)
+
+  -- as the bit is shifted, and what has room for it
+  module _ (small : j < 64) where
+    pub bit_moved : word / 2 ^ j % 2 * 2 ^ j % 2 ^ 64 ≡ bit_in word j
+    bit_moved = shl_exact {a = word / 2 ^ j % 2} 1 j 64 (omega arith) (omega arith)
+
+    pub bit_room : (b : Bool) → word < 2 ^ 64 → with_bit word j b < 2 ^ 64
+    bit_room true h =
+        let first : j / 64 ≡ 0 = omega arith in
+        let same : j % 64 ≡ j = omega arith in
+        let clear : seen_bit (with_bit word j false ∷ []) j ≡ 0 = rw (first, same) lacks_it in
+        rw (first, same) at (with_seen_room (with_bit word j false ∷ []) j clear (rw first (omega arith)))
+    bit_room false h = omega arith
 
   -- as the code takes the bit out and puts it in
   module _ (small : j < 64) (fits : word < 2 ^ 64) where

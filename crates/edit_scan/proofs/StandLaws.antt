@@ -18,6 +18,11 @@ pub record Stands (script : List ℕ) (at k place i : ℕ) : Type 0 where
   pub within : k - place ≤ length (commands_at i script)
   pub rest : drop place (take k (commands_at at script)) ≡ take (k - place) (commands_at i script)
 
+pub stands_first : (script : List ℕ) (at k : ℕ) → k ≤ length (commands_at at script) → Stands script at k 0 at
+stands_first script at k within =
+    let all : k - 0 ≡ k = omega arith in
+    record { few = omega arith; within = omega arith; rest = rw all }
+
 module _ {script : List ℕ} {at k place i : ℕ} (s : Stands script at k place i) (some : place < k) where
   pub stands_whole : T (is_whole_at i script)
   stands_whole = part_whole script i (omega (arith, s.within))

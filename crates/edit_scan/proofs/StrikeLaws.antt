@@ -13,7 +13,8 @@ use lib.ListN.{length, get_or, drop}
 use Rattle.script.specs.Form.{Edit, Command, do_edit, undo, operand_bytes, command_of}
 use Rattle.script.specs.Form.{Form, commands, broken, before, form_from, form_of, offset_of}
 use Rattle.script.specs.Struck.{Unstruck, unstruck, nothing_at, unstruck_in, strike}
-use Rattle.edit_scan.specs.Commands.{strikes_found, nothing_found, scan_found, is_whole_at, whole_code_at, commands_at}
+use Rattle.edit_scan.specs.Commands.{form_found, strikes_found, nothing_found, scan_found, is_whole_at, whole_code_at}
+use Rattle.edit_scan.specs.Commands.{commands_at}
 use Rattle.edit_scan.specs.Places.{is_undo, with_place, striking_noted}
 use Rattle.edit_scan.specs.declared.scan.ScriptError.{ScriptError}
 use Rattle.edit_scan.specs.declared.scan.ScriptError.TheVariants.{Broken, NothingToUndo}
@@ -97,6 +98,17 @@ noted_ends : (kept : ℕ) (places : List ℕ) (n : ℕ) (c : Command) (cs : List
 noted_ends kept places n (do_edit e) cs h = absurd (omega arith)
 noted_ends zero places n (undo at) cs h = refl
 noted_ends (suc kept) places n (undo at) cs h = absurd (omega arith)
+
+-- as the form says: 3, or 4 at the UNDO
+pub unless_3 : (undo-at : ℕ) (form : Form) (at : ℕ) → form_found form ≡ Err (Broken at)
+    → nothing_found undo-at form ≡ Broken at
+unless_3 undo-at (commands cs) at e = cc
+unless_3 undo-at (broken there) at e = cc
+
+pub unless_4 : (undo-at : ℕ) (form : Form) (k : ℕ) → form_found form ≡ Ok k
+    → nothing_found undo-at form ≡ NothingToUndo undo-at
+unless_4 undo-at (commands cs) k e = refl
+unless_4 undo-at (broken there) k e = cc
 
 -- commands are never broken
 pub struck_never : (k at : ℕ) (u : Unstruck) → strikes_found k u ≡ Err (Broken at) → ⊥
