@@ -6,15 +6,16 @@ use Prim.Native.Nat.{ℕ, zero, suc, ◌+◌, ◌-◌, ◌*◌, ◌/◌, ◌%◌
 use native.Mathlib.Nat.{mod-lt}
 use native.Mathlib.Omega.{arith}
 use lib.Bits.{bit_xor, xor_lt}
+use lib.Dec.{lit<}
 use lib.ListN.{length, take, drop, get_or, length-take, length-drop, take-append-drop, drop_of_length-le}
 use lib.Pow.{pow_pos}
 use lib.Seq.{drop-cons, drop-drop}
 use Rattle.std.specs.Simd.{first_chunks}
-use Rattle.eit.specs.Crc.{crc_bits, crc_byte, crc_of}
+use Rattle.eit.specs.Crc.{crc_first, crc_bits, crc_byte, crc_of, crc32}
 use Rattle.eit.specs.Fields.{Bytes}
 use Rattle.eit.proofs.Crc.{crc_bits_lt, crc_bits_add, crc_bits_xor, crc_nil, crc_cons, crc_byte_bits, crc_byte_lt}
 use Rattle.eit.proofs.Crc.{crc_lt}
-use Rattle.eit.proofs.Crc.{crc_append, crc_byte_table}
+use Rattle.eit.proofs.Crc.{crc_append, crc_byte_table, crc32_of}
 use Rattle.eit.proofs.Fields.{bytes_take, bytes_drop}
 use Rattle.eit.proofs.Xor.{xor_assoc}
 use Rattle.codec_crc.specs.CrcTables.{block_size, right_crc_tables, chosen_entry, crc_block, crc_blocks, crc_by}
@@ -144,6 +145,9 @@ blocks_table (suc n) r bs hr hb h =
 pub crc_by_tables : (r : ℕ) (bs : List ℕ) → r < 2 ^ 32 → Bytes bs → crc_by right_crc_tables r bs ≡ crc_of r bs
 unfolding crc_by
 crc_by_tables r bs hr hb = blocks_table (length bs / block_size) r bs hr hb (omega arith)
+
+pub crc32_by_tables : (bs : List ℕ) → Bytes bs → crc_by right_crc_tables crc_first bs ≡ crc32 bs
+crc32_by_tables bs h = crc_by_tables crc_first bs (lit< tt) h ∙ sym (crc32_of bs)
 
 -- the blocks are the bytes, eight by eight
 pub block_at : (d : List ℕ) (k : ℕ) (bytes : List ℕ) (i : ℕ) → i < k

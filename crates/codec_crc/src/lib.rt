@@ -75,6 +75,13 @@ impl CrcTables {
         CrcTables { entries }
     }
 
+    // The tables themselves, for what takes any.
+    pub fn entries(&self) -> &[u32; CRC_ENTRIES]
+        ensures { result.now ≡ right_crc_tables }
+    {
+        &self.entries
+    }
+
     // The register after the bytes.
     pub fn register_after(&self, register: u32, bytes: &[u8]) -> u32
         ensures { result ≡ crc_of register bytes.now }

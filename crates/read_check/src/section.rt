@@ -38,7 +38,7 @@ pub fn check_section(
     if !frame::is_framed(section, sizes) {
         return Err(ReadError::Frame(offset));
     }
-    if !frame::has_right_crc(crc_tables, section) {
+    if !frame::has_right_crc(crc_tables.entries(), section) {
         return Err(ReadError::Crc(offset));
     }
     let before = state.before;

@@ -1,9 +1,10 @@
 // A section's frame and its CRC_32 (01, "The file of sections").
 ghost use Rattle.std.specs.Prelude.{◌≡◌};
-ghost use Rattle.sections.specs.HeaderTests.{is_table, is_framed, has_right_crc};
+ghost use Rattle.sections.specs.HeaderTests.{is_table, is_framed};
+ghost use Rattle.read_checks.specs.RightCrc.{has_right_crc_by};
 
 use codec::fields;
-use codec_crc::CrcTables;
+use codec_crc::{CRC_ENTRIES, CRC_FIRST};
 use eit::Sizes;
 use eit::limits::{SECTION_OVERHEAD, TABLE_FIRST, TABLE_MAX};
 
@@ -27,9 +28,8 @@ pub fn is_framed(section: &[u8], sizes: Sizes) -> bool
 }
 
 // 21: over the whole section CRC_32 leaves 0, by the lent tables.
-#[tactic(auto, unfolding(sections::specs::HeaderTests::has_right_crc))]
-pub fn has_right_crc(crc_tables: &CrcTables, section: &[u8]) -> bool
-    ensures { result ≡ has_right_crc section.now }
+pub fn has_right_crc(crc_tables: &[u32; CRC_ENTRIES], section: &[u8]) -> bool
+    ensures { result ≡ has_right_crc_by crc_tables.now section.now }
 {
-    crc_tables.crc32(section) == 0
+    codec_crc::crc_by(crc_tables, CRC_FIRST, section) == 0
 }

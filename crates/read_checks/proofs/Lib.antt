@@ -1,0 +1,2 @@
+-- CRC_32 over a section by the lent tables
+pub mod RightCrcLaws
