@@ -11,7 +11,7 @@ pub fn chains(rt: &impl Print) -> io::Result<()> {
     rows::show_row(
         rt,
         Caller::Cable,
-        "cable, chain of 994: one section of 1,024 bytes",
+        b"cable, chain of 994: one section of 1,024 bytes",
         0,
         60,
         1,
@@ -22,7 +22,7 @@ pub fn chains(rt: &impl Print) -> io::Result<()> {
     rows::show_row(
         rt,
         Caller::Cable,
-        "cable, chain of 995: refusal 10",
+        b"cable, chain of 995: refusal 10",
         0,
         60,
         1,
@@ -35,7 +35,7 @@ pub fn many(rt: &impl Print) -> io::Result<()> {
     rows::show_row(
         rt,
         Caller::Cable,
-        "cable, 83 events without descriptors in a segment: one section",
+        b"cable, 83 events without descriptors in a segment: one section",
         0,
         60,
         83,
@@ -44,7 +44,7 @@ pub fn many(rt: &impl Print) -> io::Result<()> {
     rows::show_row(
         rt,
         Caller::Cable,
-        "cable, 84 events without descriptors in a segment: two, of 83 and 1",
+        b"cable, 84 events without descriptors in a segment: two, of 83 and 1",
         0,
         60,
         84,
@@ -57,7 +57,7 @@ pub fn most(rt: &impl Print) -> io::Result<()> {
     rows::show_row(
         rt,
         Caller::Cable,
-        "cable, 256 events: accepted",
+        b"cable, 256 events: accepted",
         0,
         180,
         256,
@@ -66,7 +66,7 @@ pub fn most(rt: &impl Print) -> io::Result<()> {
     rows::show_row(
         rt,
         Caller::Cable,
-        "cable, PUT of event 257: refusal 8 at its offset",
+        b"cable, PUT of event 257: refusal 8 at its offset",
         0,
         180,
         257,
@@ -78,7 +78,7 @@ pub fn most(rt: &impl Print) -> io::Result<()> {
 pub fn exchanged(rt: &impl Print) -> io::Result<()> {
     rows::show_exchanged(
         rt,
-        "257 events of broadcast: for cable Build 12, Plan 254 in every entry, Read 26 at the section of event 257",
+        b"257 events of broadcast: for cable Build 12, Plan 254 in every entry, Read 26 at the section of event 257",
         0,
         180,
         257,
@@ -88,7 +88,7 @@ pub fn exchanged(rt: &impl Print) -> io::Result<()> {
     lists::fill_pool(&mut day);
     rows::show_exchanged(
         rt,
-        "broadcast's section of 1,025 bytes: for cable 20 at 18, with a wrong CRC_32 too; then for broadcast 21 at 18",
+        b"broadcast's section of 1,025 bytes: for cable 20 at 18, with a wrong CRC_32 too; then for broadcast 21 at 18",
         10_800,
         60,
         1,

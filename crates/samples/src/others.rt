@@ -14,7 +14,7 @@ pub fn rule_four(rt: &impl Print) -> io::Result<()> {
     lists::fill_pool(&mut series);
     rows::show_pair(
         rt,
-        "OP-58, rule 4: the second segment has only 2 sections: 8 + 2 - 1 = 9 in those two",
+        b"OP-58, rule 4: the second segment has only 2 sections: 8 + 2 - 1 = 9 in those two",
         10_800,
         &day,
         &series,
@@ -32,13 +32,13 @@ pub fn rule_eight(rt: &impl Print) -> io::Result<()> {
     lists::write_put(&mut script, 90, 6, 345_600, 0, 0);
     lines::print_heading(
         rt,
-        "OP-58, rule 8: segment 0 from 00:00:00 to 02:59:59, segment 1 from 03:00:00 to 05:59:59; 0x50 has four days",
+        b"OP-58, rule 8: segment 0 from 00:00:00 to 02:59:59, segment 1 from 03:00:00 to 05:59:59; 0x50 has four days",
     )?;
     show::show_script(rt, Caller::Broadcast, &script, &Pools::new(b"", b""))
 }
 
 pub fn crc(rt: &impl Print) -> io::Result<()> {
-    lines::print_heading(rt, "CRC_32 of 123456789 is 0376E6E7")?;
+    lines::print_heading(rt, b"CRC_32 of 123456789 is 0376E6E7")?;
     let mut bytes = [0u8; 4];
     fields::write_field(&mut bytes, 0, 4, codec_crc::crc32(b"123456789") as usize);
     rt.print("CRC_32")?;
@@ -48,7 +48,7 @@ pub fn crc(rt: &impl Print) -> io::Result<()> {
 // The example of EN 300 468, annex C; the limits of the annex, and a day before and after; the most that two bytes
 // hold.
 pub fn days(rt: &impl Print) -> io::Result<()> {
-    lines::print_heading(rt, "MJD 45,218 is 1982-09-06")?;
+    lines::print_heading(rt, b"MJD 45,218 is 1982-09-06")?;
     lines::print_date(rt, 45_218)?;
     lines::print_date(rt, 15_078)?;
     lines::print_date(rt, 15_079)?;

@@ -37,7 +37,7 @@ fn show_duration(rt: &impl Print, duration: u32) -> io::Result<()> {
 pub fn times(rt: &impl Print) -> io::Result<()> {
     lines::print_heading(
         rt,
-        "1993-10-13 12:45:00 is C0 79 12 45 00; 01:45:30 is 01 45 30",
+        b"1993-10-13 12:45:00 is C0 79 12 45 00; 01:45:30 is 01 45 30",
     )?;
     lines::print_date(rt, 49_273)?;
     show_start(rt, 49_273, 45_900)?;
@@ -46,7 +46,7 @@ pub fn times(rt: &impl Print) -> io::Result<()> {
 }
 
 // So many events a second apart.
-fn show_row(rt: &impl Print, heading: &str, start: u32, n: usize, day: &[u8]) -> io::Result<()>
+fn show_row(rt: &impl Print, heading: &[u8], start: u32, n: usize, day: &[u8]) -> io::Result<()>
     requires { n ≤ 340 }
 {
     rows::show_row(rt, Caller::Broadcast, heading, start, 1, n, day)
@@ -54,24 +54,24 @@ fn show_row(rt: &impl Print, heading: &str, start: u32, n: usize, day: &[u8]) ->
 
 // One event without descriptors, at the ends of segments and tables.
 pub fn segments(rt: &impl Print) -> io::Result<()> {
-    show_row(rt, "start 10,799: segment 0", 10_799, 1, b"")?;
-    show_row(rt, "10,800: section 8", 10_800, 1, b"")?;
-    show_row(rt, "345,599: 0x50, segment 31", 345_599, 1, b"")?;
+    show_row(rt, b"start 10,799: segment 0", 10_799, 1, b"")?;
+    show_row(rt, b"10,800: section 8", 10_800, 1, b"")?;
+    show_row(rt, b"345,599: 0x50, segment 31", 345_599, 1, b"")?;
     show_row(
         rt,
-        "345,600: 0x51, section 0; 0x50 has one empty section, last_section_number 0",
+        b"345,600: 0x51, section 0; 0x50 has one empty section, last_section_number 0",
         345_600,
         1,
         b"",
     )?;
-    show_row(rt, "5,529,599: 0x5F, segment 31", 5_529_599, 1, b"")?;
-    show_row(rt, "5,529,600: refusal 5", 5_529_600, 1, b"")
+    show_row(rt, b"5,529,599: 0x5F, segment 31", 5_529_599, 1, b"")?;
+    show_row(rt, b"5,529,600: refusal 5", 5_529_600, 1, b"")
 }
 
 pub fn no_events(rt: &impl Print) -> io::Result<()> {
     lines::print_heading(
         rt,
-        "no events, ids 1, 2, 3, version 0: 18 bytes, first 14 are 50 F0 0F 00 01 C1 00 00 00 02 00 03 00 50",
+        b"no events, ids 1, 2, 3, version 0: 18 bytes, first 14 are 50 F0 0F 00 01 C1 00 00 00 02 00 03 00 50",
     )?;
     show::show_script(rt, Caller::Broadcast, b"", &Pools::new(b"", b""))?;
     show::show_bytes(rt, Caller::Broadcast, b"", 0, 18)
@@ -81,18 +81,18 @@ pub fn no_events(rt: &impl Print) -> io::Result<()> {
 pub fn chains(rt: &impl Print) -> io::Result<()> {
     let mut longest = [0u8; 4_066];
     lists::fill_pool(&mut longest);
-    show_row(rt, "chain of 4,066: one section", 0, 1, &longest)?;
+    show_row(rt, b"chain of 4,066: one section", 0, 1, &longest)?;
     let mut above = [0u8; 4_067];
     lists::fill_pool(&mut above);
-    show_row(rt, "chain of 4,067: refusal 10", 0, 1, &above)?;
+    show_row(rt, b"chain of 4,067: refusal 10", 0, 1, &above)?;
     show_row(
         rt,
-        "eight chains of 4,066 in a segment: eight sections",
+        b"eight chains of 4,066 in a segment: eight sections",
         0,
         8,
         &longest,
     )?;
-    show_row(rt, "nine chains of 4,066 in a segment: 10", 0, 9, &longest)
+    show_row(rt, b"nine chains of 4,066 in a segment: 10", 0, 9, &longest)
 }
 
 pub fn pairs(rt: &impl Print) -> io::Result<()> {
@@ -100,7 +100,7 @@ pub fn pairs(rt: &impl Print) -> io::Result<()> {
     lists::fill_pool(&mut day);
     rows::show_pair(
         rt,
-        "two events in a segment, chains 4,054 bytes together: one section",
+        b"two events in a segment, chains 4,054 bytes together: one section",
         0,
         &day,
         &day,
@@ -109,7 +109,7 @@ pub fn pairs(rt: &impl Print) -> io::Result<()> {
     lists::fill_pool(&mut series);
     rows::show_pair(
         rt,
-        "two events in a segment, chains 4,055 bytes together: two",
+        b"two events in a segment, chains 4,055 bytes together: two",
         0,
         &day,
         &series,
@@ -120,14 +120,14 @@ pub fn pairs(rt: &impl Print) -> io::Result<()> {
 pub fn many(rt: &impl Print) -> io::Result<()> {
     show_row(
         rt,
-        "339 events without descriptors in a segment: one section",
+        b"339 events without descriptors in a segment: one section",
         0,
         339,
         b"",
     )?;
     show_row(
         rt,
-        "340 events without descriptors in a segment: two, of 339 and 1",
+        b"340 events without descriptors in a segment: two, of 339 and 1",
         0,
         340,
         b"",
@@ -141,9 +141,9 @@ pub fn undo(rt: &impl Print) -> io::Result<()> {
     script[20] = 0x01;
     script[21] = 0x04;
     script[22] = 0x04;
-    lines::print_heading(rt, "PUT, WITHDRAW, UNDO, UNDO: empty list")?;
+    lines::print_heading(rt, b"PUT, WITHDRAW, UNDO, UNDO: empty list")?;
     show::show_script(rt, Caller::Broadcast, &script, &Pools::new(b"", b""))?;
-    lines::print_heading(rt, "UNDO alone: 4")?;
+    lines::print_heading(rt, b"UNDO alone: 4")?;
     show::show_script(rt, Caller::Broadcast, &[0x04], &Pools::new(b"", b""))
 }
 
@@ -155,7 +155,7 @@ pub fn program(rt: &impl Print) -> io::Result<()> {
     ];
     lines::print_heading(
         rt,
-        "01 0001 0000B34C 000018BA 00 00000000 0000, the script of program plan",
+        b"01 0001 0000B34C 000018BA 00 00000000 0000, the script of program plan",
     )?;
     show::show_script(rt, Caller::Broadcast, &script, &Pools::new(b"", b""))?;
     show::show_bytes(rt, Caller::Broadcast, &script, 86, 98)

@@ -11,7 +11,7 @@ use std::io;
 pub fn show_row(
     rt: &impl Print,
     caller: Caller,
-    heading: &str,
+    heading: &[u8],
     start: u32,
     apart: u32,
     n: usize,
@@ -28,7 +28,7 @@ pub fn show_row(
 // The same events, made for broadcast, through the calls of both callers.
 pub fn show_exchanged(
     rt: &impl Print,
-    heading: &str,
+    heading: &[u8],
     start: u32,
     apart: u32,
     n: usize,
@@ -46,7 +46,7 @@ pub fn show_exchanged(
 // series pool, under a heading.
 pub fn show_pair(
     rt: &impl Print,
-    heading: &str,
+    heading: &[u8],
     start: u32,
     day: &[u8],
     series: &[u8],

@@ -6,25 +6,41 @@ use plan_listing::events;
 use refusal::Refusal;
 use std::io;
 
+pub fn print(rt: &impl Print, text: &[u8]) -> io::Result<()> {
+    rt.write_all(text)
+}
+
+// A number in decimal.
+pub fn print_number(rt: &impl Print, n: usize) -> io::Result<()> {
+    rt.print(n)
+}
+
 // A heading, behind an empty line.
-pub fn print_heading(rt: &impl Print, heading: &str) -> io::Result<()> {
-    println!(rt; "\n{heading}")
+pub fn print_heading(rt: &impl Print, heading: &[u8]) -> io::Result<()> {
+    print(rt, b"\n")?;
+    print(rt, heading)?;
+    print(rt, b"\n")
 }
 
 // What a call says: its value, or the number of its refusal and the value.
-pub fn print_answer<E: Refusal>(
+pub fn print_answer(rt: &impl Print, call: &[u8], number: u32, value: usize) -> io::Result<()> {
+    print(rt, call)?;
+    if number != 0 {
+        print!(rt; " refused {number}")?;
+    }
+    print(rt, b" ")?;
+    print_number(rt, value)?;
+    print(rt, b"\n")
+}
+
+// The same of an outcome.
+pub fn print_outcome<E: Refusal>(
     rt: &impl Print,
-    call: &str,
+    call: &[u8],
     outcome: Result<usize, E>,
 ) -> io::Result<()> {
-    match outcome {
-        Ok(value) => println!(rt; "{call} {value}"),
-        Err(refusal) => {
-            let number = refusal.number();
-            let value = refusal.value();
-            println!(rt; "{call} refused {number} {value}")
-        }
-    }
+    let number = refusal::number_of(outcome);
+    print_answer(rt, call, number, refusal::value_of(outcome))
 }
 
 // Bytes in hexadecimal, each behind a space, and a newline.

@@ -70,10 +70,10 @@ fn show_again(
 // A file: check, Read, and Build of what Read returned.
 pub fn show_file(rt: &impl Print, caller: Caller, file: &[u8]) -> io::Result<()> {
     let checked = read_check::check(caller, file, BASE_DAY);
-    lines::print_answer(rt, "check", checked.map(|accepted| accepted.count))?;
+    lines::print_outcome(rt, b"check", checked.map(|accepted| accepted.count))?;
     let mut records = [0u32; LIST_SIZE];
     let read = read::read(caller, file, BASE_DAY, &mut records);
-    lines::print_answer(rt, "read", read.map(|accepted| accepted.count))?;
+    lines::print_outcome(rt, b"read", read.map(|accepted| accepted.count))?;
     if let Ok(accepted) = read {
         show_again(rt, caller, &records, accepted, file)?;
     }
@@ -112,7 +112,7 @@ pub fn show_list(
 ) -> io::Result<()> {
     let mut file = [0u8; FILE_SIZE];
     let built = build_list(caller, list, count, pools, identity(), &mut file);
-    lines::print_answer(rt, "build", built)?;
+    lines::print_outcome(rt, b"build", built)?;
     show_plan(rt, caller, list, count, pools)?;
     if let Ok(size) = built {
         let made = &file[..size];
@@ -132,7 +132,7 @@ pub fn show_script(
     let mut list = [0u32; LIST_SIZE];
     let mut count = 0;
     let edited = edit::edit(caller, &mut list, &mut count, pools, script);
-    lines::print_answer(rt, "edit", edited.map(|()| count))?;
+    lines::print_outcome(rt, b"edit", edited.map(|()| count))?;
     if edited.is_ok() {
         show_list(rt, caller, &list, count, pools)?;
     }
