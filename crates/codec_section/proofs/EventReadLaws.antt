@@ -3,6 +3,7 @@
 use Prim.Native.Nat.{ℕ, ◌+◌, ◌-◌, ◌*◌, ◌/◌, ◌%◌, ◌^◌, ◌≤◌, ◌<◌}
 use mathlib.Core.Bool.{true, false, ◌&&◌, ◌||◌}
 use mathlib.Core.List.{List}
+use mathlib.Core.Logic.{⊎_elim}
 use mathlib.Core.Path.{◌≡◌, sym, ap, ◌∙◌}
 use native.Mathlib.Omega.{arith}
 use borrow.Author.Tests.{eq-eqb, ne_eqb}
@@ -17,9 +18,9 @@ use Rattle.eit.specs.Chain.{is_chain}
 use Rattle.eit.specs.Pools.{odd}
 use Rattle.eit.specs.declared.Record.{Record}
 use Rattle.eit.proofs.Fields.{bytes_all}
-use Rattle.eit.proofs.Test.{true_is}
+use Rattle.eit.proofs.Test.{true_is, eq_or_not}
 use Rattle.sections.specs.Section.{Header, event_overhead}
-use Rattle.sections.specs.Encode.{bit_of}
+use Rattle.sections.specs.Encode.{running_status, bit_of}
 use Rattle.sections.specs.Decode.{status_field, stated_event_size, event_in}
 use Rattle.sections.specs.Offsets.{record_at}
 use Rattle.sections.specs.EventTests.{is_in_segment, is_event}
@@ -37,6 +38,13 @@ unfolding is_event is_whole_event
 event_whole base h bs = grind (arith, nat_tests)
 
 -- ---- marks and the bits of the word
+
+pub running_is : (n : ℕ) → running_status (odd n) ≡ n % 2 * 5
+running_is n =
+    ⊎_elim
+    (λ one. rw (running_status, eq-eqb (n % 2) 1 one) (omega arith))
+    (λ other. rw (running_status, ne_eqb (n % 2) 1 other) (omega (arith, other)))
+    (eq_or_not (n % 2) 1)
 
 -- 5 is off air, 0 is not
 off_air_is : (status : ℕ) → (eqb status 0 || eqb status 5) ≡ true → bit_of (eqb status 5) ≡ status / 5

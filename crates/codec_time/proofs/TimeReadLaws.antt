@@ -3,6 +3,7 @@
 use Prim.Native.Nat.{ℕ, ◌+◌, ◌-◌, ◌*◌, ◌%◌, ◌^◌, ◌≤◌, ◌<◌}
 use mathlib.Core.Bool.{false, ◌&&◌}
 use mathlib.Core.List.{List}
+use mathlib.Core.Logic.{⊎_elim}
 use mathlib.Core.Path.{◌≡◌, ap, ◌∙◌}
 use native.Mathlib.Omega.{arith}
 use borrow.Author.Tests.{le-leb, lt-leb}
@@ -16,10 +17,12 @@ use Rattle.std.proofs.lemmas.Bool.Decides.{nat_tests}
 use Rattle.eit.specs.Limits.{window_seconds, duration_min, duration_max}
 use Rattle.eit.specs.Limits.{start_hours_max, duration_hours_max}
 use Rattle.eit.specs.Fields.{bytes_at, field}
-use Rattle.eit.specs.Time.{seconds_of_day, is_time, seconds_of, is_duration_bytes, start_of}
+use Rattle.eit.specs.Time.{time_of, seconds_of_day, is_time, seconds_of, is_duration_bytes, start_of}
 use Rattle.eit.specs.Time.{is_start_bytes}
+use Rattle.eit.specs.declared.Time.{Time}
 use Rattle.eit.proofs.Fields.{bytes_all, field_length}
-use Rattle.eit.proofs.TimeLaws.{time_only}
+use Rattle.eit.proofs.Test.{le_or_lt}
+use Rattle.eit.proofs.TimeLaws.{time_within, time_above, time_only}
 use Rattle.codec.proofs.FieldLaws.{drop_take, field_exact, field_small}
 use Rattle.codec_time.specs.TimeRead.{time_at, duration_at, start_at}
 
@@ -33,6 +36,16 @@ module _ (bs : List ℕ) (at : ℕ) (all : (k : ℕ) → Fits w8 (get_or bs k 0)
   word_exact = field_exact bs at 2 (bytes_all bs (λ k. (all k).fits)) (omega arith)
 
 pub ruleset word_laws = (word_small, word_exact)
+
+-- ---- three bytes
+
+-- each part of a time has two digits
+pub time_small : (s : ℕ) (t : Time) → t ≡ time_of s → (t.hours < 100) × (t.minutes < 100) × (t.seconds < 100)
+time_small s t is =
+    ⊎_elim
+    (λ within. rw (is, time_within s within) (omega arith))
+    (λ above. rw (is, time_above s above) (omega arith))
+    (le_or_lt s duration_max)
 
 -- ---- a duration
 

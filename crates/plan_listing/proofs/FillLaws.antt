@@ -75,6 +75,18 @@ module _ (d : List ℕ) (at : ℕ) (xs ys : List ℕ) where
   filled_both_to : filled_to between to ys ≡ filled_to d at (xs ++ ys)
   filled_both_to = omega (arith, ap length both_fit ∙ length-append (fitting d at xs) (fitting between to ys))
 
+-- of the text that d gets from `at` on, what stands before `rest` is written in `out`; the rest goes there from `to` on
+pub record Unwritten (d : List ℕ) (at : ℕ) (all out : List ℕ) (to : ℕ) (rest : List ℕ) : Type 0 where
+  pub bytes : filled d at all ≡ filled out to rest
+  pub ends : filled_to d at all ≡ filled_to out to rest
+  pub size : length out ≡ length d
+
+-- there is no room for it
+pub unwritten_full : {d : List ℕ} {at : ℕ} {all out : List ℕ} {to : ℕ} {rest : List ℕ}
+    → Unwritten d at all out to rest → length out ≤ to → Fills d at all out to
+unwritten_full {d} {at} {all} {out} {to} {rest} left full =
+    let (written, behind) = filled_full out to rest full in (written ∙ sym left.bytes, behind ∙ sym left.ends)
+
 -- two texts, one behind the other
 pub filled_two : (d : List ℕ) (at : ℕ) (xs ys : List ℕ) {e f : List ℕ} {p q : ℕ}
     → Fills d at xs e p → Fills e p ys f q → Fills d at (xs ++ ys) f q

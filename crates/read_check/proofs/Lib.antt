@@ -4,3 +4,5 @@ pub mod VersionLaws
 pub mod StepLaws
 -- the walk over the sections, one after the other
 pub mod WalkLaws
+-- where the walk ends: after last_table_id, or early
+pub mod EndLaws

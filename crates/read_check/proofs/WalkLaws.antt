@@ -1,6 +1,6 @@
 -- The walk over the sections, one after the other: before each turn the walk over the whole file is the walk over the
 -- sections from the offset on (`WalkSoFar`), and what the code keeps is what the definition keeps. Assumes nothing.
-use mathlib.Core.Path.{◌≡◌, refl, ap, ◌∙◌}
+use mathlib.Core.Path.{◌≡◌, refl, sym, ap, ◌∙◌}
 use mathlib.Core.List.{List, [], ◌∷◌}
 use Prim.Native.Nat.{ℕ, ◌+◌, ◌≤◌, ◌<◌}
 use borrow.Author.Tests.{le-leb}
@@ -13,6 +13,7 @@ use Rattle.eit.specs.Identity.{tables}
 use Rattle.sections.specs.Decode.{split_file}
 use Rattle.sections.specs.Walk.{Progress, at_start, passed, refused, step, walk}
 use Rattle.sections.specs.Read.{versions_in, at_end, check_file}
+use Rattle.sections.proofs.Version.{versions_length}
 use Rattle.read_walk.specs.SectionAt.{section_at, section_end}
 use Rattle.read_walk.proofs.SectionAtLaws.{walk_end, walk_next, end_inside, end_is}
 use Rattle.read_events.proofs.EventsSoFarLaws.{so_far_start}
@@ -106,6 +107,10 @@ module _ {sizes : Sizes} {base : ℕ} {file versions words : List ℕ} {state : 
           ∙ walk_passed sizes base so_far.progress section _ stepped;
       inside = end_inside file offset ends here;
     }
+
+  -- the versions of all tables are as many as there are tables
+  pub walk_versions : length versions ≡ tables
+  walk_versions = sym (ap length so_far.tracks.versions_are) ∙ versions_length so_far.progress.before
 
   pub walk_done : length file ≤ offset → base ≤ base_day_max → (r : Result FileRead ReadError)
       → at_end (length file) (passed so_far.progress) ≡ outcome_of r → check_file sizes base file ≡ outcome_of r

@@ -35,10 +35,17 @@ module _ (file : List ℕ) (offset : ℕ) where
       ∙ ap (λ (next : List ℕ). section_at file offset ∷ split_by stated_section_size next)
       (behind_front size rest ∙ drop-drop (length (section_at file offset)) offset file)
 
+  -- what is above the offset and the file's length is above the end: so the code's sum fits
+  pub end_below : {n : ℕ} → offset < n → length file < n → section_end file offset < n
+  end_below below short = simp (length-take, length-drop) (omega arith)
+
   module _ {end : ℕ} (ends : end ≡ section_end file offset) where
-    -- a section ends in the file
+    -- a section ends in the file, and behind its offset: so a walk ends
     pub end_inside : offset < length file → end ≤ length file
     end_inside inside = rw ends (simp (length-take, length-drop) (omega arith))
+
+    pub end_past : offset < length file → offset < end
+    end_past inside = rw ends (simp (length-take, length-drop) (omega arith))
 
     module _ {section : List ℕ} (is : section ≡ section_at file offset) where
       pub end_is : end ≡ offset + length section
