@@ -150,3 +150,8 @@ module _ (start : ℕ) where
       ap (λ (b : Bool). unwrap_or (cond b (Some first) None) (length es)) (lt-ltb first (length es) some)
       ∙ first_is es)
       (le_or_lt (length es) first)
+
+  -- in whatever words the code has the least of a later start
+  pub later_from : (es : List ℕ) (found : ℕ) → found ≡ least
+      → unwrap_or (position (λ e. leb found e) es) (length es) ≡ passed_of start es
+  later_from es found is = rw is (first_later es)
